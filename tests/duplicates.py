@@ -13,6 +13,7 @@ import sys
 
 TOP = sys.argv[1] if len(sys.argv) > 1 else "."
 DECLARED = re.compile(r"^(\s*)(?:pub |abbrev |unfoldable |opaque )*(?:record |data )?([^\s:(){}]+)\s*(?:\([^)]*\)\s*|\{[^}]*\}\s*)*:\s")
+WORD = re.compile(r"^ *(?:pub )?(abbrev|unfoldable|record|data) (?:pub )?([^\s:(){}]+)", re.MULTILINE)
 FIRST_WORDS = re.compile(r"^\s*(?:pub |abbrev |unfoldable )*")
 OF_A_FUNCTION = ("Answers.antt", "Invariants.antt", "Proof.antt")
 
@@ -42,15 +43,16 @@ def files(part):
         folders[:] = sorted(it for it in folders if it != "out")
         if f"/{part}" in at:
             for name in sorted(names):
-                if name.endswith(".antt") and name not in OF_A_FUNCTION:
+                if name.endswith(".antt") and (part == "specs" or name not in OF_A_FUNCTION):
                     yield f"{at}/{name}"
 
 
 words, lemmas, names = (collections.defaultdict(set) for _ in range(3))
 for path in files("specs"):
-    for name, text, _ in declarations(path):
-        if not text.startswith("pub ") and name[0].isupper():
-            words[name].add(os.path.relpath(path, f"{TOP}/crates"))
+    with open(path, encoding="utf-8") as file:
+        for kind, word in WORD.findall(file.read()):
+            if word[0].isupper() or kind not in ("record", "data"):
+                words[word].add(os.path.relpath(path, f"{TOP}/crates"))
 for path in files("proofs"):
     for name, text, is_local in declarations(path):
         if len(text) > 60:

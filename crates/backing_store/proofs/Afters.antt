@@ -6,7 +6,7 @@ use Rattle.std.proofs.lemmas.Bool.{cases_Bool}
 use Rattle.weave_data.proofs.Members.{has_map, has_filter, find_lacks}
 use Rattle.vector_stamp.specs.declared.clock.Stamp.{Stamp}
 use Rattle.vector_stamp.specs.Order.{stamp_before, unordered}
-use Rattle.vector_stamp.specs.Precedence.{Given, precedes}
+use Rattle.vector_stamp.specs.Precedence.{GivenPair, precedes}
 use Rattle.vector_stamp.specs.Settling.{additions_from, pairs_of}
 use Rattle.graph_ops.specs.declared.op.Op.{Op}
 use Rattle.graph_ops.specs.declared.tx.Got.{Got}
@@ -27,8 +27,8 @@ apart true after first second = absurd cc
 apart false true first second = absurd (second refl)
 apart false false first second = refl
 
-module _ (settles : (pairs : List Given) (earlier : List Stamp) (later event : Stamp) → Contains earlier event → IsTrue (precedes (pairs ++ pairs_of (additions_from 0 pairs earlier later) later) event later)) (ordered : (pairs : List Given) (a b : Stamp) → IsTrue (stamp_before a b) → IsTrue (precedes pairs a b)) where
-  after_last : (pairs : List Given) (commits : List Commit) (stamp : Stamp) (ops : List Op) (last : LastCommit) → Contains (lasts_of ops commits) last → (IsTrue (stamp_before stamp last.commit.stamp) → ⊥) → IsTrue (precedes (pairs ++ pairs_of (additions_from 0 pairs (asked_stamps stamp (lasts_of ops commits)) stamp) stamp) last.commit.stamp stamp)
+module _ (settles : (pairs : List GivenPair) (earlier : List Stamp) (later event : Stamp) → Contains earlier event → IsTrue (precedes (pairs ++ pairs_of (additions_from 0 pairs earlier later) later) event later)) (ordered : (pairs : List GivenPair) (a b : Stamp) → IsTrue (stamp_before a b) → IsTrue (precedes pairs a b)) where
+  after_last : (pairs : List GivenPair) (commits : List Commit) (stamp : Stamp) (ops : List Op) (last : LastCommit) → Contains (lasts_of ops commits) last → (IsTrue (stamp_before stamp last.commit.stamp) → ⊥) → IsTrue (precedes (pairs ++ pairs_of (additions_from 0 pairs (asked_stamps stamp (lasts_of ops commits)) stamp) stamp) last.commit.stamp stamp)
   after_last pairs commits stamp ops last has newer = elim (cases_Bool (stamp_before last.commit.stamp stamp)) [
     | inl before ↦ ordered (pairs ++ pairs_of (additions_from 0 pairs (asked_stamps stamp (lasts_of ops commits)) stamp) stamp) last.commit.stamp stamp before
     | inr other ↦
@@ -38,7 +38,8 @@ module _ (settles : (pairs : List Given) (earlier : List Stamp) (later event : S
         (has_filter (λ (one : LastCommit). unordered one.commit.stamp stamp) (lasts_of ops commits) last has apart_both))
   ]
 
-  pub comes_after : (pairs : List Given) (commits : List Commit) (stamp : Stamp) (ops : List Op) (number : ℕ) (answers : List Got) (counts : List Counted) → verdict_on pairs commits stamp ops ≡ Committed number answers counts → (last : LastCommit) → Contains (lasts_of ops commits) last → IsTrue (precedes (pairs ++ pairs_of (additions_from 0 pairs (asked_stamps stamp (lasts_of ops commits)) stamp) stamp) last.commit.stamp stamp)
+  -- if the verdict is a commit, each last commit at a named vertex precedes it, by the pairs and those then added
+  pub comes_after : (pairs : List GivenPair) (commits : List Commit) (stamp : Stamp) (ops : List Op) (number : ℕ) (answers : List Got) (counts : List Counted) → verdict_on pairs commits stamp ops ≡ Committed number answers counts → (last : LastCommit) → Contains (lasts_of ops commits) last → IsTrue (precedes (pairs ++ pairs_of (additions_from 0 pairs (asked_stamps stamp (lasts_of ops commits)) stamp) stamp) last.commit.stamp stamp)
   comes_after pairs commits stamp ops number answers counts is last has =
       let none : find (λ (one : LastCommit). stamp_before stamp one.commit.stamp) (lasts_of ops commits) ≡ None =
       first_none ops commits

@@ -8,7 +8,7 @@ use Rattle.weave_data.specs.declared.name.Name.{Name}
 use Rattle.vector_stamp.specs.declared.clock.Stamp.{Stamp}
 use Rattle.vector_stamp.specs.Order.{id_of, stamp_before, unordered}
 use Rattle.vector_stamp.specs.Coherence.{AreCoherent}
-use Rattle.vector_stamp.specs.Precedence.{Given}
+use Rattle.vector_stamp.specs.Precedence.{GivenPair}
 use Rattle.graph_ops.specs.declared.op.Op.{Op}
 use Rattle.graph_ops.specs.declared.op.Reason.TheVariants.{Exists}
 use Rattle.graph_ops.specs.Mentions.{named_by}
@@ -25,7 +25,7 @@ use Rattle.weave_entries.specs.StoreRule.{LastCommit, lasts_of, asked_stamps, as
 use Rattle.backing_store.specs.declared.lasts.KeptCommit.{KeptCommit}
 use Rattle.backing_store.specs.declared.asked.Asked.{Asked}
 use Rattle.backing_store.specs.Commits.{stamps_judged, stamps_kept, is_judge_asked}
-use Rattle.backing_store.specs.Keeping.{first_newer, held_of, unordered_of, IsAsked, IsReplayOf}
+use Rattle.backing_store.specs.Keeping.{first_newer, held_of, unordered_of, IsAsked, IsStoreReplay}
 use Rattle.backing_store.specs.Trying.{counts_in, IsBefore}
 use Rattle.backing_store.proofs.Members.{filter_le, all_members, asked_le, asked_others, asked_among}
 use Rattle.backing_store.proofs.Replay.{by_rule, counts_given}
@@ -44,13 +44,13 @@ commits_le [] = omega arith
 commits_le (entry ∷ log) = omega (arith, length-append (commit_by entry.deed) (commits_of log), one_at_most entry.deed, commits_le log)
 
 -- and each count is at most the number of commits
-pub counts_le : (pairs : List Given) (commits : List Commit) (stamp : Stamp) (ops : List Op) (number : ℕ) (answers : List Got) (counts : List Counted) → verdict_on pairs commits stamp ops ≡ Committed number answers counts → All (λ (counted : Counted). counted.before ≤ length commits) counts
+pub counts_le : (pairs : List GivenPair) (commits : List Commit) (stamp : Stamp) (ops : List Op) (number : ℕ) (answers : List Got) (counts : List Counted) → verdict_on pairs commits stamp ops ≡ Committed number answers counts → All (λ (counted : Counted). counted.before ≤ length commits) counts
 counts_le pairs commits stamp ops number answers counts is =
     subst (All (λ (one : Counted). one.before ≤ length commits)) (sym (by_rule pairs commits stamp ops number answers counts (sym is)))
     (All-map (λ (one : Counted). one.before ≤ length commits) (λ (v : Name). record { vertex = v; before = count_naming v commits }) (named_by ops)
     (all_members (λ (v : Name). count_naming v commits ≤ length commits) (named_by ops) (λ v h. filter_le (names_vertex v) commits)))
 
-module _ (pairs : List Given) (log : List StoreEntry) (stamp : Stamp) (ops : List Op) (verdict : Verdict) (is : verdict ≡ verdict_on pairs (commits_of log) stamp ops) where
+module _ (pairs : List GivenPair) (log : List StoreEntry) (stamp : Stamp) (ops : List Op) (verdict : Verdict) (is : verdict ≡ verdict_on pairs (commits_of log) stamp ops) where
   -- no more are counted than named
   pub counts_fit : (room : ℕ) → length (named_by ops) ≤ room → length (counts_in verdict) ≤ room
   counts_fit room fits =
@@ -59,7 +59,7 @@ module _ (pairs : List Given) (log : List StoreEntry) (stamp : Stamp) (ops : Lis
         | inr none ↦ let e : length (counts_in verdict) ≡ 0 = ap length none in omega arith
       ]
 
-  -- no count is above the number of entries
+  -- with fewer than 2 to the 63 entries in the log, each count is below 2 to the 63
   pub counts_low : length log < 2 ^ 63 → All (λ (counted : Counted). counted.before < 2 ^ 63) (counts_in verdict)
   counts_low few =
       elim (counts_given pairs (commits_of log) stamp ops verdict is) [
@@ -90,10 +90,11 @@ no_conflict : (found : Option LastCommit) → conflict_or found (Refused 0 Exist
 no_conflict None is = refl
 no_conflict (Some last) is = absurd (cc)
 
-module _ (graph : PlainGraph) (lasts : List (Name × KeptCommit)) (made : ℕ) (places : List (ℕ × ℕ)) (log : List StoreEntry) (kept : IsReplayOf graph lasts made places log) (stamp : Stamp) (ops : List Op) (names named : List Name) (names_are : names ≡ named_by ops) (named_are : named ≡ named_by ops) (asked : Asked) (asked_is : IsAsked asked (unordered_of stamp (held_of lasts names))) where
+module _ (graph : PlainGraph) (lasts : List (Name × KeptCommit)) (made : ℕ) (places : List (ℕ × ℕ)) (log : List StoreEntry) (kept : IsStoreReplay graph lasts made places log) (stamp : Stamp) (ops : List Op) (names named : List Name) (names_are : names ≡ named_by ops) (named_are : named ≡ named_by ops) (asked : Asked) (asked_is : IsAsked asked (unordered_of stamp (held_of lasts names))) where
   all_asked : IsAsked asked (unordered_of stamp (held_of lasts (named_by ops)))
   all_asked = subst (λ (vs : List Name). IsAsked asked (unordered_of stamp (held_of lasts vs))) names_are asked_is
 
+  -- what the store has before it judges a transaction is that of the commits of its log
   pub known_before : IsBefore graph lasts made named asked stamp ops (commits_of log)
   known_before = record {
     graph_is = kept.graph_is;
@@ -103,18 +104,23 @@ module _ (graph : PlainGraph) (lasts : List (Name × KeptCommit)) (made : ℕ) (
     asked_is = subst (λ (vs : List Name). IsAsked asked (unordered_of stamp (held_of lasts vs))) (sym named_are) all_asked;
   }
 
+  -- the stamps that it asks the judge about are those of the rule
   pub stamps_are : asked.stamps ≡ asked_stamps stamp (lasts_of ops (commits_of log))
   stamps_are = stamps_asked lasts (commits_of log) kept.lasts_are ops stamp asked all_asked
 
+  -- and so are their vertices
   pub vertices_are : asked.vertices ≡ asked_vertices stamp (lasts_of ops (commits_of log))
   vertices_are = vertices_asked lasts (commits_of log) kept.lasts_are ops stamp asked all_asked
 
+  -- with fewer than 2 to the power of 31 operations it asks about fewer than 2 to the power of 32 stamps
   pub few_asked : length ops < 2 ^ 31 → length asked.stamps < 2 ^ 32
   few_asked few = let e : length asked.stamps ≡ length (asked_stamps stamp (lasts_of ops (commits_of log))) = ap length stamps_are in omega (arith, asked_le stamp ops (commits_of log))
 
+  -- if the new stamp has another id than each judged one, it has another id than each one that is asked
   pub others_asked : All (λ (judged : Stamp). id_of judged ≢ id_of stamp) (stamps_judged log) → All (λ event. id_of event ≢ id_of stamp) asked.stamps
   others_asked others = subst (All (λ event. id_of event ≢ id_of stamp)) (sym stamps_are) (asked_others stamp ops log others)
 
+  -- if the new, the kept and the known stamps are coherent, so are the new, the asked and the known ones
   pub coherent_asked : (known : List Stamp) → ((stamps others : List Stamp) → AreCoherent others → ((one : Stamp) → Contains stamps one → Contains others one) → AreCoherent stamps) → AreCoherent (stamp ∷ stamps_kept (commits_of log) ++ known) → AreCoherent (stamp ∷ asked.stamps ++ known)
   coherent_asked known part coherent =
       subst (λ (stamps : List Stamp). AreCoherent (stamp ∷ stamps ++ known)) (sym stamps_are)

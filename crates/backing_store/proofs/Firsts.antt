@@ -58,6 +58,7 @@ module _ {X Y : Type 0} (f : X → Y) (p : Y → Bool) where
   place_map [] = refl
   place_map (x ∷ xs) = rw (place_map xs) refl
 
+  -- the place of the first image that passes, if one does, is that of the first element that passes by its image
   pub position_map : (xs : List X) → position p (map f xs) ≡ position (λ x. p (f x)) xs
   position_map xs = rw (place_map xs, length-map xs f) refl
 

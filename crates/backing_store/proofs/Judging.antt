@@ -6,7 +6,7 @@ use Rattle.std.specs.List.{find}
 use Rattle.weave_data.specs.declared.name.Name.{Name}
 use Rattle.vector_stamp.specs.declared.clock.Stamp.{Stamp}
 use Rattle.vector_stamp.specs.Order.{stamp_before}
-use Rattle.vector_stamp.specs.Precedence.{Given, precedes}
+use Rattle.vector_stamp.specs.Precedence.{GivenPair, precedes}
 use Rattle.vector_stamp.specs.Settling.{refused_place}
 use Rattle.graph_ops.specs.declared.op.Op.{Op}
 use Rattle.graph_ops.specs.Mentions.{named_by}
@@ -23,6 +23,7 @@ use Rattle.backing_store.specs.Trying.{verdict_of_ops, verdict_asked, IsBefore}
 use Rattle.backing_store.proofs.Firsts.{found_at, found_none, found_within, position_map}
 use Rattle.backing_store.proofs.Rule.{newer_or, newer_is, vertices_asked, stamps_asked, newer_asked, counts_are}
 
+-- what follows from what holds of an answer holds of it, too
 pub if_ok : {A E : Type 0} {P Q : A → Type 0} (result : Result A E) → ((a : A) → P a → Q a) → IfOk result P → IfOk result Q
 if_ok (Ok a) go p = go a p
 if_ok (Err e) go p = tt
@@ -34,11 +35,12 @@ conflict_there [] place rest below = absurd (omega arith)
 conflict_there (last ∷ asked) zero rest below = refl
 conflict_there (last ∷ asked) (suc place) rest below = conflict_there asked place rest (omega arith)
 
-module _ (pairs : List Given) (stamp : Stamp) (asked : List LastCommit) (rest : Verdict) where
+module _ (pairs : List GivenPair) (stamp : Stamp) (asked : List LastCommit) (rest : Verdict) where
   by_place : (place : Option ℕ) → position (λ (last : LastCommit). precedes pairs stamp last.commit.stamp) asked ≡ place → verdict_asked place (map (λ (last : LastCommit). last.vertex) asked) (map (λ (last : LastCommit). last.commit.request) asked) rest ≡ conflict_or (find (λ (last : LastCommit). precedes pairs stamp last.commit.stamp) asked) rest
   by_place None is = ap (λ (found : Option LastCommit). conflict_or found rest) (sym (found_none _ asked is))
   by_place (Some place) is = conflict_there asked place rest (found_within _ asked place is) ∙ ap (λ (found : Option LastCommit). conflict_or found rest) (sym (found_at _ asked place is))
 
+  -- a refused place gives the conflict with the first asked commit that the stamp precedes, and none gives the rest
   pub asked_is : verdict_asked (refused_place pairs (map (λ (last : LastCommit). last.commit.stamp) asked) stamp) (map (λ (last : LastCommit). last.vertex) asked) (map (λ (last : LastCommit). last.commit.request) asked) rest ≡ conflict_or (find (λ (last : LastCommit). precedes pairs stamp last.commit.stamp) asked) rest
   asked_is = by_place _ (sym (position_map (λ (last : LastCommit). last.commit.stamp) (precedes pairs stamp) asked))
 
@@ -50,7 +52,7 @@ ops_are ops commits (Err stopped) = refl
 
 -- The whole
 
-module _ (graph : PlainGraph) (lasts : List (Name × KeptCommit)) (made : ℕ) (names : List Name) (asked : Asked) (stamp : Stamp) (ops : List Op) (commits : List Commit) (before : IsBefore graph lasts made names asked stamp ops commits) (pairs : List Given) where
+module _ (graph : PlainGraph) (lasts : List (Name × KeptCommit)) (made : ℕ) (names : List Name) (asked : Asked) (stamp : Stamp) (ops : List Op) (commits : List Commit) (before : IsBefore graph lasts made names asked stamp ops commits) (pairs : List GivenPair) where
   first_is : (rest : Verdict) → newer_or (first_newer lasts stamp names) rest ≡ conflict_or (find (λ (last : LastCommit). stamp_before stamp last.commit.stamp) (lasts_of ops commits)) rest
   first_is rest = ap (λ (named : List Name). newer_or (first_newer lasts stamp named) rest) before.names_are ∙ sym (newer_is lasts commits before.lasts_are stamp rest (named_by ops))
 

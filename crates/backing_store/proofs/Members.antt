@@ -35,6 +35,7 @@ module _ {A B : Type 0} (f : A → Option B) where
   filter_map_le (x ∷ xs) = cons_le (f x) (filter_map f xs) (length xs) (filter_map_le xs)
 
 module _ {A : Type 0} where
+  -- what is in a reversed list is in the list
   pub reverse_has : (xs : List A) (x : A) → Contains (reverse xs) x → Contains xs x
   reverse_has [] x h = h
   reverse_has (y ∷ xs) x h =
@@ -43,10 +44,12 @@ module _ {A : Type 0} where
         | inr here ↦ elim (has_read y [] x here) [ inl same ↦ subst (λ k. Contains (y ∷ xs) k) same (has_head y xs) | inr none ↦ absurd (has_none x none) ]
       ]
 
+  -- a filtered list is no longer than the list
   pub filter_le : (p : A → Bool) (xs : List A) → length (filter p xs) ≤ length xs
   filter_le p [] = omega arith
   filter_le p (x ∷ xs) = elim (cases_Bool (p x)) [ inl keeps ↦ rw keeps (omega (arith, filter_le p xs)) | inr drops ↦ rw drops (omega (arith, filter_le p xs)) ]
 
+  -- what holds of each member of a list holds of all of it
   pub all_members : (P : A → Type 0) (xs : List A) → ((x : A) → Contains xs x → P x) → All P xs
   all_members P xs each = All-weaker (Contains xs) P each xs (All-contains_itself xs)
 
@@ -154,7 +157,7 @@ asked_others stamp ops log others =
     all_members (λ event. id_of event ≢ id_of stamp) (asked_stamps stamp (lasts_of ops (commits_of log)))
     (λ one h. All-contains (λ (judged : Stamp). id_of judged ≢ id_of stamp) (stamps_judged log) one others (asked_is_judged stamp ops log one h))
 
--- and with the new stamp and what the judge knows it is among what is coherent
+-- the new stamp, what is asked and what is known are among the new stamp, what is kept and what is known
 pub asked_among : (stamp : Stamp) (ops : List Op) (commits : List Commit) (known : List Stamp) (one : Stamp) → Contains (stamp ∷ asked_stamps stamp (lasts_of ops commits) ++ known) one → Contains (stamp ∷ stamps_kept commits ++ known) one
 asked_among stamp ops commits known one h =
     elim (has_read stamp (asked_stamps stamp (lasts_of ops commits) ++ known) one h) [

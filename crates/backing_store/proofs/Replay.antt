@@ -15,7 +15,7 @@ use Rattle.weave_data.specs.Names.{same_name, one_name}
 use Rattle.weave_data.specs.declared.name.Name.{Name}
 use Rattle.vector_stamp.specs.declared.clock.Stamp.{Stamp}
 use Rattle.vector_stamp.specs.Order.{id_of, stamp_before}
-use Rattle.vector_stamp.specs.Precedence.{Given, precedes}
+use Rattle.vector_stamp.specs.Precedence.{GivenPair, precedes}
 use Rattle.graph_ops.specs.declared.op.Op.{Op}
 use Rattle.graph_ops.specs.Mentions.{named_by, is_among}
 use Rattle.graph_ops.specs.declared.tx.Got.{Got}
@@ -28,8 +28,8 @@ use Rattle.weave_entries.specs.declared.verdict.Verdict.TheVariants.{Committed, 
 use Rattle.weave_entries.specs.StoreReplay.{Judgement, Commit, judged_by, judgements_of, judgement_of, commit_if, commit_by, commits_of, names_vertex, count_naming, last_naming, graph_committed}
 use Rattle.weave_entries.specs.StoreRule.{LastCommit, counts_of, conflict_or, verdict_by, verdict_on, lasts_of, asked_of, asked_vertices, stamps_judged, FitsStore}
 use Rattle.backing_store.specs.declared.lasts.KeptCommit.{KeptCommit}
-use Rattle.backing_store.specs.Keeping.{kept_commit, kept_at, held_at, held_after, KeepsLasts, FindsEntries, IsReplayOf}
-use Rattle.backing_store.specs.Trying.{counts_in, commits_in, graph_after}
+use Rattle.backing_store.specs.Keeping.{kept_commit, kept_at, held_at, held_after, KeepsLasts, FindsEntries, IsStoreReplay}
+use Rattle.backing_store.specs.Trying.{counts_in, commits_by, graph_after_verdict}
 use Rattle.backing_store.proofs.Firsts.{found_at, found_none, found_within, find_push, position_push}
 
 -- The verdicts
@@ -40,6 +40,7 @@ get_map f (x ∷ xs) zero d below = refl
 get_map f (x ∷ xs) (suc i) d below = get_map f xs i d (omega arith)
 
 module _ (request : ℕ) (places : List (ℕ × ℕ)) (log : List StoreEntry) (finds : FindsEntries places log) where
+  -- a request that has no place in the table has no judgement in the log
   pub none_judged : lookup (nat_eq request) places ≡ None → None ≡ judgement_of request log
   none_judged none = sym (found_none _ (judgements_of log) (sym (finds request) ∙ none))
 
@@ -47,6 +48,7 @@ module _ (request : ℕ) (places : List (ℕ × ℕ)) (log : List StoreEntry) (f
   pub place_within : (place : ℕ) → lookup (nat_eq request) places ≡ Some place → place < length log
   place_within place there = let below = found_within _ (judgements_of log) place (sym (finds request) ∙ there) in omega (arith, length-map log (λ (entry : StoreEntry). judged_by entry.author entry.deed))
 
+  -- the entry at the place of a request is the judgement of that request
   pub judged_there : (place : ℕ) (entry : StoreEntry) → lookup (nat_eq request) places ≡ Some place → entry ≡ get_or log place entry → Some (judged_by entry.author entry.deed) ≡ judgement_of request log
   judged_there place entry there is =
       ap (λ (one : StoreEntry). Some (judged_by one.author one.deed)) is
@@ -115,7 +117,7 @@ committed_counts ops commits None (Some last) outcome number answers counts is =
 committed_counts ops commits None None (Ok passed) number answers counts is = cc
 committed_counts ops commits None None (Err stopped) number answers counts is = absurd (cc)
 
-module _ (pairs : List Given) (commits : List Commit) (stamp : Stamp) (ops : List Op) where
+module _ (pairs : List GivenPair) (commits : List Commit) (stamp : Stamp) (ops : List Op) where
   -- a commit counts the named vertices
   pub by_rule : (number : ℕ) (answers : List Got) (counts : List Counted) → Committed number answers counts ≡ verdict_on pairs commits stamp ops → counts ≡ counts_of ops commits
   by_rule number answers counts is =
@@ -141,12 +143,12 @@ module _ (pairs : List Given) (commits : List Commit) (stamp : Stamp) (ops : Lis
   lasts_after table noted request (Conflict vertex newer) is keeps notes v = subst (KeepsLasts noted) (sym (append-nil commits)) (λ (w : Name). notes w ∙ keeps w) v
   lasts_after table noted request (Refused op reason at) is keeps notes v = subst (KeepsLasts noted) (sym (append-nil commits)) (λ (w : Name). notes w ∙ keeps w) v
 
-made_after : (commits : List Commit) (verdict : Verdict) (commit : Commit) → length commits + commits_in verdict ≡ length (commits ++ commit_if verdict commit)
+made_after : (commits : List Commit) (verdict : Verdict) (commit : Commit) → length commits + commits_by verdict ≡ length (commits ++ commit_if verdict commit)
 made_after commits (Committed number answers counts) commit = sym (length-append commits (commit ∷ []))
 made_after commits (Conflict vertex newer) commit = sym (length-append commits [])
 made_after commits (Refused op reason at) commit = sym (length-append commits [])
 
-graph_more : (commits : List Commit) (verdict : Verdict) (request : ℕ) (stamp : Stamp) (ops : List Op) → graph_after verdict (graph_committed commits) ops ≡ graph_committed (commits ++ commit_if verdict (record { request = request; stamp = stamp; ops = ops }))
+graph_more : (commits : List Commit) (verdict : Verdict) (request : ℕ) (stamp : Stamp) (ops : List Op) → graph_after_verdict verdict (graph_committed commits) ops ≡ graph_committed (commits ++ commit_if verdict (record { request = request; stamp = stamp; ops = ops }))
 graph_more commits (Committed number answers counts) request stamp ops = sym (fold-append _ _ commits (record { request = request; stamp = stamp; ops = ops } ∷ []))
 graph_more commits (Conflict vertex newer) request stamp ops = ap graph_committed (sym (append-nil commits))
 graph_more commits (Refused op reason at) request stamp ops = ap graph_committed (sym (append-nil commits))
@@ -159,18 +161,18 @@ pub record AreAfter (graph : PlainGraph) (lasts : List (Name × KeptCommit)) (ma
     (request : ℕ) (stamp : Stamp) (ops : List Op) (verdict : Verdict) (now : PlainGraph)
     (noted : List (Name × KeptCommit)) (number : ℕ)
     (placed : List (ℕ × ℕ)) : Type 0 where
-  pub graph_is : now ≡ graph_after verdict graph ops
+  pub graph_is : now ≡ graph_after_verdict verdict graph ops
   pub lasts_are : (v : Name) → held_at noted v ≡ held_after request stamp (counts_in verdict) v (held_at lasts v)
-  pub made_is : number ≡ made + commits_in verdict
+  pub made_is : number ≡ made + commits_by verdict
   pub places_are : (one : ℕ)
       → lookup (nat_eq one) placed ≡ option_or (lookup (nat_eq one) places)
       (cond (nat_eq request one) (Some (length log)) None)
 
-module _ (graph : PlainGraph) (lasts : List (Name × KeptCommit)) (made : ℕ) (places : List (ℕ × ℕ)) (log : List StoreEntry) (kept : IsReplayOf graph lasts made places log) where
+module _ (graph : PlainGraph) (lasts : List (Name × KeptCommit)) (made : ℕ) (places : List (ℕ × ℕ)) (log : List StoreEntry) (kept : IsStoreReplay graph lasts made places log) where
   -- the tables may be larger
-  pub replay_moved : (moved : List (Name × KeptCommit)) (placed : List (ℕ × ℕ)) (same : List StoreEntry) → ((v : Name) → held_at moved v ≡ held_at lasts v) → ((one : ℕ) → lookup (nat_eq one) placed ≡ lookup (nat_eq one) places) → same ≡ log → IsReplayOf graph moved made placed same
+  pub replay_moved : (moved : List (Name × KeptCommit)) (placed : List (ℕ × ℕ)) (same : List StoreEntry) → ((v : Name) → held_at moved v ≡ held_at lasts v) → ((one : ℕ) → lookup (nat_eq one) placed ≡ lookup (nat_eq one) places) → same ≡ log → IsStoreReplay graph moved made placed same
   replay_moved moved placed same held looked is =
-      subst (λ (l : List StoreEntry). IsReplayOf graph moved made placed l) (sym is) (record {
+      subst (λ (l : List StoreEntry). IsStoreReplay graph moved made placed l) (sym is) (record {
         graph_is = kept.graph_is;
         lasts_are = λ v. held v ∙ kept.lasts_are v;
         made_is = kept.made_is;
@@ -178,7 +180,7 @@ module _ (graph : PlainGraph) (lasts : List (Name × KeptCommit)) (made : ℕ) (
         right = kept.right;
       })
 
-  module _ (pairs : List Given) (author request : ℕ) (stamp : Stamp) (ops : List Op) (asked : List Name)
+  module _ (pairs : List GivenPair) (author request : ℕ) (stamp : Stamp) (ops : List Op) (asked : List Name)
       (verdict : Verdict) (now : PlainGraph)
       (noted : List (Name × KeptCommit)) (number : ℕ) (placed : List (ℕ × ℕ)) where
     -- one more entry
@@ -188,17 +190,17 @@ module _ (graph : PlainGraph) (lasts : List (Name × KeptCommit)) (made : ℕ) (
         → verdict ≡ verdict_on pairs (commits_of log) stamp ops
         → AreAfter graph lasts made places log request stamp ops verdict now noted number placed
         → longer ≡ log ++ record { author = author; deed = Judged request stamp ops asked verdict } ∷ []
-        → IsReplayOf now noted number placed longer
+        → IsStoreReplay now noted number placed longer
     replay_more longer new asked_are verdict_is after longer_is =
         let entry : StoreEntry = record { author = author; deed = Judged request stamp ops asked verdict } in
         let commit : Commit = record { request = request; stamp = stamp; ops = ops } in
         let more : commits_of (log ++ entry ∷ []) ≡ commits_of log ++ commit_if verdict commit = flat_push (λ (e : StoreEntry). commit_by e.deed) log entry in
-        subst (λ (l : List StoreEntry). IsReplayOf now noted number placed l) (sym longer_is) (record {
-          graph_is = after.graph_is ∙ ap (λ (g : PlainGraph). graph_after verdict g ops) kept.graph_is
+        subst (λ (l : List StoreEntry). IsStoreReplay now noted number placed l) (sym longer_is) (record {
+          graph_is = after.graph_is ∙ ap (λ (g : PlainGraph). graph_after_verdict verdict g ops) kept.graph_is
               ∙ graph_more (commits_of log) verdict request stamp ops ∙ ap graph_committed (sym more);
           lasts_are = subst (KeepsLasts noted) (sym more)
               (lasts_after pairs (commits_of log) stamp ops lasts noted request verdict verdict_is kept.lasts_are after.lasts_are);
-          made_is = after.made_is ∙ ap (λ (n : ℕ). n + commits_in verdict) kept.made_is
+          made_is = after.made_is ∙ ap (λ (n : ℕ). n + commits_by verdict) kept.made_is
               ∙ made_after (commits_of log) verdict commit ∙ ap length (sym more);
           places_are = places_more places placed log entry kept.places_are after.places_are;
           right = each_push (λ before (one : StoreEntry). FitsStore before one.deed) log entry kept.right (record { new = new; asked_are = asked_are; pairs = pairs; verdict_is = verdict_is });

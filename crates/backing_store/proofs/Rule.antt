@@ -53,6 +53,7 @@ module _ (table : List (Name × KeptCommit)) (commits : List Commit) (keeps : Ke
           | inr fails ↦ rw fails so_far
         ])
 
+    -- the table gives the conflict at the first vertex with a newer last commit as the commits do, or else the rest
     pub newer_is : (names : List Name) → conflict_or (find (λ (last : LastCommit). stamp_before stamp last.commit.stamp) (lasts_among commits names)) rest ≡ newer_or (first_newer table stamp names) rest
     newer_is [] = refl
     newer_is (v ∷ names) = newer_more v (last_naming v commits) (held_at table v) (count_naming v commits) (keeps v) (lasts_among commits names) (first_newer table stamp names) (newer_is names)
@@ -67,6 +68,7 @@ module _ (table : List (Name × KeptCommit)) (commits : List Commit) (keeps : Ke
   held_more v None held is more rest so_far = rw is so_far
   held_more v (Some commit) held is more rest so_far = rw is (ap (λ (ones : List (Name × KeptCommit)). (v, kept_commit (count_naming v commits) commit) ∷ ones) so_far)
 
+  -- what the table has at these vertices are their last commits, each with its number of commits
   pub held_is : (names : List Name) → held_of table names ≡ map as_held (lasts_among commits names)
   held_is [] = refl
   held_is (v ∷ names) = held_more v (last_naming v commits) (held_at table v) (keeps v) (lasts_among commits names) (held_of table names) (held_is names)
@@ -75,12 +77,15 @@ module _ (table : List (Name × KeptCommit)) (commits : List Commit) (keeps : Ke
   unordered_is stamp names = ap (unordered_of stamp) (held_is names) ∙ filter_map_is as_held (λ (one : Name × KeptCommit). unordered one.1.stamp stamp) (lasts_among commits names)
 
   module _ (ops : List Op) (stamp : Stamp) (asked : Asked) (is : IsAsked asked (unordered_of stamp (held_of table (named_by ops)))) where
+    -- the vertices that are asked by the table are those of the rule
     pub vertices_asked : asked.vertices ≡ asked_vertices stamp (lasts_of ops commits)
     vertices_asked = is.vertices_are ∙ ap (map (λ (one : Name × KeptCommit). one.0)) (unordered_is stamp (named_by ops)) ∙ map-map _ _ (asked_of stamp (lasts_of ops commits))
 
+    -- and so are the stamps
     pub stamps_asked : asked.stamps ≡ asked_stamps stamp (lasts_of ops commits)
     stamps_asked = is.stamps_are ∙ ap (map (λ (one : Name × KeptCommit). one.1.stamp)) (unordered_is stamp (named_by ops)) ∙ map-map _ _ (asked_of stamp (lasts_of ops commits))
 
+    -- and the requests
     pub newer_asked : asked.newer ≡ map (λ (last : LastCommit). last.commit.request) (asked_of stamp (lasts_of ops commits))
     newer_asked = is.newer_are ∙ ap (map (λ (one : Name × KeptCommit). one.1.request)) (unordered_is stamp (named_by ops)) ∙ map-map _ _ (asked_of stamp (lasts_of ops commits))
 
@@ -90,8 +95,10 @@ module _ (table : List (Name × KeptCommit)) (commits : List Commit) (keeps : Ke
   count_from v None held n is none = rw is (sym (none refl))
   count_from v (Some commit) held n is none = rw is refl
 
+  -- the table counts at a vertex as many commits as name it
   pub count_is : (v : Name) → count_held table v ≡ count_naming v commits
   count_is v = count_from v (last_naming v commits) (held_at table v) (count_naming v commits) (keeps v) (λ none. ap length (none_from_end (names_vertex v) commits none))
 
+  -- so its counts for the vertices that operations name are those of the rule
   pub counts_are : (ops : List Op) → map (λ (v : Name). record { vertex = v; before = count_held table v }) (named_by ops) ≡ counts_of ops commits
   counts_are ops = ap (λ (count : Name → ℕ). map (λ (v : Name). record { vertex = v; before = count v }) (named_by ops)) (λ i v. count_is v i)

@@ -3,7 +3,7 @@ use Rattle.std.specs.Prelude.{ℕ, Bool, not, ◌&&◌, List, [], map}
 use Rattle.std.specs.List.{flat_map, list_any}
 use Rattle.vector_stamp.specs.declared.clock.Stamp.{Stamp}
 use Rattle.vector_stamp.specs.Order.{stamp_before, unordered}
-use Rattle.vector_stamp.specs.Precedence.{Given}
+use Rattle.vector_stamp.specs.Precedence.{GivenPair}
 use Rattle.vector_stamp.specs.Settling.{additions_from, places_of, pairs_of, SettledEntry, entries_of_call}
 use Rattle.graph_ops.specs.declared.op.Op.{Op}
 use Rattle.weave_entries.specs.declared.store_log.StoreEntry.{StoreEntry}
@@ -35,7 +35,7 @@ is_judge_asked log stamp ops =
     && list_any (λ (last : LastCommit). unordered last.commit.stamp stamp) (lasts_at log ops)
 
 -- the verdict of a store with this log and a judge with these pairs
-abbrev pub verdict_at : List Given → List StoreEntry → Stamp → List Op → Verdict
+abbrev pub verdict_at : List GivenPair → List StoreEntry → Stamp → List Op → Verdict
 verdict_at pairs log stamp ops = verdict_on pairs (commits_of log) stamp ops
 
 -- the entry of a judgement: who asked, what was judged and asked, and the verdict
@@ -50,10 +50,10 @@ of_commit (Conflict vertex newer) kept = []
 of_commit (Refused op reason at) kept = []
 
 -- the pairs that a verdict leaves with the judge: a commit's alone
-abbrev pub pairs_added : Verdict → List Given → List Stamp → Stamp → List Given
+abbrev pub pairs_added : Verdict → List GivenPair → List Stamp → Stamp → List GivenPair
 pairs_added verdict pairs earlier later = of_commit verdict (pairs_of (additions_from 0 pairs earlier later) later)
 
 -- the entry that it leaves in the judge's log: a commit's, if it added a pair
-abbrev pub entries_added : Verdict → ℕ → List Given → List Stamp → Stamp → List SettledEntry
+abbrev pub entries_added : Verdict → ℕ → List GivenPair → List Stamp → Stamp → List SettledEntry
 entries_added verdict author pairs earlier later =
     of_commit verdict (entries_of_call author earlier later (places_of (additions_from 0 pairs earlier later)))

@@ -78,7 +78,7 @@ FindsEntries places log =
 -- The whole
 
 -- the fields are what the replay of the log gives
-pub record IsReplayOf (graph : PlainGraph) (lasts : List (Name × KeptCommit)) (made : ℕ) (places : List (ℕ
+pub record IsStoreReplay (graph : PlainGraph) (lasts : List (Name × KeptCommit)) (made : ℕ) (places : List (ℕ
     × ℕ)) (log : List StoreEntry) : Type 0 where
   pub graph_is : graph ≡ graph_committed (commits_of log)
   pub lasts_are : KeepsLasts lasts (commits_of log)

@@ -1,4 +1,4 @@
-pub mod Asking
+pub mod JudgeCalls
 pub mod Commits
 pub mod Keeping
 pub mod Trying

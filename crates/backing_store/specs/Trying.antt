@@ -10,7 +10,7 @@ use Rattle.weave_entries.specs.declared.verdict.Verdict.{Verdict}
 use Rattle.weave_entries.specs.declared.verdict.Verdict.TheVariants.{Committed, Conflict, Refused}
 use Rattle.weave_entries.specs.StoreReplay.{Commit, graph_committed}
 use Rattle.backing_store.specs.declared.asked.Asked.{Asked}
-use Rattle.graph_ops.specs.Pendings.{Both}
+use Rattle.graph_ops.specs.Pendings.{BothVertices}
 use Rattle.graph_ops.specs.Mentions.{named_by}
 use Rattle.backing_store.specs.declared.lasts.KeptCommit.{KeptCommit}
 use Rattle.backing_store.specs.Keeping.{held_of, unordered_of, IsAsked, KeepsLasts}
@@ -22,7 +22,7 @@ verdict_of_ops made counts (Err stopped) = Refused stopped.op stopped.reason mad
 
 -- the operations had this outcome on the old graph. If they passed, the graph before and after them is pending; if not,
 -- the graph is as it was
-abbrev pub IsTrial : TxOutcome → PlainGraph → PlainGraph → Option Both → Type 0
+abbrev pub IsTrial : TxOutcome → PlainGraph → PlainGraph → Option BothVertices → Type 0
 IsTrial (Ok passed) old now (Some pending) = (plain_of pending.after ≡ passed.graph) × (plain_of pending.before ≡ old)
 IsTrial (Ok passed) old now None = ⊥
 IsTrial (Err stopped) old now (Some pending) = ⊥
@@ -40,10 +40,10 @@ graph_asked None old outcome = graph_left old outcome
 graph_asked (Some place) old outcome = old
 
 -- a commit leaves the graph that its operations leave, and any other verdict the graph before
-abbrev pub graph_after : Verdict → PlainGraph → List Op → PlainGraph
-graph_after (Committed number answers counts) graph ops = graph_left graph (transaction ops graph)
-graph_after (Conflict vertex newer) graph ops = graph
-graph_after (Refused op reason at) graph ops = graph
+abbrev pub graph_after_verdict : Verdict → PlainGraph → List Op → PlainGraph
+graph_after_verdict (Committed number answers counts) graph ops = graph_left graph (transaction ops graph)
+graph_after_verdict (Conflict vertex newer) graph ops = graph
+graph_after_verdict (Refused op reason at) graph ops = graph
 
 -- what the store has before it judges a transaction is of these commits: the graph, the last commits, their number, the
 -- vertices that the transaction names, and what the judge is asked
@@ -63,7 +63,7 @@ counts_in (Conflict vertex newer) = []
 counts_in (Refused op reason at) = []
 
 -- the number of commits that a verdict makes
-abbrev pub commits_in : Verdict → ℕ
-commits_in (Committed number answers counts) = 1
-commits_in (Conflict vertex newer) = 0
-commits_in (Refused op reason at) = 0
+abbrev pub commits_by : Verdict → ℕ
+commits_by (Committed number answers counts) = 1
+commits_by (Conflict vertex newer) = 0
+commits_by (Refused op reason at) = 0

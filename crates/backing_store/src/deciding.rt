@@ -7,15 +7,15 @@ ghost use Rattle.vector_stamp.specs.Settling.{refused_place, additions, addition
 ghost use Rattle.graph_ops.specs.Graphs.{plain_of};
 ghost use Rattle.graph_ops.specs.PlainGraph.{PlainGraph, TxOutcome};
 ghost use Rattle.weave_entries.specs.declared.verdict.Verdict.TheVariants.{Conflict};
-ghost use Rattle.backing_store.specs.Asking.{if_permitted};
-ghost use Rattle.backing_store.specs.Trying.{IsTrial, IsBefore, verdict_asked, graph_asked, graph_after};
+ghost use Rattle.backing_store.specs.JudgeCalls.{if_permitted};
+ghost use Rattle.backing_store.specs.Trying.{IsTrial, IsBefore, verdict_asked, graph_asked, graph_after_verdict};
 ghost use Rattle.backing_store.specs.Keeping.{first_newer as newer_of};
 ghost use Rattle.backing_store.specs.Commits.{of_commit};
 ghost use Rattle.weave_entries.specs.StoreReplay.{Commit};
 ghost use Rattle.weave_entries.specs.StoreRule.{verdict_on};
 
 use crate::asked::Asked;
-use crate::asking::ask;
+use crate::judge_calls::ask;
 use crate::lasts::{Lasts, counts_at, first_newer};
 use crate::trying::{Tried, keep, take_back, try_ops};
 use graph_ops::{Graph, Op};
@@ -143,7 +143,7 @@ pub(crate) fn judge_tx<J: Judge>(
         → IfOk result (λ decided. decided.logged ≡ verdict_on (J.pairs judge.old) commits stamp ops.now) }
     ensures answer { IfOk result (λ decided. decided.answer ≡ decided.logged) }
     ensures graph { IfOk result (λ decided. plain_of graph.new
-        ≡ graph_after decided.logged (plain_of graph.old) ops.now) }
+        ≡ graph_after_verdict decided.logged (plain_of graph.old) ops.now) }
     ensures back { OnErr result (plain_of graph.new ≡ plain_of graph.old) }
     ensures pairs { IfOk result (λ decided. J.pairs judge.new ≡ J.pairs judge.old
         ++ of_commit decided.logged (pairs_of (additions_from 0 (J.pairs judge.old) asked.now.stamps stamp) stamp)) }

@@ -3,12 +3,12 @@ ghost use Rattle.std.specs.Prelude.{◌≡◌, ◌≤◌, ◌++◌, ℕ, List, m
 ghost use Rattle.vector_stamp.specs.declared.clock.Stamp.{Stamp};
 ghost use Rattle.graph_ops.specs.declared.op.Op.{Op};
 ghost use Rattle.weave_entries.specs.declared.store_log.StoreEntry.{StoreEntry};
-ghost use Rattle.vector_stamp.specs.Precedence.{Given, precedes};
+ghost use Rattle.vector_stamp.specs.Precedence.{GivenPair, precedes};
 ghost use Rattle.graph_ops.specs.declared.tx.Got.{Got};
 ghost use Rattle.weave_entries.specs.declared.verdict.Counted.{Counted};
 ghost use Rattle.weave_entries.specs.declared.verdict.Verdict.{Verdict};
 ghost use Rattle.weave_entries.specs.declared.verdict.Verdict.TheVariants.{Committed};
-ghost use Rattle.weave_entries.specs.OracleReplay.{oracle_entry};
+ghost use Rattle.weave_entries.specs.OracleReplay.{oracle_entry_of};
 ghost use Rattle.weave_entries.specs.StoreReplay.{Commit, commits_of};
 ghost use Rattle.weave_entries.specs.StoreRule.{LastCommit, verdict_on, entries_of_settling, settled_if};
 ghost use Rattle.backing_store.specs.Commits.{asked_at, lasts_at, verdict_at, pairs_added, entries_added, stamps_judged, stamps_kept};
@@ -25,7 +25,7 @@ pub fn what_is_asked_is_kept()
 
 /// Each count of a verdict is at most the number of commits before it, and there are no more commits than entries.
 pub fn counts_are_at_most_the_commits()
-    ensures counts { (pairs : List Given) (commits : List Commit) (stamp : Stamp) (ops : List Op)
+    ensures counts { (pairs : List GivenPair) (commits : List Commit) (stamp : Stamp) (ops : List Op)
         → (number : ℕ) (answers : List Got) (counts : List Counted)
         → verdict_on pairs commits stamp ops ≡ Committed number answers counts
         → All (λ (counted : Counted). counted.before ≤ length commits) counts }
@@ -34,15 +34,15 @@ pub fn counts_are_at_most_the_commits()
 
 /// The rule of the store and the contract of `commit` give the same entries of the oracle's log.
 pub fn one_rule_of_what_is_added()
-    ensures { (verdict : Verdict) (author : ℕ) (pairs : List Given) (earlier : List Stamp) (later : Stamp)
+    ensures { (verdict : Verdict) (author : ℕ) (pairs : List GivenPair) (earlier : List Stamp) (later : Stamp)
         → settled_if verdict (entries_of_settling author pairs earlier later)
-        ≡ map oracle_entry (entries_added verdict author pairs earlier later) }
+        ≡ map oracle_entry_of (entries_added verdict author pairs earlier later) }
 {}
 
 /// A commit comes after the last commit at each vertex that it names, by the judge's pairs and those that the commit
 /// adds.
 pub fn commits_come_after_the_last()
-    ensures { (pairs : List Given) (log : List StoreEntry) (stamp : Stamp) (ops : List Op)
+    ensures { (pairs : List GivenPair) (log : List StoreEntry) (stamp : Stamp) (ops : List Op)
         → (number : ℕ) (answers : List Got) (counts : List Counted)
         → verdict_at pairs log stamp ops ≡ Committed number answers counts
         → (last : LastCommit) → Contains (lasts_at log ops) last → IsTrue (precedes

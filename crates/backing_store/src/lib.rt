@@ -6,8 +6,8 @@
 #![tactic(auto)]
 
 mod asked;
-mod asking;
 mod deciding;
+mod judge_calls;
 mod lasts;
 pub mod laws;
 mod store;

@@ -11,7 +11,7 @@ ghost use Rattle.weave_entries.specs.declared.store_log.StoreEntry.{StoreEntry};
 ghost use Rattle.weave_entries.specs.declared.verdict.Counted.{Counted};
 ghost use Rattle.backing_store.specs.Commits.{stamps_judged, stamps_kept, asked_at, is_judge_asked, verdict_at, judged_entry, pairs_added, entries_added};
 ghost use Rattle.backing_store.specs.Keeping.{held_at, held_after};
-ghost use Rattle.backing_store.specs.Trying.{counts_in, commits_in};
+ghost use Rattle.backing_store.specs.Trying.{counts_in, commits_by};
 ghost use Rattle.weave_entries.specs.StoreReplay.{Judgement, judged_by, commits_of, judgement_of, graph_committed};
 ghost use Rattle.weave_entries.specs.StoreRule.{IsStoreLog};
 
@@ -44,13 +44,13 @@ impl Model for Store {
     ghost use Rattle.std.specs.Prelude.{List};
     ghost use Rattle.weave_entries.specs.declared.store_log.StoreEntry.{StoreEntry};
     ghost use Rattle.graph_ops.specs.Graphs.{plain_of};
-    ghost use Rattle.backing_store.specs.Keeping.{IsReplayOf};
+    ghost use Rattle.backing_store.specs.Keeping.{IsStoreReplay};
 
     ghost Value = { List StoreEntry };
 
     ghost view = { λ s. s.log.items };
 
-    ghost invariant = { λ s. IsReplayOf (plain_of s.graph) s.lasts.entries s.made s.places.entries s.log.items };
+    ghost invariant = { λ s. IsStoreReplay (plain_of s.graph) s.lasts.entries s.made s.places.entries s.log.items };
 }
 
 impl Store {
@@ -226,7 +226,7 @@ fn put_commit(lasts: &mut Lasts, made: &mut u64, request: u32, stamp: Stamp, ver
     requires number { made.old < 2 ^ 63 }
     ensures lasts { (v : Name) → held_at lasts.new.entries v
         ≡ held_after request stamp (counts_in verdict.now) v (held_at lasts.old.entries v) }
-    ensures made { made.new ≡ made.old + commits_in verdict.now }
+    ensures made { made.new ≡ made.old + commits_by verdict.now }
 {
     if let Verdict::Committed { counts, .. } = verdict {
         put_lasts(lasts, counts.as_slice(), request, stamp);

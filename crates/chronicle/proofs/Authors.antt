@@ -34,6 +34,7 @@ module _ {E : Type 0} (passes : ℕ) (start log : Log E) where
   abbrev ComesFrom : ℕ × E → Type 0
   ComesFrom entry = Contains start entry ⊎ ((author : ℕ) × (author < passes) × Contains (entries_of author log) entry)
 
+  -- each entry of a log that has grown is one of the start, or an own entry of one of its passes
   pub comes_from : (entry : ℕ × E) → IsGrown passes start log → Contains log entry → ComesFrom entry
   comes_from entry grown there = All-contains ComesFrom log entry (of_whole ComesFrom passes start log grown
       (All-weaker (Contains start) ComesFrom (λ e h. inl h) start (All-contains_itself start))

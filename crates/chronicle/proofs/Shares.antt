@@ -28,27 +28,32 @@ use Rattle.chronicle.specs.contracts.chronicle.Chronicle as chronicle
 badge_sync : (V : RattleType) → IsSync (the_row V)
 badge_sync V = record { shared = λ d b o κ q. part_keyless (the_row V) (the_send V) q d b o }
 
--- a lock as a field of a struct
+-- threads may share a lock as a field of a struct, if its machine may be sent to another thread
 pub chronicle_sync_within : (M E : RattleType) (g : Ghosts M.Denot E.Denot) → IsSend M → IsSync (chronicle.the_field M E g).row
 chronicle_sync_within M E g s = let S : Shape = shape (table.the_type (option.the_row M) (view.the_row E) u32 (law.the_row M) global.the_row (rule.ghosts M E g rule.no_dict) handle.ghosts) in
     let t : IsSync (Struct S) = struct_sync S (shared.the_sync (option.the_row M) (view.the_row E) u32 (law.the_row M) (rule.ghosts M E g rule.no_dict) (maybe.the_send M s), (search sendable, (search sendable, (lease.the_sync u64 global.the_row handle.ghosts send (search frees), (lease.the_sync (option.the_row M) global.the_row handle.ghosts send (search frees), (sync, tt)))))) in
     struct_sync (shape (chronicle.the_type M E g)) (t, (search (crosses, sendable), (badge_sync _, (search (count.the_sync, crosses, sendable) depth 12, tt))))
 
+-- threads may share a lock if its machine may be sent to another thread
 pub chronicle_sync : (M E : RattleType) (g : Ghosts M.Denot E.Denot) → IsSend M → IsSync (chronicle.the_row M E g)
 chronicle_sync M E g s = recorded_sync (chronicle.the_field M E g).row _ _ (chronicle.the_type M E g).to_one (chronicle_sync_within M E g s)
 
+-- a pass may be sent to another thread
 pub pass_send : (E : RattleType) → IsSend (pass.the_row E)
 pass_send E = search (the_send, crosses, sendable) depth 20
 
+-- and so may a note
 pub note_send : (E : RattleType) → IsSend (note.the_row E)
 note_send E = search (the_send, crosses, sendable) depth 20
 
+-- threads may share a pass
 pub pass_sync : (E : RattleType) → IsSync (pass.the_row E)
 pass_sync E = search (badge_sync, crosses, sendable) depth 20
 
--- a pass and a note as fields of a struct
+-- a pass may be sent as a field of a struct
 pub pass_send_within : (E : RattleType) → IsSend (pass.the_field E).row
 pass_send_within E = search (the_send, crosses, sendable) depth 20
 
+-- a note may be sent as a field of a struct
 pub note_send_within : (E : RattleType) → IsSend (note.the_field E).row
 note_send_within E = search (the_send, crosses, sendable) depth 20

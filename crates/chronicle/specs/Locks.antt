@@ -5,7 +5,7 @@ use Rattle.chronicle.specs.declared.chronicle.Chronicle.{Chronicle}
 use Rattle.chronicle.specs.declared.open.Vacant.{Vacant}
 use Rattle.chronicle.specs.Frames.{Frame, name_of_table}
 use Rattle.chronicle.specs.Logs.{Log}
-use Rattle.chronicle.specs.Seats.{resting, inside}
+use Rattle.chronicle.specs.Seats.{resting_view, inside_view}
 
 -- which lock it is, how many passes it has, and the frame and the log of its machine at the start
 pub record Lock (E : Type 0) : Type 0 where
@@ -31,13 +31,13 @@ module _ {M E : Type 0} where
   -- the empty place is this lock's
   pub record IsVacant (lock : Lock E) (vacant : Vacant M E) : Type 0 where
     pub table_is : vacant.seat.table_id ≡ lock.table
-    pub view_is : vacant.seat.me ≡ (inside lock.frame lock.start lock.start lock.passes, (0, None) ∷ [])
+    pub view_is : vacant.seat.me ≡ (inside_view lock.frame lock.start lock.start lock.passes, (0, None) ∷ [])
 
   -- the machine was put in
   pub record IsFilled (c : Chronicle M E) : Type 0 where
     pub table_is : c.filled.table_id ≡ (lock_of c).table
     pub view_is : c.filled.views
-        ≡ resting (lock_of c).frame (lock_of c).start (lock_of c).start ((lock_of c).passes ∷ []) ∷ []
+        ≡ resting_view (lock_of c).frame (lock_of c).start (lock_of c).start ((lock_of c).passes ∷ []) ∷ []
 
 -- the lock has this many passes, and its machine this frame and this log at the start
 pub record LockStartsWith {E : Type 0} (lock : Lock E) (passes : ℕ) (frame : Frame) (log : Log E) : Type 0 where

@@ -56,7 +56,7 @@ module _ {M E : Type 0} where
   word s = slice_index s.words 8
 
   -- the rule
-  pub record Kept (frame_of : M → Frame) (log_of : M → Log E) (passes : ℕ) (s : Table M E) : Type 0 where
+  pub record KeepsRule (frame_of : M → Frame) (log_of : M → Log E) (passes : ℕ) (s : Table M E) : Type 0 where
     -- the frame and the log of the machine at the start, and the log so far
     pub frame : Frame
     pub start : Log E

@@ -22,18 +22,18 @@ pub struct Note<E> {
 impl<M: Machine> Chronicle<M> {
     ghost use Rattle.std.specs.Prelude.{◌≡◌, ◌⊎◌};
     ghost use mathlib.Core.List.{IsPrefix};
-    ghost use Rattle.chronicle.specs.Logs.{longer};
+    ghost use Rattle.chronicle.specs.Logs.{longer_of_logs};
     ghost use Rattle.chronicle.specs.Locks.{lock_of};
-    ghost use Rattle.chronicle.specs.Passes.{IsReady, IsNote, number_of, seen, own, noted};
+    ghost use Rattle.chronicle.specs.Passes.{IsReady, IsNote, number_of, seen_by_pass, own_entries, seen_by_note};
 
     /// A note of what the pass has seen.
     pub fn note(&self, pass: &mut Pass<M::Entry>) -> Note<M::Entry>
         requires { IsReady (lock_of self.now) pass.old }
         ensures ready { IsReady (lock_of self.now) pass.new }
         ensures number { number_of pass.new ≡ number_of pass.old }
-        ensures seen { seen pass.new ≡ seen pass.old }
+        ensures seen { seen_by_pass pass.new ≡ seen_by_pass pass.old }
         ensures note { IsNote (lock_of self.now) result }
-        ensures noted { noted result ≡ seen pass.old }
+        ensures noted { seen_by_note result ≡ seen_by_pass pass.old }
     {
         let mut seat = mem::replace(&mut pass.badge, Badge::blank()).into_seat::<Option<M>>();
         let copy = self.table.shared.split_seat::<Copies>(&mut seat);
@@ -50,13 +50,14 @@ impl<M: Machine> Chronicle<M> {
         requires note { IsNote (lock_of self.now) note.old }
         ensures ready { IsReady (lock_of self.now) pass.new }
         ensures number { number_of pass.new ≡ number_of pass.old }
-        ensures own { own pass.new ≡ own pass.old }
+        ensures own { own_entries pass.new ≡ own_entries pass.old }
         ensures note { IsNote (lock_of self.now) note.new }
-        ensures longer { seen pass.new ≡ longer (seen pass.old) (noted note.old) }
-        ensures either { (seen pass.new ≡ seen pass.old) ⊎ (seen pass.new ≡ noted note.old) }
-        ensures pass_before { IsPrefix (seen pass.old) (seen pass.new) }
-        ensures note_before { IsPrefix (noted note.old) (seen pass.new) }
-        ensures one { noted note.new ≡ seen pass.new }
+        ensures longer { seen_by_pass pass.new ≡ longer_of_logs (seen_by_pass pass.old) (seen_by_note note.old) }
+        ensures either { (seen_by_pass pass.new ≡ seen_by_pass pass.old)
+            ⊎ (seen_by_pass pass.new ≡ seen_by_note note.old) }
+        ensures pass_before { IsPrefix (seen_by_pass pass.old) (seen_by_pass pass.new) }
+        ensures note_before { IsPrefix (seen_by_note note.old) (seen_by_pass pass.new) }
+        ensures one { seen_by_note note.new ≡ seen_by_pass pass.new }
     {
         let shared = &self.table.shared;
         let mut seat = mem::replace(&mut pass.badge, Badge::blank()).into_seat::<Option<M>>();

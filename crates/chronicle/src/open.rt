@@ -2,8 +2,8 @@
 ghost use Rattle.std.specs.Prelude.{◌≡◌, ◌<◌, [], ◌∷◌, None, All, IfOk, map, vec_len};
 ghost use Rattle.std.specs.List.{range_with_len};
 ghost use Rattle.chronicle.specs.Locks.{lock_of, name_of, LockStartsWith, IsFilled, IsVacant};
-ghost use Rattle.chronicle.specs.Passes.{IsReady, IsUnopened, number_of, seen};
-ghost use Rattle.chronicle.specs.Seats.{unopened, opened};
+ghost use Rattle.chronicle.specs.Passes.{IsReady, IsUnopened, number_of, seen_by_pass};
+ghost use Rattle.chronicle.specs.Seats.{unopened_view, opened_view};
 
 use crate::bell::Bell;
 use crate::chronicle::Chronicle;
@@ -38,9 +38,9 @@ fn open<M: Machine, N: Machine<Entry = M::Entry>, J: Opening<M::Entry>>(
     _like: &N,
 )
     requires table { (seat.old.table_id ≡ shared.now.table_id) × (shared.now.table_id.words ≡ 16) }
-    requires first { seat.old.me ≡ (unopened shared.now.key, []) }
+    requires first { seat.old.me ≡ (unopened_view shared.now.key, []) }
     ensures table { seat.new.table_id ≡ seat.old.table_id }
-    ensures opened { seat.new.me ≡ (opened J.frame J.log shared.now.key, (0, None) ∷ []) }
+    ensures opened { seat.new.me ≡ (opened_view J.frame J.log shared.now.key, (0, None) ∷ []) }
 {
     shared.compare_exchange::<Opens<J>>(seat, WORD, UNOPENED, TAKEN);
 }
@@ -82,7 +82,7 @@ impl<M: Machine> Chronicle<M> {
         ensures count { vec_len result.0 ≡ (lock_of self.old).passes }
         ensures numbers { map number_of result.0.items ≡ range_with_len 0 (lock_of self.old).passes }
         ensures ready { All (IsReady (lock_of self.new)) result.0.items }
-        ensures seen { All (λ p. seen p ≡ (lock_of self.new).start) result.0.items }
+        ensures seen { All (λ p. seen_by_pass p ≡ (lock_of self.new).start) result.0.items }
         ensures vacant { IsVacant (lock_of self.new) result.1 }
     {
         let Unopened {
@@ -120,7 +120,7 @@ impl<M: Machine> Chronicle<M> {
         ensures count { IfOk result (λ r. vec_len r.1 ≡ passes) }
         ensures numbers { IfOk result (λ r. map number_of r.1.items ≡ range_with_len 0 passes) }
         ensures ready { IfOk result (λ r. All (IsReady (lock_of r.0)) r.1.items) }
-        ensures seen { IfOk result (λ r. All (λ p. seen p ≡ (lock_of r.0).start) r.1.items) }
+        ensures seen { IfOk result (λ r. All (λ p. seen_by_pass p ≡ (lock_of r.0).start) r.1.items) }
         ensures vacant { IfOk result (λ r. IsVacant (lock_of r.0) r.2) }
     {
         let (mut chronicle, unopened) = Chronicle::reserve(alloc, passes)?;

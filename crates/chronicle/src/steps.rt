@@ -8,58 +8,58 @@ use std::marker::{Brand, PhantomData};
 pub(crate) struct Deals;
 
 impl<E> Split<View<E>> for Deals {
-    ghost use Rattle.chronicle.specs.Seats.{dealing, dealt};
+    ghost use Rattle.chronicle.specs.Seats.{dealing, dealt_view};
 
     ghost left = { dealing };
 
-    ghost right = { dealt };
+    ghost right = { dealt_view };
 }
 
 // A new seat without an author has seen the same.
 pub(crate) struct Copies;
 
 impl<E> Split<View<E>> for Copies {
-    ghost use Rattle.chronicle.specs.Seats.{copied};
+    ghost use Rattle.chronicle.specs.Seats.{copied_view};
 
     ghost left = { λ v. v };
 
-    ghost right = { copied };
+    ghost right = { copied_view };
 }
 
 // A seat takes in the list and the authors of another.
 pub(crate) struct Gathers;
 
 impl<E> Join<View<E>> for Gathers {
-    ghost use Rattle.chronicle.specs.Seats.{gathered, spent};
+    ghost use Rattle.chronicle.specs.Seats.{gathered_view, spent_view};
 
-    ghost both = { gathered };
+    ghost both = { gathered_view };
 
-    ghost spent = { spent };
+    ghost spent = { spent_view };
 }
 
 // After a join: the two lists are parts of one log.
 pub(crate) struct Compares;
 
 impl<M, E> Play<Option<M>, View<E>> for Compares {
-    ghost use Rattle.chronicle.specs.Steps.{Compared};
+    ghost use Rattle.chronicle.specs.Steps.{ComparesLogs};
 
-    ghost then = { Compared };
+    ghost then = { ComparesLogs };
 }
 
 pub(crate) struct Enters;
 
 impl<M: Machine> Play<Option<M>, View<M::Entry>> for Enters {
-    ghost use Rattle.chronicle.specs.Steps.{Entered};
+    ghost use Rattle.chronicle.specs.Steps.{EntersLock};
 
-    ghost then = { Entered M.frame M.log };
+    ghost then = { EntersLock M.frame M.log };
 }
 
 pub(crate) struct Leaves;
 
 impl<M: Machine> Play<Option<M>, View<M::Entry>> for Leaves {
-    ghost use Rattle.chronicle.specs.Steps.{Left};
+    ghost use Rattle.chronicle.specs.Steps.{LeavesLock};
 
-    ghost then = { Left M.log };
+    ghost then = { LeavesLock M.log };
 }
 
 // The frame and the log that a lock begins with.
@@ -85,7 +85,7 @@ pub(crate) struct Opens<J> {
 }
 
 impl<M: Machine, J: Opening<M::Entry>> Play<Option<M>, View<M::Entry>> for Opens<J> {
-    ghost use Rattle.chronicle.specs.Steps.{Opened};
+    ghost use Rattle.chronicle.specs.Steps.{OpensLock};
 
-    ghost then = { Opened J.frame J.log };
+    ghost then = { OpensLock J.frame J.log };
 }

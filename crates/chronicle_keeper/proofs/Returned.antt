@@ -9,8 +9,8 @@ use Rattle.std.proofs.Math.Seq.{take-append_seam}
 use Rattle.chronicle.specs.declared.pass.Pass.{Pass}
 use Rattle.chronicle.specs.Logs.{Log, entries_of}
 use Rattle.chronicle.specs.Locks.{Lock}
-use Rattle.chronicle.specs.Passes.{IsReady, AreAll, number_of, seen, own}
-use Rattle.chronicle_keeper.specs.Totals.{numbered}
+use Rattle.chronicle.specs.Passes.{IsReady, AreAll, number_of, seen_by_pass, own_entries}
+use Rattle.chronicle_keeper.specs.Totals.{numbered_by}
 use Rattle.chronicle_keeper.specs.Additions.{HasAdded, EachAdded}
 
 -- what was written behind a reference to all elements is the list
@@ -39,7 +39,7 @@ module _ (lock : Lock ℕ) (count : ℕ) (old new : List (Pass ℕ)) (numbers : 
       subst (AreAll lock) (sym (written n new behind long)) all
 
   -- and what each has added is in the log
-  pub each_added : (n : ℕ) (behind : List (Pass ℕ)) (start log : Log ℕ) → length new ≡ n → start ≡ [] → All (λ p. seen p ≡ start) old → All (λ p. entries_of (number_of p) log ≡ own p) (take n (new ++ drop (length new) behind)) → EachAdded lock.passes count log
+  pub each_added : (n : ℕ) (behind : List (Pass ℕ)) (start log : Log ℕ) → length new ≡ n → start ≡ [] → All (λ p. seen_by_pass p ≡ start) old → All (λ p. entries_of (number_of p) log ≡ own_entries p) (take n (new ++ drop (length new) behind)) → EachAdded lock.passes count log
   each_added n behind start log long none began kept author low =
       let many : length old ≡ lock.passes = sym (length-map old number_of) ∙ (ap (λ (l : List ℕ). length l) numbers ∙ length-range_with_len 0 lock.passes) in
       let here : author < length old = omega arith in
@@ -50,6 +50,6 @@ module _ (lock : Lock ℕ) (count : ℕ) (old new : List (Pass ℕ)) (numbers : 
       let at : get_or (range_with_len 0 lock.passes) author author ≡ author = omega (arith, get_or-range_with_len 0 lock.passes author author low) in
       let is : number_of p ≡ author = sym (get_or-map number_of old author d author here) ∙ (ap (λ (l : List ℕ). get_or l author author) numbers ∙ at) in
       let h : HasAdded 0 count p q = added author d here in
-      let empty : own p ≡ [] = ap (entries_of (number_of p)) (began author d here ∙ none) in
-      let now : entries_of (number_of q) log ≡ own q = subst (All (λ r. entries_of (number_of r) log ≡ own r)) (written n new behind long) kept author d there in
-      (h.count, h.few, ap (λ (k : ℕ). entries_of k log) (sym (h.number_is ∙ is)) ∙ (now ∙ (h.own_is ∙ (ap (λ (l : List (ℕ × ℕ)). l ++ numbered (number_of p) 0 h.count) empty ∙ ap (λ (k : ℕ). numbered k 0 h.count) is))))
+      let empty : own_entries p ≡ [] = ap (entries_of (number_of p)) (began author d here ∙ none) in
+      let now : entries_of (number_of q) log ≡ own_entries q = subst (All (λ r. entries_of (number_of r) log ≡ own_entries r)) (written n new behind long) kept author d there in
+      (h.count, h.few, ap (λ (k : ℕ). entries_of k log) (sym (h.number_is ∙ is)) ∙ (now ∙ (h.own_is ∙ (ap (λ (l : List (ℕ × ℕ)). l ++ numbered_by (number_of p) 0 h.count) empty ∙ ap (λ (k : ℕ). numbered_by k 0 h.count) is))))

@@ -3,8 +3,8 @@ ghost use Rattle.std.specs.Prelude.{◌≡◌, ◌+◌, ◌-◌, ◌^◌, ◌<�
 ghost use mathlib.Core.List.{IsPrefix};
 ghost use Rattle.chronicle.specs.Logs.{IsGrown};
 ghost use Rattle.chronicle.specs.Locks.{lock_of};
-ghost use Rattle.chronicle.specs.Passes.{IsReady, number_of, seen, own};
-ghost use Rattle.chronicle_keeper.specs.Totals.{numbered, total_of};
+ghost use Rattle.chronicle.specs.Passes.{IsReady, number_of, seen_by_pass, own_entries};
+ghost use Rattle.chronicle_keeper.specs.Totals.{numbered_by, total_of};
 ghost use Rattle.chronicle_keeper.specs.Additions.{HasAdded, EachAdded};
 
 use crate::tally::{Refused, Tally};
@@ -24,11 +24,11 @@ pub fn add<R: Wait>(
     requires { IsReady (lock_of shared.now) pass.old }
     ensures ready { IsReady (lock_of shared.now) pass.new }
     ensures number { number_of pass.new ≡ number_of pass.old }
-    ensures seen { IsPrefix (seen pass.old) (seen pass.new) }
-    ensures own { MatchResult result (λ _. own pass.new ≡ own pass.old
-        ++ (number_of pass.old, value) ∷ []) (λ _. own pass.new ≡ own pass.old) }
-    ensures too_large { result ≡ Err Refused.TooLarge → 2 ^ 64 ≤ total_of (seen pass.new) + value }
-    ensures memory { result ≡ Err Refused.Memory → total_of (seen pass.new) + value < 2 ^ 64 }
+    ensures seen { IsPrefix (seen_by_pass pass.old) (seen_by_pass pass.new) }
+    ensures own { MatchResult result (λ _. own_entries pass.new ≡ own_entries pass.old
+        ++ (number_of pass.old, value) ∷ []) (λ _. own_entries pass.new ≡ own_entries pass.old) }
+    ensures too_large { result ≡ Err Refused.TooLarge → 2 ^ 64 ≤ total_of (seen_by_pass pass.new) + value }
+    ensures memory { result ≡ Err Refused.Memory → total_of (seen_by_pass pass.new) + value < 2 ^ 64 }
 {
     let author = pass.number();
     let mut held = shared.enter(rt, pass);
@@ -42,8 +42,8 @@ pub fn total<R: Wait>(rt: &R, shared: &Chronicle<Tally>, pass: &mut Pass<u64>) -
     requires { IsReady (lock_of shared.now) pass.old }
     ensures ready { IsReady (lock_of shared.now) pass.new }
     ensures number { number_of pass.new ≡ number_of pass.old }
-    ensures own { own pass.new ≡ own pass.old }
-    ensures total { result ≡ total_of (seen pass.new) }
+    ensures own { own_entries pass.new ≡ own_entries pass.old }
+    ensures total { result ≡ total_of (seen_by_pass pass.new) }
 {
     let mut held = shared.enter(rt, pass);
     let total = held.state().total();
@@ -63,7 +63,8 @@ pub fn add_range<R: Wait>(
     requires range { from ≤ to }
     ensures ready { IsReady (lock_of shared.now) pass.new }
     ensures added { HasAdded from (to - from) pass.old pass.new }
-    ensures own { OnOk result (own pass.new ≡ own pass.old ++ numbered (number_of pass.old) from (to - from)) }
+    ensures own { OnOk result (own_entries pass.new
+        ≡ own_entries pass.old ++ numbered_by (number_of pass.old) from (to - from)) }
 {
     for value in from..to {
         add(rt, shared, pass, value)?;

@@ -1,7 +1,7 @@
 //! A hold inside a hold.
 ghost use Rattle.std.specs.Prelude.{◌≡◌, [], ◌∷◌, ◌++◌, OnOk};
 ghost use Rattle.chronicle.specs.Locks.{lock_of};
-ghost use Rattle.chronicle.specs.Passes.{IsReady, number_of, own};
+ghost use Rattle.chronicle.specs.Passes.{IsReady, number_of, own_entries};
 ghost use Rattle.chronicle_keeper.specs.Additions.{HasAdded};
 
 use crate::tally::{Refused, Tally};
@@ -31,9 +31,9 @@ pub fn add_to_both<R: Wait>(
     ensures inner { IsReady (lock_of inner.now) owner.new.inner }
     ensures outer_added { HasAdded value 1 owner.old.outer owner.new.outer }
     ensures inner_added { HasAdded value 1 owner.old.inner owner.new.inner }
-    ensures outer_own { OnOk result (own owner.new.outer ≡ own owner.old.outer
+    ensures outer_own { OnOk result (own_entries owner.new.outer ≡ own_entries owner.old.outer
         ++ (number_of owner.old.outer, value) ∷ []) }
-    ensures inner_own { OnOk result (own owner.new.inner ≡ own owner.old.inner
+    ensures inner_own { OnOk result (own_entries owner.new.inner ≡ own_entries owner.old.inner
         ++ (number_of owner.old.inner, value) ∷ []) }
 {
     let outer_author = owner.outer.number();

@@ -2,8 +2,8 @@
 ghost use Rattle.std.specs.Prelude.{◌≡◌, [], ◌∷◌, ◌++◌, All, IfOk, vec_len};
 ghost use Rattle.chronicle.specs.Logs.{entries_of};
 ghost use Rattle.chronicle.specs.Locks.{lock_of, LockStartsWith, IsFilled};
-ghost use Rattle.chronicle.specs.Passes.{IsReady, IsNote, number_of, seen, noted, own};
-ghost use Rattle.chronicle_keeper.specs.Totals.{numbered};
+ghost use Rattle.chronicle.specs.Passes.{IsReady, IsNote, number_of, seen_by_pass, seen_by_note, own_entries};
+ghost use Rattle.chronicle_keeper.specs.Totals.{numbered_by};
 ghost use Rattle.chronicle_keeper.specs.Additions.{HasAdded};
 
 use crate::adding::add_range;
@@ -38,9 +38,9 @@ pub fn five_noted<R: Wait>(
     ensures ready { IsReady (lock_of shared.now) pass.new }
     ensures added { HasAdded 0 5 pass.old pass.new }
     ensures note { IfOk result (IsNote (lock_of shared.now)) }
-    ensures one { IfOk result (λ n. noted n ≡ seen pass.new) }
-    ensures five { IfOk result (λ n. entries_of (number_of pass.old) (noted n) ≡ own pass.old
-        ++ numbered (number_of pass.old) 0 5) }
+    ensures one { IfOk result (λ n. seen_by_note n ≡ seen_by_pass pass.new) }
+    ensures five { IfOk result (λ n. entries_of (number_of pass.old) (seen_by_note n) ≡ own_entries pass.old
+        ++ numbered_by (number_of pass.old) 0 5) }
 {
     add_range(rt, shared, pass, 0, 3)?;
     let mut note = shared.note(pass);

@@ -13,7 +13,10 @@ struct Note {
 impl Stamped for Note {
     ghost use Rattle.std.specs.Prelude.{[], ◌∷◌};
 
-    ghost stamp_of = { λ note. record { home = 0; clock = record { epoch = 0; counts = note.count ∷ 0 ∷ 0 ∷ 0 ∷ 0 ∷ 0 ∷ 0 ∷ 0 ∷ [] } } };
+    ghost stamp_of = { λ note. record {
+      home = 0;
+      clock = record { epoch = 0; counts = note.count ∷ 0 ∷ 0 ∷ 0 ∷ 0 ∷ 0 ∷ 0 ∷ 0 ∷ [] };
+    } };
 
     fn stamp(&self) -> Stamp {
         Stamp {

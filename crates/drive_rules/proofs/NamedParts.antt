@@ -16,8 +16,8 @@ use Rattle.weave_entries.specs.declared.store_log.StoreDeed.{StoreDeed}
 use Rattle.weave_entries.specs.declared.store_log.StoreDeed.TheVariants.{Judged}
 use Rattle.weave_entries.specs.declared.verdict.Counted.{Counted}
 use Rattle.weave_entries.specs.declared.verdict.Verdict.TheVariants.{Committed, Conflict, Refused}
-use Rattle.weave_entries.specs.GateReplay.{Begun, addressed_to}
-use Rattle.weave_entries.specs.Sending.{keeps, message_to, messages_of, part_for, parts_for, shards_named}
+use Rattle.weave_entries.specs.GateReplay.{BegunRequest, addressed_to}
+use Rattle.weave_entries.specs.Sending.{is_kept_at, message_to, messages_of, part_for, parts_for, shards_named}
 use Rattle.weave_entries.specs.StoreReplay.{Commit, commit_by, commits_of, count_naming, judged_by, names_vertex}
 use Rattle.weave_account.specs.declared.account.Account.{Account}
 use Rattle.weave_account.specs.Account.{gate_log}
@@ -40,7 +40,7 @@ pub record IsPartBy (deed : StoreDeed) (before : List Commit) (message : Message
 
 -- the parts in the messages of a deed that passed are like this
 part-by : (shards author : ℕ) (deed : StoreDeed) (before : List Commit) → PassesAs before (judged_by author deed).ops (judged_by author deed).verdict
-    → (log : List GateEntry) (begun : Begun) → begun.stamp ≡ (judged_by author deed).stamp
+    → (log : List GateEntry) (begun : BegunRequest) → begun.stamp ≡ (judged_by author deed).stamp
     → (a : Addressed) → Contains (messages_of shards log begun (judged_by author deed).ops (judged_by author deed).verdict) a
     → (part : Part) → Contains a.message.parts part → IsPartBy deed before a.message part
 part-by shards author (Judged r stamp ops asked (Conflict v newer)) before passes log begun stamp-is a h part k = absurd (has_none a h)
@@ -48,8 +48,8 @@ part-by shards author (Judged r stamp ops asked (Refused op reason at)) before p
 part-by shards author (Judged r stamp ops asked (Committed number answers counts)) before passes log begun stamp-is a h part k =
     let image = map_has (message_to shards log begun ops counts) (shards_named shards counts) a h in
     let there : Contains (parts_for shards image.0 ops counts) part = subst (λ (m : Addressed). Contains m.message.parts part) (sym image.2) k in
-    let from = map_has (part_for ops) (filter (keeps shards image.0) counts) part there in
-    let counted = (filter_has (keeps shards image.0) counts from.0 from.1).0 in
+    let from = map_has (part_for ops) (filter (is_kept_at shards image.0) counts) part there in
+    let counted = (filter_has (is_kept_at shards image.0) counts from.0 from.1).0 in
     let name = map_has {B = Counted} (λ (w : Name). record { vertex = w; before = count_naming w before }) (named_by ops) from.0 (subst (λ cs. Contains cs from.0) passes.counts_are counted) in
     let is : part ≡ part_for ops (record { vertex = name.0; before = count_naming name.0 before }) = sym from.2 ∙ ap (part_for ops) (sym name.2) in
     record {

@@ -23,7 +23,7 @@ use Rattle.weave_entries.specs.declared.message.Message.{Message}
 use Rattle.weave_entries.specs.declared.shard_log.ShardEntry.{ShardEntry}
 use Rattle.weave_entries.specs.declared.shard_log.ShardDeed.{ShardDeed}
 use Rattle.weave_entries.specs.declared.shard_log.ShardDeed.TheVariants as deeds
-use Rattle.weave_entries.specs.GateReplay.{Begun, channel_of, flight_of, program_begun}
+use Rattle.weave_entries.specs.GateReplay.{BegunRequest, channel_of, flight_of, program_begun}
 use Rattle.weave_entries.specs.ShardReplay.{Visit as OneVisit, bound_of, processed_count, visit_by, visits_of}
 use Rattle.weave_entries.specs.StoreReplay.{Judgement}
 use Rattle.weave_account.specs.declared.account.Account.{Account}
@@ -90,11 +90,11 @@ module _ (laws : LawsForReadiness) (script : Script) (state : CoreState) (r : �
   begins q None shard = refl
   begins q (Some request) shard = refl
 
-  judges : (o : Option Begun) → SameVisits r account (after_judge script account o)
+  judges : (o : Option BegunRequest) → SameVisits r account (after_judge script account o)
   judges None shard = refl
   judges (Some flight) shard = refl
 
-  sends : (g : ℕ) (o : Option Begun) (judged : Option Judgement) → SameVisits r account (after_send script account g o judged)
+  sends : (g : ℕ) (o : Option BegunRequest) (judged : Option Judgement) → SameVisits r account (after_send script account g o judged)
   sends g None None shard = refl
   sends g None (Some judged) shard = refl
   sends g (Some flight) None shard = refl
@@ -108,7 +108,7 @@ module _ (laws : LawsForReadiness) (script : Script) (state : CoreState) (r : �
   delivers g s number None shard = refl
   delivers g s number (Some message) shard = shard-deed laws r account s (deeds.Arrived g number message) refl shard
 
-  visits : (q : ℕ) → q ≢ r → (o : Option Begun) (next : Option Name) → SameVisits r account (after_visit script account q o next)
+  visits : (q : ℕ) → q ≢ r → (o : Option BegunRequest) (next : Option Name) → SameVisits r account (after_visit script account q o next)
   visits q differ None None shard = refl
   visits q differ None (Some v) shard = refl
   visits q differ (Some begun) None shard = refl
@@ -119,7 +119,7 @@ module _ (laws : LawsForReadiness) (script : Script) (state : CoreState) (r : �
   visits-at q differ None shard = refl
   visits-at q differ (Some request) shard = visits q differ (program_begun q (gate_log account request.gate)) (next_vertex account q request.work) shard
 
-  finishes : (q g : ℕ) (o : Option Begun) → (with_finish account q g o).shards ≡ account.shards
+  finishes : (q g : ℕ) (o : Option BegunRequest) → (with_finish account q g o).shards ≡ account.shards
   finishes q g None = refl
   finishes q g (Some begun) = refl
 
@@ -171,7 +171,7 @@ module _ (laws : LawsForReadiness) (script : Script) (state : CoreState) (r : �
           ∙ ap (λ o. is_ok (answer_of_visit script account (program_begun r (gate_log account request.gate)) o)) whole
           ∙ at (program_begun r (gate_log account request.gate))
         where
-          at : (o : Option Begun) → is_ok (answer_of_visit script account o None) ≡ false
+          at : (o : Option BegunRequest) → is_ok (answer_of_visit script account o None) ≡ false
           at None = refl
           at (Some begun) = refl
 

@@ -16,17 +16,17 @@ use Rattle.std.specs.BTreeMap.{is_at}
 use Rattle.weave_data.proofs.Members.{filter_has, has_head, has_none, has_read, has_tail, map_has, only}
 use Rattle.weave_data.specs.declared.name.Name.{Name}
 use Rattle.graph_ops.specs.Mentions.{is_among}
-use Rattle.graph_ops.specs.Operations.{State, applied, target_of}
+use Rattle.graph_ops.specs.Operations.{State, outcome_of_op, target_of}
 use Rattle.graph_ops.specs.PlainGraph.{PlainGraph}
-use Rattle.graph_ops.specs.VertexOps.{state_after, state_left}
+use Rattle.graph_ops.specs.VertexOps.{state_after_ops, state_left}
 use Rattle.graph_ops.specs.declared.record.Edge.{Edge}
 use Rattle.graph_ops.specs.declared.op.Op.{Op}
 use Rattle.graph_ops.proofs.EachOp.{EdgesKeep, HasGood, edges-kept}
 use Rattle.program_defs.specs.declared.program.Filter.{Filter}
 use Rattle.program_defs.specs.declared.program.Program.{Program}
 use Rattle.program_defs.specs.declared.program.Program.TheVariants.{Show, Reach, Around, Path}
-use Rattle.program_defs.specs.Walks.{targets, passes}
-use Rattle.program_defs.specs.Visits.{targets_of_all, not_among, as_set, levels_to, through, through_level, up_to, visits_to}
+use Rattle.program_defs.specs.Walks.{targets, passes_filter}
+use Rattle.program_defs.specs.Visits.{targets_of_all, not_among, as_set, levels_to, names_through, through_level, up_to, visits_to}
 use Rattle.weave_entries.specs.ShardReplay.{Update, state_of_updates}
 
 -- the target that an operation brings
@@ -107,22 +107,22 @@ module _ (names : List Name) where
     retag = λ name edge tags edges leads is. with-edge name (record edge { tags = tags }) edges leads (at-edge (is_at (name_cmp name)) edges edge leads is);
   }
 
-  applied-leads : (op : Op) (state : State) → LeadsIn state → ((w : Name) → Contains (target_by op) w → In w) → LeadsIn (state_left state (applied op state))
+  applied-leads : (op : Op) (state : State) → LeadsIn state → ((w : Name) → Contains (target_by op) w → In w) → LeadsIn (state_left state (outcome_of_op op state))
   applied-leads op state before target = edges-kept Leads In leads-kept op state before (at (target_of op) target)
     where
       at : (o : Option Name) → ((w : Name) → Contains (option_to_list o) w → In w) → IfSome o In
       at None among = tt
       at (Some target) among = among target (has_head target [])
 
-  ops-lead : (ops : List Op) (state : State) → LeadsIn state → ((op : Op) → Contains ops op → (w : Name) → Contains (target_by op) w → In w) → LeadsIn (state_after ops state)
+  ops-lead : (ops : List Op) (state : State) → LeadsIn state → ((op : Op) → Contains ops op → (w : Name) → Contains (target_by op) w → In w) → LeadsIn (state_after_ops ops state)
   ops-lead [] state before targets = before
-  ops-lead (op ∷ ops) state before targets = ops-lead ops (state_left state (applied op state)) (applied-leads op state before (targets op (has_head op ops))) (λ o h. targets o (has_tail op ops o h))
+  ops-lead (op ∷ ops) state before targets = ops-lead ops (state_left state (outcome_of_op op state)) (applied-leads op state before (targets op (has_head op ops))) (λ o h. targets o (has_tail op ops o h))
 
   updates-from : (updates : List Update) (state : State) → LeadsIn state → ((update : Update) → Contains updates update → (op : Op) → Contains update.ops op → (w : Name) → Contains (target_by op) w → In w)
-      → LeadsIn (fold (λ state (update : Update). state_after update.ops state) state updates)
+      → LeadsIn (fold (λ state (update : Update). state_after_ops update.ops state) state updates)
   updates-from [] state before targets = before
   updates-from (update ∷ updates) state before targets =
-      updates-from updates (state_after update.ops state) (ops-lead update.ops state before (targets update (has_head update updates))) (λ u h. targets u (has_tail update updates u h))
+      updates-from updates (state_after_ops update.ops state) (ops-lead update.ops state before (targets update (has_head update updates))) (λ u h. targets u (has_tail update updates u h))
 
   -- a state after updates whose links lead to the names
   pub updates-lead : (updates : List Update) → ((update : Update) → Contains updates update → (op : Op) → Contains update.ops op → (w : Name) → Contains (target_by op) w → In w) → LeadsIn (state_of_updates updates)
@@ -130,10 +130,10 @@ module _ (names : List Name) where
 
   -- Visits
 
-  passing-in : (pass : Option Filter) (edges : List Edge) (w : Name) → All (λ (edge : Edge). In edge.target) edges → Contains (map (λ (edge : Edge). edge.target) (filter (passes pass) edges)) w → In w
+  passing-in : (pass : Option Filter) (edges : List Edge) (w : Name) → All (λ (edge : Edge). In edge.target) edges → Contains (map (λ (edge : Edge). edge.target) (filter (passes_filter pass) edges)) w → In w
   passing-in pass edges w leads h =
-      let from = map_has (λ (edge : Edge). edge.target) (filter (passes pass) edges) w h in
-      let there = (filter_has (passes pass) edges from.0 from.1).0 in
+      let from = map_has (λ (edge : Edge). edge.target) (filter (passes_filter pass) edges) w h in
+      let there = (filter_has (passes_filter pass) edges from.0 from.1).0 in
       subst In from.2 (subst (λ (edge : Edge). In edge.target) there.2 (leads there.0 from.0 there.1))
 
   target-in : (pass : Option Filter) (state : State) (w : Name) → LeadsIn state → Contains (targets pass state) w → In w
@@ -152,9 +152,9 @@ module _ (names : List Name) where
     through-in pass start here zero w h = subst In (only start w h) here
     through-in pass start here (suc n) w h =
         let levels = levels_to n graph pass start in
-        elim (Contains-append_cases (through levels) (as_set (not_among (through levels) (targets_of_all graph pass levels.level))) w h) [
+        elim (Contains-append_cases (names_through levels) (as_set (not_among (names_through levels) (targets_of_all graph pass levels.level))) w h) [
           | inl before ↦ through-in pass start here n w before
-          | inr new ↦ all-targets-in pass levels.level w (filter_has (λ v. not (is_among (through levels) v)) (targets_of_all graph pass levels.level) w (set-only _ w new)).0
+          | inr new ↦ all-targets-in pass levels.level w (filter_has (λ v. not (is_among (names_through levels) v)) (targets_of_all graph pass levels.level) w (set-only _ w new)).0
         ]
 
     -- each vertex that a program visits is its start, or one to which an edge leads

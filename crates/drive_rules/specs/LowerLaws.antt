@@ -2,13 +2,14 @@
 use Rattle.std.specs.Prelude.{◌≡◌, ◌↔◌, ℕ, ◌+◌, ◌<◌, ◌==◌, cond, List, [], ◌∷◌, ◌++◌, map, take, length, AllPairs, Contains, IsSomeAnd, IsTrue, Some}
 use Rattle.weave_data.specs.declared.name.Name.{Name}
 use Rattle.weave_data.specs.Names.{shard_of}
+use Rattle.weave_data.specs.Limits.{most_gates}
 use Rattle.graph_ops.specs.Mentions.{is_among}
 use Rattle.graph_ops.specs.declared.part.Part.{Part}
 use Rattle.vector_stamp.specs.declared.clock.Clock.{Clock}
 use Rattle.vector_stamp.specs.declared.clock.Stamp.{Stamp}
 use Rattle.vector_stamp.specs.Order.{HasEightCounts, is_at_most, is_before, stamp_before}
 use Rattle.vector_stamp.specs.Clocks.{clock_after_hearing, clock_after_tick, counts_no_more}
-use Rattle.vector_stamp.specs.Precedence.{Given, IsAcyclic, Precedes, precedes}
+use Rattle.vector_stamp.specs.Precedence.{GivenPair, IsAcyclic, Precedes, precedes}
 use Rattle.program_defs.specs.declared.script.Request.{Request}
 use Rattle.program_defs.specs.declared.script.Script.{Script}
 use Rattle.program_defs.specs.declared.script.Step.{Step}
@@ -45,26 +46,26 @@ pub record ReadinessOfStamps : Type 0 where
   -- clocks_are_ordered
   pub at_most_before : (a b c : Clock) → IsTrue (is_at_most a b) → IsTrue (is_before b c) → IsTrue (is_before a c)
   -- ticks_rise
-  pub ticks : (home : ℕ) (clock : Clock) → home < 8 → HasEightCounts clock
+  pub ticks : (home : ℕ) (clock : Clock) → home < most_gates → HasEightCounts clock
       → IsTrue (is_before clock (clock_after_tick home clock))
   -- hearing_brings_order
-  pub then_after : (home : ℕ) (clock heard : Clock) → home < 8 → HasEightCounts clock → HasEightCounts heard
+  pub then_after : (home : ℕ) (clock heard : Clock) → home < most_gates → HasEightCounts clock → HasEightCounts heard
       → IsTrue (counts_no_more home clock heard)
       → IsTrue (is_before heard (clock_after_tick home (clock_after_hearing home clock heard)))
   -- precedence_is_decided
-  pub tested : (pairs : List Given) (a b : Stamp) → Precedes pairs a b ↔ IsTrue (precedes pairs a b)
+  pub tested : (pairs : List GivenPair) (a b : Stamp) → Precedes pairs a b ↔ IsTrue (precedes pairs a b)
 
 -- logs
 pub record ReadinessOfLogs : Type 0 where
   -- stamps_rise
-  pub under : (home shards : ℕ) (log : List GateEntry) → home < 8 → IsGateLog home shards log → (stamp : Stamp)
+  pub under : (home shards : ℕ) (log : List GateEntry) → home < most_gates → IsGateLog home shards log → (stamp : Stamp)
       → Contains (stamps_of log) stamp → IsTrue (is_at_most stamp.clock (clock_of home log))
-  pub homes : (home shards : ℕ) (log : List GateEntry) → home < 8 → IsGateLog home shards log → (stamp : Stamp)
+  pub homes : (home shards : ℕ) (log : List GateEntry) → home < most_gates → IsGateLog home shards log → (stamp : Stamp)
       → Contains (stamps_of log) stamp → stamp.home ≡ home
-  pub eight : (home shards : ℕ) (log : List GateEntry) → home < 8 → IsGateLog home shards log
+  pub eight : (home shards : ℕ) (log : List GateEntry) → home < most_gates → IsGateLog home shards log
       → HasEightCounts (clock_of home log)
   -- channels_rise
-  pub channel : (home shards shard : ℕ) (log : List GateEntry) → home < 8 → IsGateLog home shards log
+  pub channel : (home shards shard : ℕ) (log : List GateEntry) → home < most_gates → IsGateLog home shards log
       → IsChannel shard log
   -- stamps_are_its_own
   pub sent : (home shards shard : ℕ) (log : List GateEntry) → IsGateLog home shards log → (message : Message)
@@ -123,7 +124,8 @@ pub record ReadinessOfAccounts : Type 0 where
   -- clocks_are_known
   pub known : (script : Script) (account : Account) → IsWithinLimits script → IsAccount script account
       → (home : ℕ) → IsKnown account (clock_of home (gate_log account home))
-  pub may_be_heard : (shards home : ℕ) (account : Account) → home < 8 → IsGateLog home shards (gate_log account home)
+  pub may_be_heard : (shards home : ℕ) (account : Account) → home < most_gates
+      → IsGateLog home shards (gate_log account home)
       → (clock : Clock) → IsKnown account clock
       → IsTrue (counts_no_more home (clock_of home (gate_log account home)) clock)
   -- facts_stay_true

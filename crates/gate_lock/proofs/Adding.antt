@@ -24,10 +24,10 @@ use Rattle.weave_account.specs.Clocks.{IsKnown}
 use Rattle.weave_account.specs.GoesOn.{GoesOn}
 use Rattle.seen_logs.specs.References.{GateRefersAs}
 use Rattle.seen_logs.specs.Seen.{AreLegal, IsWithin}
-use Rattle.chronicle.specs.Passes.{noted}
+use Rattle.chronicle.specs.Passes.{seen_by_note}
 use Rattle.gate_lock.specs.declared.notes.GateNotes.{GateNotes}
 use Rattle.gate_lock.specs.LowerLaws.{LawsForGateNotes}
-use Rattle.gate_lock.specs.Notes.{GateIsKept, seen_of}
+use Rattle.gate_lock.specs.Notes.{GateIsKept, seen_of_gate}
 use Rattle.gate_lock.proofs.Accounts.{at_home, elsewhere, grows}
 
 abbrev entry_by : ℕ → GateDeed → GateEntry
@@ -43,6 +43,7 @@ added gate author deed spare = record {
   spare = spare;
 }
 
+-- a gatekeeper to whose log an entry was added is the old one with this entry at the end, and its own spare room
 pub is_added : (old new : GateView) (author : ℕ) (deed : GateDeed) → Adds old new author deed → new ≡ added old author deed new.spare
 is_added old new author deed adds = λ i. record {
   home = adds.home i;
@@ -59,25 +60,25 @@ some_script = record { gates = 0; shards = 0; requests = []; phases = []; steps 
 -- The own log
 
 -- a gatekeeper's log is whole in what it has seen
-pub own_log : (gate : GateView) (notes : GateNotes) → GateIsKept gate notes → gate_log (seen_of gate notes) gate.home ≡ gate.log
+pub own_log : (gate : GateView) (notes : GateNotes) → GateIsKept gate notes → gate_log (seen_of_gate gate notes) gate.home ≡ gate.log
 own_log gate notes kept =
-    at_home gate.home gate.log (map noted notes.gates.items) (noted notes.store) (map noted notes.shards.items)
-    (omega (arith, length-map notes.gates.items noted, kept.gates, kept.home))
+    at_home gate.home gate.log (map seen_by_note notes.gates.items) (seen_by_note notes.store) (map seen_by_note notes.shards.items)
+    (omega (arith, length-map notes.gates.items seen_by_note, kept.gates, kept.home))
 
 module _ (laws : LawsForGateNotes) (gate : GateView) (notes : GateNotes) (kept : GateIsKept gate notes) (small : gate.home < 8) where
   abbrev known_now : Clock → Type 0
-  known_now clock = IsKnown (seen_of gate notes) clock
+  known_now clock = IsKnown (seen_of_gate gate notes) clock
 
   -- the clock is known
   pub clock_known : known_now (clock_of gate.home gate.log)
   clock_known = subst (λ (l : List GateEntry). known_now (clock_of gate.home l)) (own_log gate notes kept)
-      (laws.own_clock gate.shards (seen_of gate notes) gate.home kept.refers small)
+      (laws.own_clock gate.shards (seen_of_gate gate notes) gate.home kept.refers small)
 
   -- after a known stamp was heard it still is
   pub last_known : (last : Option Stamp) → ForSome last (λ (heard : Stamp). known_now heard.clock) → known_now
       (clock_after_last gate.home (clock_of gate.home gate.log) last)
   last_known None its = clock_known
-  last_known (Some stamp) its = laws.heard (seen_of gate notes) gate.home small (clock_of gate.home gate.log) stamp.clock clock_known (its stamp refl)
+  last_known (Some stamp) its = laws.heard (seen_of_gate gate notes) gate.home small (clock_of gate.home gate.log) stamp.clock clock_known (its stamp refl)
 
   -- a known clock may be heard
   pub hears_known : (rules : IsGateLog gate.home gate.shards gate.log) (clock : Clock) → known_now clock → IsTrue
@@ -85,7 +86,7 @@ module _ (laws : LawsForGateNotes) (gate : GateView) (notes : GateNotes) (kept :
   hears_known rules clock known =
       let own = own_log gate notes kept in
       subst (λ (l : List GateEntry). IsTrue (counts_no_more gate.home (clock_of gate.home l) clock)) own
-      (laws.may_be_heard gate.shards gate.home (seen_of gate notes) small (subst (IsGateLog gate.home gate.shards) (sym own) rules) clock known)
+      (laws.may_be_heard gate.shards gate.home (seen_of_gate gate notes) small (subst (IsGateLog gate.home gate.shards) (sym own) rules) clock known)
 
 -- One more entry
 
@@ -94,29 +95,29 @@ module _ (laws : LawsForGateNotes) (gate : GateView) (notes : GateNotes) (kept :
   more = added gate author deed spare
 
   abbrev before : Account
-  before = seen_of gate notes
+  before = seen_of_gate gate notes
 
   abbrev after : Account
-  after = seen_of more notes
+  after = seen_of_gate more notes
 
-  low : gate.home < length (map noted notes.gates.items)
-  low = omega (arith, length-map notes.gates.items noted, kept.gates, kept.home)
+  low : gate.home < length (map seen_by_note notes.gates.items)
+  low = omega (arith, length-map notes.gates.items seen_by_note, kept.gates, kept.home)
 
   own_before : gate_log before gate.home ≡ gate.log
-  own_before = at_home gate.home gate.log (map noted notes.gates.items) (noted notes.store) (map noted notes.shards.items) low
+  own_before = at_home gate.home gate.log (map seen_by_note notes.gates.items) (seen_by_note notes.store) (map seen_by_note notes.shards.items) low
 
   own_after : gate_log after gate.home ≡ gate.log ++ entry_by author deed ∷ []
-  own_after = at_home gate.home (gate.log ++ entry_by author deed ∷ []) (map noted notes.gates.items) (noted notes.store) (map noted notes.shards.items) low
+  own_after = at_home gate.home (gate.log ++ entry_by author deed ∷ []) (map seen_by_note notes.gates.items) (seen_by_note notes.store) (map seen_by_note notes.shards.items) low
 
   same_prefix : {A : Type 0} (l : List A) → IsPrefix l l
   same_prefix l = ([], append-nil l)
 
   goes : IsWithin before after
-  goes = grows gate.home gate.log (gate.log ++ entry_by author deed ∷ []) (map noted notes.gates.items) (map noted notes.gates.items)
-      (noted notes.store) (noted notes.store)
-      (map noted notes.shards.items) (map noted notes.shards.items) low low (entry_by author deed ∷ [], refl)
-      (λ k other. same_prefix (get_or (map noted notes.gates.items) k []))
-      (same_prefix (noted notes.store)) (λ k. same_prefix (get_or (map noted notes.shards.items) k []))
+  goes = grows gate.home gate.log (gate.log ++ entry_by author deed ∷ []) (map seen_by_note notes.gates.items) (map seen_by_note notes.gates.items)
+      (seen_by_note notes.store) (seen_by_note notes.store)
+      (map seen_by_note notes.shards.items) (map seen_by_note notes.shards.items) low low (entry_by author deed ∷ [], refl)
+      (λ k other. same_prefix (get_or (map seen_by_note notes.gates.items) k []))
+      (same_prefix (seen_by_note notes.store)) (λ k. same_prefix (get_or (map seen_by_note notes.shards.items) k []))
 
   goes_on : GoesOn before after
   goes_on = record {
@@ -148,9 +149,9 @@ module _ (laws : LawsForGateNotes) (gate : GateView) (notes : GateNotes) (kept :
     at_gate : (P : List GateEntry → Type 0) (k : ℕ) → (k ≡ gate.home → P (gate_log after gate.home)) → P (gate_log before k) → P (gate_log after k)
     at_gate P k here there = dite (ℕ_discrete k gate.home)
         (λ e. subst (λ (j : ℕ). P (gate_log after j)) (sym e) (here e))
-        (λ other. subst P (elsewhere gate.home gate.log (map noted notes.gates.items) (noted notes.store) (map noted notes.shards.items) k other
-        ∙ sym (elsewhere gate.home (gate.log ++ entry_by author deed ∷ []) (map noted notes.gates.items) (noted notes.store)
-        (map noted notes.shards.items) k other)) there)
+        (λ other. subst P (elsewhere gate.home gate.log (map seen_by_note notes.gates.items) (seen_by_note notes.store) (map seen_by_note notes.shards.items) k other
+        ∙ sym (elsewhere gate.home (gate.log ++ entry_by author deed ∷ []) (map seen_by_note notes.gates.items) (seen_by_note notes.store)
+        (map seen_by_note notes.shards.items) k other)) there)
 
     legal : AreLegal gate.gates gate.shards after
     legal = record {
@@ -199,12 +200,12 @@ module _ (laws : LawsForGateNotes) (old new : GateView) (notes : GateNotes) (kep
   its_rules = subst (λ (v : GateView). IsGateLog v.home v.shards v.log) (is_added old new author deed adds) rules
 
   -- with an entry that refers to what was seen, the new entry with it
-  pub kept_after : GateRefersAs (seen_of (added old author deed new.spare) notes) old.shards old.log author deed → GateIsKept new notes
+  pub kept_after : GateRefersAs (seen_of_gate (added old author deed new.spare) notes) old.shards old.log author deed → GateIsKept new notes
   kept_after refers = subst (λ (v : GateView). GateIsKept v notes) (sym (is_added old new author deed adds))
       (kept_more laws old notes kept author deed new.spare its_rules hears refers)
 
   -- with an entry that refers to what was seen
-  pub kept_then : GateRefersAs (seen_of old notes) old.shards old.log author deed → GateIsKept new notes
+  pub kept_then : GateRefersAs (seen_of_gate old notes) old.shards old.log author deed → GateIsKept new notes
   kept_then refers = kept_after (refers_still laws old notes kept author deed new.spare its_rules hears refers)
 
 -- as before
@@ -223,31 +224,33 @@ pub record IsBegin (deed : Stamp → GateDeed) : Type 0 where
 module _ (laws : LawsForGateNotes) (old new : GateView) (notes : GateNotes) (kept : GateIsKept old notes) (small : old.home < 8)
     (rules : IsGateLog old.home old.shards old.log) (author : ℕ)
     (deed : Stamp → GateDeed) (is_begin : IsBegin deed) (last : Option Stamp) (its : ForSome last
-    (λ (heard : Stamp). IsKnown (seen_of old notes) heard.clock))
+    (λ (heard : Stamp). IsKnown (seen_of_gate old notes) heard.clock))
     (rules_now : IsGateLog new.home new.shards new.log) where
   abbrev now : Stamp
   now = begun_stamp old.home (clock_of old.home old.log) last
 
-  stamp_known : (stamp : Stamp) → stamp ≡ now → (spare : ℕ) → IsKnown (seen_of (added old author (deed stamp) spare) notes) stamp.clock
+  stamp_known : (stamp : Stamp) → stamp ≡ now → (spare : ℕ) → IsKnown (seen_of_gate (added old author (deed stamp) spare) notes) stamp.clock
   stamp_known stamp is spare =
       let clock = clock_after_last old.home (clock_of old.home old.log) last in
       let known = last_known laws old notes kept small last its in
       let made : stamps_by (deed stamp) ≡ next_stamp old.home clock ∷ [] = is_begin.event stamp ∙ ap (λ (s : Stamp). s ∷ []) is in
-      subst (λ (c : Clock). IsKnown (seen_of (added old author (deed stamp) spare) notes) c) (sym (ap (λ (s : Stamp). s.clock) is))
+      subst (λ (c : Clock). IsKnown (seen_of_gate (added old author (deed stamp) spare) notes) c) (sym (ap (λ (s : Stamp). s.clock) is))
       (stamped laws old notes kept author (deed stamp) spare small clock known made)
 
+  -- after a begin, and after one that was refused, the gatekeeper keeps what its type keeps
   pub kept_begun : {F : Type 0} (r : Result Stamp F) → IfOk r (λ (stamp : Stamp). stamp ≡ now) → IfOk r
       (λ (stamp : Stamp). Adds old new author (deed stamp)) → OnErr r (new ≡ old) → GateIsKept new notes
   kept_begun (Ok stamp) is adds refused =
       kept_after laws old new notes kept author (deed stamp) adds rules_now (is_begin.hears old.home old.log stamp)
-      (is_begin.refers (seen_of (added old author (deed stamp) new.spare) notes) old.shards old.log author stamp (stamp_known stamp is new.spare))
+      (is_begin.refers (seen_of_gate (added old author (deed stamp) new.spare) notes) old.shards old.log author stamp (stamp_known stamp is new.spare))
   kept_begun (Err fault) is adds refused = kept_still old new notes kept refused
 
+  -- and all that the stamp of the begin counts was seen
   pub known_begun : {F : Type 0} (r : Result Stamp F) → IfOk r (λ (stamp : Stamp). stamp ≡ now) → IfOk r
       (λ (stamp : Stamp). Adds old new author (deed stamp))
-      → IfOk r (λ (stamp : Stamp). IsKnown (seen_of new notes) stamp.clock)
+      → IfOk r (λ (stamp : Stamp). IsKnown (seen_of_gate new notes) stamp.clock)
   known_begun (Ok stamp) is adds =
-      subst (λ (v : GateView). IsKnown (seen_of v notes) stamp.clock) (sym (is_added old new author (deed stamp) adds)) (stamp_known stamp is new.spare)
+      subst (λ (v : GateView). IsKnown (seen_of_gate v notes) stamp.clock) (sym (is_added old new author (deed stamp) adds)) (stamp_known stamp is new.spare)
   known_begun (Err fault) is adds = tt
 
   -- the stamp that was heard is before it

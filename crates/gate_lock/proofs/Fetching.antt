@@ -16,7 +16,7 @@ use Rattle.gatekeeper.specs.Gates.{GateView}
 use Rattle.weave_account.specs.Seen.{IsMade}
 use Rattle.gate_lock.specs.declared.notes.GateNotes.{GateNotes}
 use Rattle.gate_lock.specs.LowerLaws.{LawsForGateNotes}
-use Rattle.gate_lock.specs.Notes.{GateIsKept, seen_of}
+use Rattle.gate_lock.specs.Notes.{GateIsKept, seen_of_gate}
 use Rattle.gate_lock.proofs.Adding.{own_log}
 
 abbrev number_in : Addressed → ℕ
@@ -76,6 +76,7 @@ for_shard shard log one h =
     let sent = filter_has (λ (a : Addressed). a.shard == shard) (messages_by (entry.0).deed) one entry.2 in
     eqb-true one.shard shard sent.1
 
+-- the message that a channel has under a number was sent to its shard with this number
 pub sent_there : (shard number : ℕ) (log : List GateEntry) (message : Message) → IsChannel shard log → sent_as number (channel_of shard log) ≡ Some message
     → Contains (addressed_to shard log) (record { shard = shard; number = number; message = message })
 sent_there shard number log message channel found =
@@ -93,21 +94,23 @@ module _ (laws : LawsForGateNotes) (gate : GateView) (notes : GateNotes) (kept :
       → Contains (addressed_to shard gate.log) (record { shard = shard; number = number; message = message })
   is_there message found = sent_there shard number gate.log message (laws.channel gate.home gate.shards shard gate.log small rules) found
 
-  is_made : (message : Message) → sent_as number (channel_of shard gate.log) ≡ Some message → IsMade gate.shards (seen_of gate notes).store shard message
+  is_made : (message : Message) → sent_as number (channel_of shard gate.log) ≡ Some message → IsMade gate.shards (seen_of_gate gate notes).store shard message
   is_made message found =
       let a : Addressed = record { shard = shard; number = number; message = message } in
-      laws.made gate.shards (seen_of gate notes) gate.home kept.refers shard a
+      laws.made gate.shards (seen_of_gate gate notes) gate.home kept.refers shard a
       (subst (λ (l : List GateEntry). Contains (addressed_to shard l) a) (sym (own_log gate notes kept)) (is_there message found))
 
   module _ {F : Type 0} where
+    -- a message that is fetched for a shard and a number was sent to this shard with this number
     pub sent_ok : (r : Result (Option Message) F) → IfOk r (λ (message : Option Message). message ≡ sent_as number (channel_of shard gate.log))
         → IfOk r (λ (message : Option Message). ForSome message (λ (one : Message). Contains (addressed_to shard gate.log)
         (record { shard = shard; number = number; message = one })))
     sent_ok (Ok message) is = λ one e. is_there one (sym is ∙ e)
     sent_ok (Err fault) is = tt
 
+    -- and it is empty, or made of a judgement in what was seen of the store's log
     pub made_ok : (r : Result (Option Message) F) → IfOk r (λ (message : Option Message). message ≡ sent_as number (channel_of shard gate.log))
-        → IfOk r (λ (message : Option Message). ForSome message (λ (one : Message). IsMade gate.shards (seen_of gate notes).store shard one))
+        → IfOk r (λ (message : Option Message). ForSome message (λ (one : Message). IsMade gate.shards (seen_of_gate gate notes).store shard one))
     made_ok (Ok message) is = λ one e. is_made one (sym is ∙ e)
     made_ok (Err fault) is = tt
 

@@ -18,7 +18,7 @@ use Rattle.chronicle.specs.declared.note.Note.{Note}
 use Rattle.chronicle.specs.Frames.{Frame}
 use Rattle.chronicle.specs.Logs.{Log}
 use Rattle.chronicle.specs.Locks.{lock_of, name_of}
-use Rattle.chronicle.specs.Passes.{seen, noted, lock_noted}
+use Rattle.chronicle.specs.Passes.{seen_by_pass, seen_by_note, lock_noted}
 use Rattle.chronicle.proofs.Logs.{head_or, tail_of}
 use Rattle.lock_row.specs.Rows.{names_of}
 use Rattle.lock_row.specs.Meetings.{AllMet, CanMeet, HaveMet}
@@ -27,7 +27,7 @@ use Rattle.lock_row.proofs.Meetings.{Met, met_of}
 use Rattle.gate_lock.specs.declared.notes.GateNotes.{GateNotes}
 use Rattle.gate_lock.specs.Frames.{AreReadyBut, gate_frame}
 use Rattle.gate_lock.specs.LowerLaws.{LawsForGateNotes}
-use Rattle.gate_lock.specs.Notes.{GateIsKept, NotedGateView, frame_of, seen_by_passes, seen_of}
+use Rattle.gate_lock.specs.Notes.{GateIsKept, NotedGateView, frame_of_gate, seen_by_gate_passes, seen_of_gate}
 use Rattle.gate_lock.proofs.Accounts.{at_home, grows, legal_now, same_account}
 use Rattle.gate_lock.proofs.Lists.{append_parts}
 
@@ -39,7 +39,7 @@ module _ {M E : Type 0} (locks : List (Chronicle M E)) (before after : List (Pas
 
   -- at each place but one, and past the last
   pub met_at : (k : ℕ) → (k < length locks → k ≢ except)
-      → Met (get_or (map seen before) k []) (get_or (map seen after) k []) (get_or (map noted notes) k []) (get_or (map noted later) k [])
+      → Met (get_or (map seen_by_pass before) k []) (get_or (map seen_by_pass after) k []) (get_or (map seen_by_note notes) k []) (get_or (map seen_by_note later) k [])
   met_at k other =
       let P : Log E × Log E × Log E × Log E → Type 0 = λ z. Met z.0 z.1 z.2 z.3 in
       elim (cases_lt k (length locks)) [
@@ -47,16 +47,16 @@ module _ {M E : Type 0} (locks : List (Chronicle M E)) (before after : List (Pas
             let c = one_of locks k low in
             let p = one_of before k (omega (arith, low, before_long)) in
             let n = one_of notes k (omega (arith, low, notes_long)) in
-            let a : get_or (map seen before) k [] ≡ seen (get_or before k p) = get_or-map seen before k p [] (omega (arith, low, before_long)) in
-            let b : get_or (map seen after) k [] ≡ seen (get_or after k p) = get_or-map seen after k p [] (omega (arith, low, after_long)) in
-            let d : get_or (map noted notes) k [] ≡ noted (get_or notes k n) = get_or-map noted notes k n [] (omega (arith, low, notes_long)) in
-            let e : get_or (map noted later) k [] ≡ noted (get_or later k n) = get_or-map noted later k n [] (omega (arith, low, later_long)) in
+            let a : get_or (map seen_by_pass before) k [] ≡ seen_by_pass (get_or before k p) = get_or-map seen_by_pass before k p [] (omega (arith, low, before_long)) in
+            let b : get_or (map seen_by_pass after) k [] ≡ seen_by_pass (get_or after k p) = get_or-map seen_by_pass after k p [] (omega (arith, low, after_long)) in
+            let d : get_or (map seen_by_note notes) k [] ≡ seen_by_note (get_or notes k n) = get_or-map seen_by_note notes k n [] (omega (arith, low, notes_long)) in
+            let e : get_or (map seen_by_note later) k [] ≡ seen_by_note (get_or later k n) = get_or-map seen_by_note later k n [] (omega (arith, low, later_long)) in
             subst P (λ i. (sym a i, sym b i, sym d i, sym e i)) (met_of _ _ _ _ _ (met k c p n low (other low)))
         | inr past ↦
-            let a : get_or (map seen before) k [] ≡ [] = none_past seen before k before_long past in
-            let b : get_or (map seen after) k [] ≡ [] = none_past seen after k after_long past in
-            let d : get_or (map noted notes) k [] ≡ [] = none_past noted notes k notes_long past in
-            let e : get_or (map noted later) k [] ≡ [] = none_past noted later k later_long past in
+            let a : get_or (map seen_by_pass before) k [] ≡ [] = none_past seen_by_pass before k before_long past in
+            let b : get_or (map seen_by_pass after) k [] ≡ [] = none_past seen_by_pass after k after_long past in
+            let d : get_or (map seen_by_note notes) k [] ≡ [] = none_past seen_by_note notes k notes_long past in
+            let e : get_or (map seen_by_note later) k [] ≡ [] = none_past seen_by_note later k later_long past in
             subst P (λ i. (sym a i, sym b i, sym d i, sym e i))
             (record { note_on = ([], refl); pass_on = ([], refl); one = refl; either = inl refl })
       ]
@@ -71,9 +71,10 @@ pub record IsFramed (gate : GateView) (notes : GateNotes) (home gates shards : �
   pub store_note : lock_noted notes.store ≡ store_name
   pub shard_notes : map lock_noted notes.shards.items ≡ shard_names
 
+-- a gatekeeper with this frame has its home and its numbers, and the notes are of the locks that the frame names
 pub framed : (gate : GateView) (notes : GateNotes) (home gates shards : ℕ) (gate_names : List (List ℕ)) (store_name : List ℕ) (shard_names : List (List ℕ))
     → length notes.gates.items ≡ gate.gates → length gate_names ≡ gates
-    → frame_of gate notes ≡ gate_frame home gates shards gate_names store_name shard_names
+    → frame_of_gate gate notes ≡ gate_frame home gates shards gate_names store_name shard_names
     → IsFramed gate notes home gates shards gate_names store_name shard_names
 framed gate notes home gates shards gate_names store_name shard_names noted_all named is =
     let number : (k : ℕ) → get_or (gate.home ∷ gate.gates ∷ gate.shards ∷ []) k 0 ≡ get_or (home ∷ gates ∷ shards ∷ []) k 0 = λ k. ap
@@ -133,7 +134,7 @@ pub record AreMet {G H : Type 0} (gate : GateView) (old new : GateNotes) (gate_l
   pub shard_count : gate.shards ≡ length shard_locks
   pub many : AreAsMany old new gate_locks gates gates_now shard_locks shards shards_now
   pub gates_met : AllMet gate_locks gates gates_now old.gates.items new.gates.items gate.home
-  pub store_met : Met (seen store) (seen store_now) (noted old.store) (noted new.store)
+  pub store_met : Met (seen_by_pass store) (seen_by_pass store_now) (seen_by_note old.store) (seen_by_note new.store)
   pub shards_met : AllMet shard_locks shards shards_now old.shards.items new.shards.items (length shard_locks)
 
 module _ {G H : Type 0} (gate : GateView) (old new : GateNotes) (gate_locks : List (Chronicle G GateDeed))
@@ -142,16 +143,16 @@ module _ {G H : Type 0} (gate : GateView) (old new : GateNotes) (gate_locks : Li
     (shards shards_now : List (Pass ShardDeed))
     (kept : GateIsKept gate old) (met : AreMet gate old new gate_locks gates gates_now store store_now shard_locks shards shards_now) where
   at_gate : (k : ℕ) → k ≢ gate.home
-      → Met (get_or (map seen gates) k []) (get_or (map seen gates_now) k []) (get_or (map noted old.gates.items) k [])
-      (get_or (map noted new.gates.items) k [])
+      → Met (get_or (map seen_by_pass gates) k []) (get_or (map seen_by_pass gates_now) k []) (get_or (map seen_by_note old.gates.items) k [])
+      (get_or (map seen_by_note new.gates.items) k [])
   at_gate k other =
       let noted_all : length old.gates.items ≡ length gate_locks = omega (arith, kept.gates, met.gate_count) in
       met_at gate_locks gates gates_now old.gates.items new.gates.items gate.home met.gates_met met.many.gate_passes
       (omega (arith, met.many.gate_passes, met.many.gate_passes_now)) noted_all
       (omega (arith, met.many.gate_notes, noted_all)) k (λ low. other)
 
-  at_shard : (k : ℕ) → Met (get_or (map seen shards) k []) (get_or (map seen shards_now) k []) (get_or (map noted old.shards.items) k [])
-      (get_or (map noted new.shards.items) k [])
+  at_shard : (k : ℕ) → Met (get_or (map seen_by_pass shards) k []) (get_or (map seen_by_pass shards_now) k []) (get_or (map seen_by_note old.shards.items) k [])
+      (get_or (map seen_by_note new.shards.items) k [])
   at_shard k =
       let noted_all : length old.shards.items ≡ length shard_locks = omega (arith, kept.shards, met.shard_count) in
       met_at shard_locks shards shards_now old.shards.items new.shards.items
@@ -159,35 +160,35 @@ module _ {G H : Type 0} (gate : GateView) (old new : GateNotes) (gate_locks : Li
       (omega (arith, met.many.shard_passes, met.many.shard_passes_now)) noted_all
       (omega (arith, met.many.shard_notes, noted_all)) k (λ low e. omega (arith, low, e))
 
-  low_old : gate.home < length (map noted old.gates.items)
-  low_old = omega (arith, length-map old.gates.items noted, kept.gates, kept.home)
+  low_old : gate.home < length (map seen_by_note old.gates.items)
+  low_old = omega (arith, length-map old.gates.items seen_by_note, kept.gates, kept.home)
 
-  low_new : gate.home < length (map noted new.gates.items)
-  low_new = omega (arith, length-map new.gates.items noted, met.many.gate_notes, kept.gates, kept.home)
+  low_new : gate.home < length (map seen_by_note new.gates.items)
+  low_new = omega (arith, length-map new.gates.items seen_by_note, met.many.gate_notes, kept.gates, kept.home)
 
-  low_passes : gate.home < length (map seen gates)
-  low_passes = omega (arith, length-map gates seen, met.many.gate_passes, met.gate_count, kept.home)
+  low_passes : gate.home < length (map seen_by_pass gates)
+  low_passes = omega (arith, length-map gates seen_by_pass, met.many.gate_passes, met.gate_count, kept.home)
 
   -- the notes have seen no less than they had
-  pub notes_on : IsWithin (seen_of gate old) (seen_of gate new)
-  notes_on = grows gate.home gate.log gate.log (map noted old.gates.items) (map noted new.gates.items) (noted old.store) (noted new.store)
-      (map noted old.shards.items) (map noted new.shards.items) low_old low_new ([], sym (append-nil gate.log)) (λ k other. (at_gate k other).note_on)
+  pub notes_on : IsWithin (seen_of_gate gate old) (seen_of_gate gate new)
+  notes_on = grows gate.home gate.log gate.log (map seen_by_note old.gates.items) (map seen_by_note new.gates.items) (seen_by_note old.store) (seen_by_note new.store)
+      (map seen_by_note old.shards.items) (map seen_by_note new.shards.items) low_old low_new ([], sym (append-nil gate.log)) (λ k other. (at_gate k other).note_on)
       met.store_met.note_on (λ k. (at_shard k).note_on)
 
   -- and no less than the passes had
-  pub passes_on : (own : List GateEntry) → IsBeginningOf own gate.log → IsWithin (seen_by_passes gate.home own gates store shards) (seen_of gate new)
-  passes_on own on = grows gate.home own gate.log (map seen gates) (map noted new.gates.items) (seen store) (noted new.store)
-      (map seen shards) (map noted new.shards.items) low_passes low_new on (λ k other. (at_gate k other).pass_on)
+  pub passes_on : (own : List GateEntry) → IsBeginningOf own gate.log → IsWithin (seen_by_gate_passes gate.home own gates store shards) (seen_of_gate gate new)
+  passes_on own on = grows gate.home own gate.log (map seen_by_pass gates) (map seen_by_note new.gates.items) (seen_by_pass store) (seen_by_note new.store)
+      (map seen_by_pass shards) (map seen_by_note new.shards.items) low_passes low_new on (λ k other. (at_gate k other).pass_on)
       met.store_met.pass_on (λ k. (at_shard k).pass_on)
 
   -- they have seen what the passes have
-  pub one_account : seen_of gate new ≡ seen_by_passes gate.home gate.log gates_now store_now shards_now
-  one_account = same_account gate.home gate.log (map noted new.gates.items) (map seen gates_now) (noted new.store) (seen store_now)
-      (map noted new.shards.items) (map seen shards_now) low_new
+  pub one_account : seen_of_gate gate new ≡ seen_by_gate_passes gate.home gate.log gates_now store_now shards_now
+  one_account = same_account gate.home gate.log (map seen_by_note new.gates.items) (map seen_by_pass gates_now) (seen_by_note new.store) (seen_by_pass store_now)
+      (map seen_by_note new.shards.items) (map seen_by_pass shards_now) low_new
       (omega (
         arith,
-        length-map new.gates.items noted,
-        length-map gates_now seen,
+        length-map new.gates.items seen_by_note,
+        length-map gates_now seen_by_pass,
         met.many.gate_notes,
         kept.gates,
         met.gate_count,
@@ -196,8 +197,8 @@ module _ {G H : Type 0} (gate : GateView) (old new : GateNotes) (gate_locks : Li
       ))
       (omega (
         arith,
-        length-map new.shards.items noted,
-        length-map shards_now seen,
+        length-map new.shards.items seen_by_note,
+        length-map shards_now seen_by_pass,
         met.many.shard_notes,
         kept.shards,
         met.shard_count,
@@ -206,30 +207,31 @@ module _ {G H : Type 0} (gate : GateView) (old new : GateNotes) (gate_locks : Li
       ))
       (λ k other. (at_gate k other).one) met.store_met.one (λ k. (at_shard k).one)
 
-  module _ (laws : LawsForGateNotes) (legal : AreLegal gate.gates gate.shards (seen_by_passes gate.home [] gates store shards)) where
-    legal_on : AreLegal gate.gates gate.shards (seen_of gate new)
-    legal_on = legal_now gate.gates gate.shards gate.home gate.log (map noted old.gates.items) (map seen gates) (map noted new.gates.items)
-        (noted old.store) (seen store) (noted new.store) (map noted old.shards.items) (map seen shards) (map noted new.shards.items) low_old low_new
+  module _ (laws : LawsForGateNotes) (legal : AreLegal gate.gates gate.shards (seen_by_gate_passes gate.home [] gates store shards)) where
+    legal_on : AreLegal gate.gates gate.shards (seen_of_gate gate new)
+    legal_on = legal_now gate.gates gate.shards gate.home gate.log (map seen_by_note old.gates.items) (map seen_by_pass gates) (map seen_by_note new.gates.items)
+        (seen_by_note old.store) (seen_by_pass store) (seen_by_note new.store) (map seen_by_note old.shards.items) (map seen_by_pass shards) (map seen_by_note new.shards.items) low_old low_new
         kept.legal legal (λ k other. (at_gate k other).either) met.store_met.either (λ k. (at_shard k).either)
 
     -- nothing is new in the own log
-    none_new : (before : List GateEntry) (entry : GateEntry) (rest : List GateEntry) → gate_log (seen_of gate new) gate.home ≡ before ++ entry ∷ rest
-        → length (gate_log (seen_of gate old) gate.home) ≤ length before → GateRefersAs (seen_of gate new) gate.shards before entry.author entry.deed
+    none_new : (before : List GateEntry) (entry : GateEntry) (rest : List GateEntry) → gate_log (seen_of_gate gate new) gate.home ≡ before ++ entry ∷ rest
+        → length (gate_log (seen_of_gate gate old) gate.home) ≤ length before → GateRefersAs (seen_of_gate gate new) gate.shards before entry.author entry.deed
     none_new before entry rest at more =
-        let was : gate_log (seen_of gate old) gate.home ≡ gate.log = at_home gate.home gate.log (map noted old.gates.items) (noted old.store)
-        (map noted old.shards.items) low_old in
-        let is : gate_log (seen_of gate new) gate.home ≡ gate.log = at_home gate.home gate.log (map noted new.gates.items) (noted new.store)
-        (map noted new.shards.items) low_new in
+        let was : gate_log (seen_of_gate gate old) gate.home ≡ gate.log = at_home gate.home gate.log (map seen_by_note old.gates.items) (seen_by_note old.store)
+        (map seen_by_note old.shards.items) low_old in
+        let is : gate_log (seen_of_gate gate new) gate.home ≡ gate.log = at_home gate.home gate.log (map seen_by_note new.gates.items) (seen_by_note new.store)
+        (map seen_by_note new.shards.items) low_new in
         let L : List GateEntry → ℕ = λ l. length l in
         absurd (omega (arith, more, ap L was, ap L is, ap L at, length-append before (entry ∷ rest)))
 
+    -- the gatekeeper keeps what its type keeps with these notes, if what the passes had seen is legal
     pub kept_met : GateIsKept gate new
     kept_met = record {
       home = kept.home;
       gates = met.many.gate_notes ∙ kept.gates;
       shards = met.many.shard_notes ∙ kept.shards;
       legal = legal_on;
-      refers = laws.notes gate.gates gate.shards (seen_of gate old) (seen_of gate new) notes_on.gates notes_on.store notes_on.shards legal_on.shard_logs
+      refers = laws.notes gate.gates gate.shards (seen_of_gate gate old) (seen_of_gate gate new) notes_on.gates notes_on.store notes_on.shards legal_on.shard_logs
           gate.home kept.refers none_new;
     }
 
@@ -243,19 +245,19 @@ module _ {G S H : Type 0} (gate : GateView) (notes : GateNotes) (now : NotedGate
     (store_lock : Chronicle S StoreDeed) (shard_locks : List (Chronicle H ShardDeed)) where
   -- of a gatekeeper that contracts see as `now`
   pub at_locks : GateIsKept gate notes → seen_as gate notes ≡ now
-      → frame_of now.gate now.notes
+      → frame_of_gate now.gate now.notes
       ≡ gate_frame home (length gate_locks) (length shard_locks) (names_of gate_locks) (name_of (lock_of store_lock)) (names_of shard_locks)
       → IsFramed gate notes home (length gate_locks) (length shard_locks) (names_of gate_locks) (name_of (lock_of store_lock))
       (names_of shard_locks)
   at_locks kept view is =
       framed gate notes home (length gate_locks) (length shard_locks) (names_of gate_locks) (name_of (lock_of store_lock))
       (names_of shard_locks) kept.gates (length-map gate_locks (λ (x : Chronicle G GateDeed). name_of (lock_of x)))
-      (ap (λ (v : NotedGateView). frame_of v.gate v.notes) view ∙ is)
+      (ap (λ (v : NotedGateView). frame_of_gate v.gate v.notes) view ∙ is)
 
 -- the frame stays if the names do
 pub frame_still : (gate : GateView) (old new : GateNotes) → map lock_noted new.gates.items ≡ map lock_noted old.gates.items
-    → lock_noted new.store ≡ lock_noted old.store → map lock_noted new.shards.items ≡ map lock_noted old.shards.items → frame_of gate new ≡
-    frame_of gate old
+    → lock_noted new.store ≡ lock_noted old.store → map lock_noted new.shards.items ≡ map lock_noted old.shards.items → frame_of_gate gate new ≡
+    frame_of_gate gate old
 frame_still gate old new gates_are store_is shards_are = λ i. gate_frame gate.home gate.gates gate.shards (gates_are i) (store_is i) (shards_are i)
 
 module _ {G S H : Type 0} (gate : GateView) (old new : GateNotes) (home : ℕ) (gate_locks : List (Chronicle G GateDeed))

@@ -1,5 +1,6 @@
 -- The laws of the crates below that this crate relies on, in one record. No public contract cites this.
 use Rattle.std.specs.Prelude.{◌≡◌, ℕ, ◌+◌, ◌<◌, ◌≤◌, List, [], ◌∷◌, ◌++◌, length, Contains, IsTrue}
+use Rattle.weave_data.specs.Limits.{most_gates}
 use Rattle.program_defs.specs.declared.script.Script.{Script}
 use Rattle.vector_stamp.specs.declared.clock.Clock.{Clock}
 use Rattle.vector_stamp.specs.Clocks.{clock_after_hearing, clock_after_tick, counts_no_more}
@@ -22,19 +23,19 @@ use Rattle.seen_logs.specs.Seen.{AreLegal, GateRefersWithin, GatesGoOn, IsWithin
 pub record LawsForGateNotes : Type 0 where
   pub hears : (home : ℕ) (log : List GateEntry) (entry : GateEntry)
       → HearsNoMore home log → HearsAs home log entry.deed → HearsNoMore home (log ++ entry ∷ [])
-  pub channel : (home shards shard : ℕ) (log : List GateEntry) → home < 8 → IsGateLog home shards log
+  pub channel : (home shards shard : ℕ) (log : List GateEntry) → home < most_gates → IsGateLog home shards log
       → IsChannel shard log
-  pub may_be_heard : (shards home : ℕ) (account : Account) → home < 8
+  pub may_be_heard : (shards home : ℕ) (account : Account) → home < most_gates
       → IsGateLog home shards (gate_log account home) → (clock : Clock) → IsKnown account clock
       → IsTrue (counts_no_more home (clock_of home (gate_log account home)) clock)
-  pub heard : (account : Account) (home : ℕ) → home < 8 → (clock other : Clock) → IsKnown account clock
+  pub heard : (account : Account) (home : ℕ) → home < most_gates → (clock other : Clock) → IsKnown account clock
       → IsKnown account other → IsKnown account (clock_after_hearing home clock other)
-  pub ticked : (script : Script) (account next : Account) → GoesOn account next → (home : ℕ) → home < 8
+  pub ticked : (script : Script) (account next : Account) → GoesOn account next → (home : ℕ) → home < most_gates
       → (clock : Clock) → IsKnown account clock
       → ticks_of clock.epoch (gate_log next home) ≡ ticks_of clock.epoch (gate_log account home) + 1
       → IsKnown next (clock_after_tick home clock)
   pub own_clock : (shards : ℕ) (seen : Account) (home : ℕ) → GateRefersWithin shards seen home
-      → home < 8 → IsKnown seen (clock_of home (gate_log seen home))
+      → home < most_gates → IsKnown seen (clock_of home (gate_log seen home))
   pub notes : (gates shards : ℕ) (seen next : Account) → GatesGoOn seen next
       → IsBeginningOf seen.store next.store → ShardsGoOn seen next
       → ((shard : ℕ) → IsShardLog gates (shard_log next shard)) → (home : ℕ) → GateRefersWithin shards seen home

@@ -6,7 +6,7 @@ use Rattle.weave_entries.specs.declared.gate_log.GateEntry.{GateEntry}
 use Rattle.weave_entries.specs.declared.shard_log.ShardDeed.{ShardDeed}
 use Rattle.weave_entries.specs.declared.store_log.StoreDeed.{StoreDeed}
 use Rattle.weave_entries.specs.declared.verdict.Verdict.{Verdict}
-use Rattle.weave_entries.specs.GateReplay.{Begun}
+use Rattle.weave_entries.specs.GateReplay.{BegunRequest}
 use Rattle.weave_entries.specs.StoreReplay.{Judgement, judgements_of}
 use Rattle.gatekeeper.specs.Gates.{GateView}
 use Rattle.weave_account.specs.declared.account.Account.{Account}
@@ -14,14 +14,14 @@ use Rattle.seen_logs.specs.Seen.{AreLegal, GateRefersWithin}
 use Rattle.chronicle.specs.declared.pass.Pass.{Pass}
 use Rattle.chronicle.specs.Frames.{Frame}
 use Rattle.chronicle.specs.Logs.{Log}
-use Rattle.chronicle.specs.Passes.{seen, noted, lock_noted}
+use Rattle.chronicle.specs.Passes.{seen_by_pass, seen_by_note, lock_noted}
 use Rattle.gate_lock.specs.declared.notes.GateNotes.{GateNotes}
-use Rattle.gate_lock.specs.Entries.{gate_entries, store_entries, shard_entries}
+use Rattle.seen_logs.specs.Entries.{gate_entries, store_entries, shard_entries}
 use Rattle.gate_lock.specs.Frames.{gate_frame}
 
 -- these logs as an account, with a gatekeeper's own log in its place
-abbrev pub account_of : ℕ → List GateEntry → List (Log GateDeed) → Log StoreDeed → List (Log ShardDeed) → Account
-account_of home own gates store shards = record {
+abbrev pub account_of_gate : ℕ → List GateEntry → List (Log GateDeed) → Log StoreDeed → List (Log ShardDeed) → Account
+account_of_gate home own gates store shards = record {
   gates = slice_set (map gate_entries gates) home own;
   store = store_entries store;
   oracle = [];
@@ -30,17 +30,20 @@ account_of home own gates store shards = record {
 }
 
 -- what a gatekeeper has seen: its own log, whole, and of the other logs what its notes have
-abbrev pub seen_of : GateView → GateNotes → Account
-seen_of gate notes =
-    account_of gate.home gate.log (map noted notes.gates.items) (noted notes.store) (map noted notes.shards.items)
+abbrev pub seen_of_gate : GateView → GateNotes → Account
+seen_of_gate gate notes =
+    account_of_gate gate.home gate.log (map seen_by_note notes.gates.items) (seen_by_note notes.store)
+    (map seen_by_note notes.shards.items)
 
 -- what passes have seen, with a gatekeeper's own log in its place
-abbrev pub seen_by_passes : ℕ → List GateEntry → List (Pass GateDeed) → Pass StoreDeed → List (Pass ShardDeed) → Account
-seen_by_passes home own gates store shards = account_of home own (map seen gates) (seen store) (map seen shards)
+abbrev pub seen_by_gate_passes : ℕ → List GateEntry → List (Pass GateDeed) → Pass StoreDeed → List (Pass ShardDeed)
+    → Account
+seen_by_gate_passes home own gates store shards =
+    account_of_gate home own (map seen_by_pass gates) (seen_by_pass store) (map seen_by_pass shards)
 
 -- the frame of a gatekeeper with notes
-abbrev pub frame_of : GateView → GateNotes → Frame
-frame_of gate notes = gate_frame gate.home gate.gates gate.shards (map lock_noted notes.gates.items)
+abbrev pub frame_of_gate : GateView → GateNotes → Frame
+frame_of_gate gate notes = gate_frame gate.home gate.gates gate.shards (map lock_noted notes.gates.items)
     (lock_noted notes.store) (map lock_noted notes.shards.items)
 
 -- a gatekeeper with notes as contracts see it
@@ -54,11 +57,11 @@ pub record GateIsKept (gate : GateView) (notes : GateNotes) : Type 0 where
   pub home : gate.home < gate.gates
   pub gates : length notes.gates.items ≡ gate.gates
   pub shards : length notes.shards.items ≡ gate.shards
-  pub legal : AreLegal gate.gates gate.shards (seen_of gate notes)
-  pub refers : GateRefersWithin gate.shards (seen_of gate notes) gate.home
+  pub legal : AreLegal gate.gates gate.shards (seen_of_gate gate notes)
+  pub refers : GateRefersWithin gate.shards (seen_of_gate gate notes) gate.home
 
 -- this verdict on these operations is that of the transaction in flight, as far as the store's log was seen
-pub record HasJudged (account : Account) (flight : Begun) (ops : List Op) (verdict : Verdict) : Type 0 where
+pub record HasJudged (account : Account) (flight : BegunRequest) (ops : List Op) (verdict : Verdict) : Type 0 where
   pub judged : Judgement
   pub is_judged : Contains (judgements_of account.store) judged
   pub request_is : judged.request ≡ flight.request

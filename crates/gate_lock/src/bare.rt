@@ -24,7 +24,7 @@ impl<S: Machine, H: Machine> Bare for BareGate<S, H> {
     ghost use Rattle.std.specs.Prelude.{map};
     ghost use Rattle.chronicle.specs.Locks.{lock_of, name_of};
     ghost use Rattle.lock_row.specs.Rows.{names_of};
-    ghost use Rattle.gate_lock.specs.Entries.{gate_pair};
+    ghost use Rattle.seen_logs.specs.Entries.{gate_pair};
     ghost use Rattle.gate_lock.specs.Frames.{gate_frame};
 
     ghost frame = { λ b _ names. gate_frame b.gate.home b.gate.gates b.gate.shards names

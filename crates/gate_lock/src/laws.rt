@@ -8,8 +8,8 @@ ghost use Rattle.weave_account.specs.Account.{gate_log, shard_log};
 ghost use Rattle.seen_logs.specs.Seen.{AreLegal, GateRefersWithin};
 ghost use Rattle.chronicle.specs.Logs.{Log};
 ghost use Rattle.gate_lock.specs.declared.notes.GateNotes.{GateNotes};
-ghost use Rattle.gate_lock.specs.Entries.{gate_entries, gate_pair};
-ghost use Rattle.gate_lock.specs.Notes.{GateIsKept, seen_of};
+ghost use Rattle.seen_logs.specs.Entries.{gate_entries, gate_pair};
+ghost use Rattle.gate_lock.specs.Notes.{GateIsKept, seen_of_gate};
 
 use crate::lower_laws::the_crates_below_keep_their_laws;
 
@@ -25,9 +25,9 @@ pub fn notes_of_whole_logs_are_enough()
     ensures { (gate : GateView) (notes : GateNotes) (account : Account) → gate.home < gate.gates
         → length notes.gates.items ≡ gate.gates → length notes.shards.items ≡ gate.shards
         → AreLegal gate.gates gate.shards account → GateRefersWithin gate.shards account gate.home
-        → ((k : ℕ) → gate_log (seen_of gate notes) k ≡ gate_log account k)
-        → (seen_of gate notes).store ≡ account.store
-        → ((k : ℕ) → shard_log (seen_of gate notes) k ≡ shard_log account k) → GateIsKept gate notes }
+        → ((k : ℕ) → gate_log (seen_of_gate gate notes) k ≡ gate_log account k)
+        → (seen_of_gate gate notes).store ≡ account.store
+        → ((k : ℕ) → shard_log (seen_of_gate gate notes) k ≡ shard_log account k) → GateIsKept gate notes }
 {
     the_crates_below_keep_their_laws();
 }

@@ -14,10 +14,10 @@ mod copying;
 mod hearing;
 pub mod laws;
 mod lower_laws;
-mod noted;
+mod noted_gate;
 mod notes;
 mod rows;
 
 pub use bare::BareGate;
-pub use noted::NotedGate;
+pub use noted_gate::NotedGate;
 pub use notes::GateNotes;

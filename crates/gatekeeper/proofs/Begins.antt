@@ -10,14 +10,14 @@ use Rattle.shard_queue.specs.Sent.{Channel, sent_as}
 use Rattle.std.proofs.lemmas.Bool.{cases_Bool}
 use Rattle.weave_entries.specs.declared.message.Message.{Message}
 use Rattle.weave_entries.specs.declared.gate_log.GateEntry.{GateEntry}
-use Rattle.weave_entries.specs.GateReplay.{Begun, begun_stamp, clock_of, channel_of}
+use Rattle.weave_entries.specs.GateReplay.{BegunRequest, begun_stamp, clock_of, channel_of}
 use Rattle.weave_entries.specs.GateRules.{IsBegunAt, IsGateLog}
 use Rattle.gatekeeper.specs.declared.begun.Flight.{Flight}
 use Rattle.gatekeeper.specs.Opened.{as_begun}
 use Rattle.gatekeeper.specs.declared.places.Place.{Place}
 use Rattle.gatekeeper.specs.Places.{message_at}
 use Rattle.gatekeeper.proofs.Leading.{lead-found}
-use Rattle.gatekeeper.specs.Gates.{GateView, IsReplayOf}
+use Rattle.gatekeeper.specs.Gates.{GateView, IsGateReplay}
 
 -- the laws on logs that are premises here
 
@@ -38,11 +38,11 @@ abbrev pub SendsNoneBeyond : Type 0
 SendsNoneBeyond = (home shards shard : ℕ) (log : List GateEntry) → IsGateLog home shards log → shards ≤ shard → channel_of shard log ≡ []
 
 -- if the field is empty no transaction is in flight
-pub none_flies : (flight : Option Flight) (flies : Option Begun) → option_map as_begun flight ≡ flies → is_some flight ≡ false → flies ≡ None
+pub none_flies : (flight : Option Flight) (flies : Option BegunRequest) → option_map as_begun flight ≡ flies → is_some flight ≡ false → flies ≡ None
 none_flies None flies is none = sym is
 none_flies (Some one) flies is none = absurd (cc)
 
-module _ (home shards : ℕ) (clock : Clock) (flight : Option Flight) (running : List ((ℕ × ℕ) × Clock)) (channels : List (Channel Place)) (nops : List Message) (log : List GateEntry) (kept : IsReplayOf home shards clock flight running channels nops log) where
+module _ (home shards : ℕ) (clock : Clock) (flight : Option Flight) (running : List ((ℕ × ℕ) × Clock)) (channels : List (Channel Place)) (nops : List Message) (log : List GateEntry) (kept : IsGateReplay home shards clock flight running channels nops log) where
   -- there is room for one more event
   pub own_fits : OwnIsFew → length log < 2 ^ 63 → count_of home clock < 2 ^ 64 - 1
   own_fits own few =
@@ -53,6 +53,7 @@ module _ (home shards : ℕ) (clock : Clock) (flight : Option Flight) (running :
   eight_kept : HasEight → HasEightCounts clock
   eight_kept eight = subst HasEightCounts (sym kept.clock_is) (eight home shards log kept.home_is kept.rules)
 
+  -- a stamp begun at the gatekeeper's clock is begun at its log's, if what was heard last, if any, has eight counts
   pub begun_at : (last : Option Stamp) (stamp : Stamp) → ForSome last (λ heard. HasEightCounts heard.clock) → stamp ≡ begun_stamp home clock last → IsBegunAt home (clock_of home log) stamp
   begun_at last stamp eight is = record { last = last; eight = eight; is = is ∙ ap (λ (c : Clock). begun_stamp home c last) kept.clock_is }
 
@@ -64,7 +65,7 @@ module _ (home shards : ℕ) (clock : Clock) (flight : Option Flight) (running :
       let stamp_is : begun_stamp home clock (Some heard) ≡ stamp = sym (is ∙ ap (λ (l : Option Stamp). begun_stamp home clock l) last_is) in
       subst (λ (s : Stamp). IsTrue (stamp_before heard s)) stamp_is (heard_before home clock heard.clock kept.home_is (eight_kept has_eight) (eight heard last_is) counts)
 
-  -- a message that is fetched is the one that was sent
+  -- to a shard past the last one nothing was sent, under any number
   pub fetched_beyond : SendsNoneBeyond → (view : GateView) (shard number : ℕ) → view.log ≡ log → shards ≤ shard → None ≡ sent_as number (channel_of shard view.log)
   fetched_beyond none view shard number log_is beyond =
       let empty : channel_of shard view.log ≡ [] = ap (channel_of shard) log_is ∙ none home shards shard log kept.rules beyond in
@@ -73,6 +74,7 @@ module _ (home shards : ℕ) (clock : Clock) (flight : Option Flight) (running :
         | inr some ↦ rw some refl
       ])
 
+  -- what is found on a shard's channel under a number is what the log says was sent there
   pub fetched_at : (view : GateView) (shard number : ℕ) → view.log ≡ log → (channel : Channel Place) → slice_get channels shard ≡ Some channel → (found : Option Message) → found ≡ option_and_then (message_at nops log) (sent_as number channel.sent) → found ≡ sent_as number (channel_of shard view.log)
   fetched_at view shard number log_is channel at found is =
       is ∙ lead-found nops log channel.sent (channel_of shard log) number (kept.channels_are shard channel at) ∙ ap (λ l. sent_as number (channel_of shard l)) (sym log_is)

@@ -58,9 +58,11 @@ pub record GoesOn (old now : List (Channel Place)) (entry : ℕ) (all : List Add
   pub count : length now ≡ length old
   pub each : (shard : ℕ) (after : Channel Place) → slice_get now shard ≡ Some after → (before : Channel Place) × (slice_get old shard ≡ Some before) × (after.sent ++ places_to shard entry at rest ≡ before.sent ++ places_to shard entry 0 all)
 
+-- at the start, if all messages can go, nothing was sent and all of them are left
 pub goes-start : (old : List (Channel Place)) (entry : ℕ) (all : List Addressed) → CanAllGo old all → GoesOn old old entry all 0 all
 goes-start old entry all can = record { can = can; count = refl; each = λ shard after at. (after, at, refl) }
 
+-- when the first of the messages that are left is sent, the others are left
 pub goes-step : (old now next : List (Channel Place)) (entry : ℕ) (all : List Addressed) (index : ℕ) (one : Addressed) (rest : List Addressed) → GoesOn old now entry all index (one ∷ rest) → IsSentOn now next one.shard (record { entry = entry; at = index }) → GoesOn old next entry all (index + 1) rest
 goes-step old now next entry all index one rest goes sent =
     let can : CanAllGo now (one ∷ rest) = goes.can in
@@ -87,11 +89,13 @@ goes-step old now next entry all index one rest goes sent =
       ];
     }
 
+-- when none is left, the places of all messages are at the ends of the channels to their shards
 pub goes-end : (old now : List (Channel Place)) (entry : ℕ) (all : List Addressed) (index : ℕ) → GoesOn old now entry all index [] → AreSent old now entry all
 goes-end old now entry all index goes = record { count = goes.count; each = λ shard after at. let was = goes.each shard after at in (was.0, was.1, sym (append-nil after.sent) ∙ was.2) }
 
 -- Places in a list
 
+-- what is read at a place of a list is what the list has there
 pub got_is : {A : Type 0} (xs : List A) (place : ℕ) (x y : A) → slice_get xs place ≡ Some x → y ≡ get_or xs place y → y ≡ x
 got_is xs place x y at is = is ∙ get_or_from_slice_get xs place x y at
 
@@ -106,9 +110,11 @@ set_sent channels shard was now place within is sent =
 
 -- Room
 
+-- channels that stay as they are keep what was sent, and their room
 pub keeps-refl : (channels : List (Channel Place)) → KeepsSent channels channels
 keeps-refl channels = record { count = refl; each = λ shard after at. (after, at, refl, omega arith) }
 
+-- if each of two changes keeps what was sent and the room, so do both together
 pub keeps-trans : (old now next : List (Channel Place)) → KeepsSent old now → KeepsSent now next → KeepsSent old next
 keeps-trans old now next first second =
     record {
@@ -121,6 +127,7 @@ keeps-trans old now next first second =
           (a.0, a.1, b.2 ∙ a.2, omega arith);
     }
 
+-- room for one more message to a shard stays if what was sent and the room are kept
 pub room_stays : (now next : List (Channel Place)) (shard : ℕ) → KeepsSent now next → HasRoomAt now shard → HasRoomAt next shard
 room_stays now next shard keeps had =
     let within = slice_get_within now shard had.channel had.at in
@@ -133,6 +140,7 @@ room_stays now next shard keeps had =
     let e : had.channel.spare ≡ was.0.spare = ap (λ (c : Channel Place). c.spare) is in
     record { channel = get_or next shard had.channel; at = found; room = omega arith }
 
+-- when room is made for the next shard too, all shards up to it have room, and what was sent is kept
 pub room_more : (old now next : List (Channel Place)) (count : ℕ) → KeepsSent old now × ((shard : ℕ) → shard < count → HasRoomAt now shard) → KeepsSent now next → HasRoomAt next count → KeepsSent old next × ((shard : ℕ) → shard < count + 1 → HasRoomAt next shard)
 room_more old now next count so_far keeps here = (
   keeps-trans old now next so_far.0 keeps,

@@ -12,12 +12,12 @@ use Rattle.weave_entries.specs.declared.message.Message.{Message}
 use Rattle.weave_entries.specs.declared.message.Addressed.{Addressed}
 use Rattle.weave_entries.specs.declared.gate_log.GateEntry.{GateEntry}
 use Rattle.weave_entries.specs.declared.gate_log.GateDeed.{GateDeed}
-use Rattle.weave_entries.specs.GateReplay.{Begun, clock_after, flight_after, running_after, messages_by, to_shard, stamps_by, stamps_of, running_of, channel_of}
+use Rattle.weave_entries.specs.GateReplay.{BegunRequest, clock_after, flight_after, running_after, messages_by, to_shard, stamps_by, stamps_of, running_of, channel_of}
 use Rattle.weave_entries.specs.GateRules.{FitsAs}
 use Rattle.weave_entries.proofs.Replay.{channel-push, clock-push, flight-push, running-push, stamps-push}
 use Rattle.gatekeeper.specs.declared.begun.Flight.{Flight}
 use Rattle.gatekeeper.specs.Opened.{as_begun}
-use Rattle.gatekeeper.specs.Gates.{HaveBits, IsReplayOf}
+use Rattle.gatekeeper.specs.Gates.{HaveBits, IsGateReplay}
 use Rattle.gatekeeper.specs.Running.{same_program, HoldsPrograms}
 use Rattle.gatekeeper.specs.declared.places.Place.{Place}
 use Rattle.gatekeeper.specs.Places.{LeadTo}
@@ -33,6 +33,7 @@ use Rattle.vector_stamp.specs.Order.{has_64_bits}
 pub one_bits : (stamp : Stamp) → IsTrue (has_64_bits stamp.clock) → HaveBits (stamp ∷ [])
 one_bits stamp bits one has = subst (λ (s : Stamp). IsTrue (has_64_bits s.clock)) (only stamp one has) bits
 
+-- where there are no stamps, all have 64 bits
 pub no_bits : HaveBits []
 no_bits stamp has = absurd (has_none stamp has)
 
@@ -53,16 +54,16 @@ module _ (home shards : ℕ) (clock : Clock) (flight : Option Flight) (running :
     (run : List ((ℕ × ℕ) × Clock)) where
   -- each field goes on as the entry says
   pub keeps_on : (sent : List (Channel Place)) (empty : List Message) (longer : List GateEntry)
-      → IsReplayOf home shards clock flight running channels nops log
+      → IsGateReplay home shards clock flight running channels nops log
       → GoesOnBy home shards clock flight log author deed next flying run longer
       → length sent ≡ shards → LeadAfter empty log author deed sent
-      → IsReplayOf home shards next flying run sent empty longer
+      → IsGateReplay home shards next flying run sent empty longer
   keeps_on sent empty longer kept goes all_sent sent_is =
       let entry : GateEntry = record { author = author; deed = deed } in
-      subst (λ (l : List GateEntry). IsReplayOf home shards next flying run sent empty l) (sym goes.log_is) (record {
+      subst (λ (l : List GateEntry). IsGateReplay home shards next flying run sent empty l) (sym goes.log_is) (record {
         clock_is = goes.clock_is ∙ ap (λ (c : Clock). clock_after home c deed) kept.clock_is
             ∙ sym (clock-push log entry home);
-        flight_is = goes.flight_is ∙ ap (λ (f : Option Begun). flight_after f author deed) kept.flight_is
+        flight_is = goes.flight_is ∙ ap (λ (f : Option BegunRequest). flight_after f author deed) kept.flight_is
             ∙ sym (flight-push log entry);
         running_is = subst (HoldsPrograms run) (sym (running-push log entry)) goes.running_is;
         all_channels = all_sent;
@@ -80,9 +81,9 @@ module _ (home shards : ℕ) (clock : Clock) (flight : Option Flight) (running :
       })
 
   -- and where it sends nothing, the channels stay
-  pub keeps_still : (longer : List GateEntry) → IsReplayOf home shards clock flight running channels nops log
+  pub keeps_still : (longer : List GateEntry) → IsGateReplay home shards clock flight running channels nops log
       → GoesOnBy home shards clock flight log author deed next flying run longer → messages_by deed ≡ []
-      → IsReplayOf home shards next flying run channels nops longer
+      → IsGateReplay home shards next flying run channels nops longer
   keeps_still longer kept goes nothing =
       let entry : GateEntry = record { author = author; deed = deed } in
       keeps_on channels nops longer kept goes kept.all_channels
@@ -100,10 +101,10 @@ module _ (home shards : ℕ) (clock : Clock) (flight : Option Flight) (running :
 pub keeps_programs : (home shards : ℕ) (clock : Clock) (flight : Option Flight) (running : List ((ℕ × ℕ) × Clock))
     (channels : List (Channel Place)) (nops : List Message) (log : List GateEntry) (run : List ((ℕ × ℕ) × Clock))
     (same : List GateEntry)
-    → IsReplayOf home shards clock flight running channels nops log → HoldsPrograms run (running_of log) → same ≡ log
-    → IsReplayOf home shards clock flight run channels nops same
+    → IsGateReplay home shards clock flight running channels nops log → HoldsPrograms run (running_of log) → same ≡ log
+    → IsGateReplay home shards clock flight run channels nops same
 keeps_programs home shards clock flight running channels nops log run same kept holds is =
-    subst (λ (l : List GateEntry). IsReplayOf home shards clock flight run channels nops l) (sym is) (record {
+    subst (λ (l : List GateEntry). IsGateReplay home shards clock flight run channels nops l) (sym is) (record {
       clock_is = kept.clock_is;
       flight_is = kept.flight_is;
       running_is = holds;
@@ -116,9 +117,9 @@ keeps_programs home shards clock flight running channels nops log run same kept 
     })
 
 -- before the first entry nothing is running, and nothing was sent
-pub keeps_none : (home shards : ℕ) (clock : Clock) (run : List ((ℕ × ℕ) × Clock)) (channels : List (Channel Place)) (nops : List Message) (log : List GateEntry) → log ≡ [] → clock ≡ start_clock → run ≡ [] → length channels ≡ shards → All (λ (channel : Channel Place). channel.sent ≡ []) channels → home < 8 → 1 ≤ shards → IsReplayOf home shards clock None run channels nops log
+pub keeps_none : (home shards : ℕ) (clock : Clock) (run : List ((ℕ × ℕ) × Clock)) (channels : List (Channel Place)) (nops : List Message) (log : List GateEntry) → log ≡ [] → clock ≡ start_clock → run ≡ [] → length channels ≡ shards → All (λ (channel : Channel Place). channel.sent ≡ []) channels → home < 8 → 1 ≤ shards → IsGateReplay home shards clock None run channels nops log
 keeps_none home shards clock run channels nops log log_is clock_is run_is count empty home_is some =
-    subst (λ (l : List GateEntry). IsReplayOf home shards clock None run channels nops l) (sym log_is) (record {
+    subst (λ (l : List GateEntry). IsGateReplay home shards clock None run channels nops l) (sym log_is) (record {
       clock_is = clock_is;
       flight_is = refl;
       running_is = λ program. ap (lookup (same_program program)) run_is;

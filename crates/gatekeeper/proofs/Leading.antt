@@ -16,10 +16,10 @@ use Rattle.weave_entries.specs.declared.gate_log.GateDeed.{GateDeed}
 use Rattle.weave_entries.specs.declared.gate_log.GateDeed.TheVariants.{BeganTx, BeganProgram, Sent, Nop, Heard, Raised, Finished}
 use Rattle.weave_entries.specs.GateReplay.{channel_of, messages_by, to_shard}
 use Rattle.gatekeeper.specs.declared.places.Place.{Place}
-use Rattle.gatekeeper.specs.Places.{message_by, message_at, LeadTo, places_to}
+use Rattle.gatekeeper.specs.Places.{message_sent_by, message_at, LeadTo, places_to}
 
 -- the message of a deed stays when more nops follow
-by_kept : (nops more : List Message) (deed : GateDeed) (at : ℕ) (message : Message) → message_by nops deed at ≡ Some message → message_by (nops ++ more) deed at ≡ Some message
+by_kept : (nops more : List Message) (deed : GateDeed) (at : ℕ) (message : Message) → message_sent_by nops deed at ≡ Some message → message_sent_by (nops ++ more) deed at ≡ Some message
 by_kept nops more (Nop shard number stamp low) at message is = get_kept nops more at message is
 by_kept nops more (Sent request messages) at message is = is
 by_kept nops more (BeganTx request stamp) at message is = absurd cc
@@ -31,9 +31,9 @@ by_kept nops more (Finished request) at message is = absurd cc
 -- and the message at a place
 at_kept : (nops more : List Message) (log later : List GateEntry) (place : Place) (message : Message) → message_at nops log place ≡ Some message → message_at (nops ++ more) (log ++ later) place ≡ Some message
 at_kept nops more log later place message is =
-    option_and_then_some (λ (entry : GateEntry). message_by nops entry.deed place.at) (slice_get log place.entry) message is
+    option_and_then_some (λ (entry : GateEntry). message_sent_by nops entry.deed place.at) (slice_get log place.entry) message is
     (λ entry here of.
-    ap (option_and_then (λ (one : GateEntry). message_by (nops ++ more) one.deed place.at)) (get_kept log later place.entry entry here)
+    ap (option_and_then (λ (one : GateEntry). message_sent_by (nops ++ more) one.deed place.at)) (get_kept log later place.entry entry here)
     ∙ by_kept nops more entry.deed place.at message of)
 
 -- places that led to messages still do when nops and entries follow
@@ -92,7 +92,7 @@ module _ (nops : List Message) (log : List GateEntry) (author request : ℕ) (al
 
   at_entry : (front : List Addressed) (one : Addressed) (rest : List Addressed) → front ++ one ∷ rest ≡ all → message_at nops (log ++ entry ∷ []) (record { entry = length log; at = length front }) ≡ Some one.message
   at_entry front one rest is =
-      ap (option_and_then (λ (found : GateEntry). message_by nops found.deed (length front))) (get-here log entry [])
+      ap (option_and_then (λ (found : GateEntry). message_sent_by nops found.deed (length front))) (get-here log entry [])
       ∙ ap (option_map (λ (addressed : Addressed). addressed.message)) (ap (λ (ms : List Addressed). slice_get ms (length front)) (sym is) ∙ get-here front one rest)
 
   sent_from : (shard : ℕ) (front rest : List Addressed) (at : ℕ) → at ≡ length front → front ++ rest ≡ all → LeadTo nops (log ++ entry ∷ []) (places_to shard (length log) at rest) (map (λ (addressed : Addressed). addressed.message) (to_shard shard rest))
@@ -104,14 +104,15 @@ module _ (nops : List Message) (log : List GateEntry) (author request : ℕ) (al
         | inr other ↦ rw other more
       ]
 
+  -- the places of an entry's messages to a shard lead to them, once the entry is at the end of the log
   pub lead-sent : (shard : ℕ) → LeadTo nops (log ++ entry ∷ []) (places_to shard (length log) 0 all) (map (λ (addressed : Addressed). addressed.message) (to_shard shard all))
   lead-sent shard = sent_from shard [] all 0 refl refl
 
 -- the place of a nop leads to its message, once its entry is in the log and its message in the list
 pub lead-nop : (nops : List Message) (log : List GateEntry) (entry : GateEntry) (shard number : ℕ) (stamp : Stamp) (low : Clock) (message : Message) → entry.deed ≡ Nop shard number stamp low → LeadTo (nops ++ message ∷ []) (log ++ entry ∷ []) (record { entry = length log; at = length nops } ∷ []) (message ∷ [])
 lead-nop nops log entry shard number stamp low message deed_is = (
-  ap (option_and_then (λ (found : GateEntry). message_by (nops ++ message ∷ []) found.deed (length nops))) (get-here log entry [])
-      ∙ ap (λ (deed : GateDeed). message_by (nops ++ message ∷ []) deed (length nops)) deed_is
+  ap (option_and_then (λ (found : GateEntry). message_sent_by (nops ++ message ∷ []) found.deed (length nops))) (get-here log entry [])
+      ∙ ap (λ (deed : GateDeed). message_sent_by (nops ++ message ∷ []) deed (length nops)) deed_is
       ∙ get-here nops message [],
   tt,
 )

@@ -26,6 +26,7 @@ module _ (laws : MeetsCommute) where
     met-late low first [] = refl
     met-late low first (x ∷ xs) = ap (λ k. met_with clock k xs) (laws.associative low first (clock x)) ∙ met-late low (meet_of first (clock x)) xs
 
+    -- a clock that is met before others can be met after them all
     pub met-after : (low last : Clock) (xs : List A) → met_with clock (meet_of low last) xs ≡ meet_of (met_with clock low xs) last
     met-after low last [] = refl
     met-after low last (x ∷ xs) = ap (λ k. met_with clock k xs) (meet-swap low last (clock x)) ∙ met-after (meet_of low (clock x)) last xs

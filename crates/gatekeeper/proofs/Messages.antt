@@ -19,12 +19,12 @@ use Rattle.weave_entries.specs.declared.verdict.Verdict.{Verdict}
 use Rattle.weave_entries.specs.declared.verdict.Verdict.TheVariants.{Committed, Conflict, Refused}
 use Rattle.weave_entries.specs.declared.gate_log.GateEntry.{GateEntry}
 use Rattle.weave_entries.specs.declared.gate_log.GateDeed.TheVariants.{Sent, Nop}
-use Rattle.weave_entries.specs.GateReplay.{Begun, flight_of, running_of, to_shard, channel_of, next_number, low_mark, nop_message}
-use Rattle.weave_entries.specs.Sending.{keeps as keeps_of, parts_for, shards_named, message_to, messages_of, IsCountsOf}
+use Rattle.weave_entries.specs.GateReplay.{BegunRequest, flight_of, running_of, to_shard, channel_of, next_number, low_mark, nop_message}
+use Rattle.weave_entries.specs.Sending.{is_kept_at as keeps_of, parts_for, shards_named, message_to, messages_of, IsCountsOf}
 use Rattle.weave_entries.specs.GateRules.{Sends}
 use Rattle.gatekeeper.specs.declared.begun.Flight.{Flight}
 use Rattle.gatekeeper.specs.Opened.{as_begun}
-use Rattle.gatekeeper.specs.Gates.{IsReplayOf}
+use Rattle.gatekeeper.specs.Gates.{IsGateReplay}
 use Rattle.gatekeeper.specs.declared.places.Place.{Place}
 use Rattle.gatekeeper.specs.Places.{LeadTo, places_to}
 use Rattle.gatekeeper.specs.Messages.{sent_on, sent_at, made_for, with_parted, messages_made, HasRoomAt, KeepsSent, CanAllGo, IsSentOn, AreSent}
@@ -45,6 +45,7 @@ module _ (p : Counted → Bool) (f : Counted → Part) where
     NoParts : PartsAre false []
     SomeParts : (part : Part) (parts : List Part) → PartsAre true (part ∷ parts)
 
+  -- there are no parts if no counted vertex passes the test, and some otherwise
   pub parts_are : (counts : List Counted) → PartsAre (list_any p counts) (map f (filter p counts))
   parts_are [] = NoParts
   parts_are (counted ∷ counts) =
@@ -66,6 +67,7 @@ module _ (make : ℕ → Addressed) (named : ℕ → Bool) (count : ℕ) where
   made_by p f one so_far test parts NoParts is one_is = rw is (sym (append-nil so_far))
   made_by p f one so_far test parts (SomeParts part rest) is one_is = rw is (ap (λ x. so_far ++ x ∷ []) one_is)
 
+  -- when the next shard's message is added, unless it has no parts, the messages are those to one shard more
   pub made_more : (p : Counted → Bool) (f : Counted → Part) (counts : List Counted) (one : Addressed) (so_far next : List Addressed) → so_far ≡ map make (filter named (range_with_len 0 count)) → named count ≡ list_any p counts → one ≡ make count → next ≡ with_parted one (map f (filter p counts)) so_far → next ≡ map make (filter named (range_with_len 0 (count + 1)))
   made_more p f counts one so_far next so_is is one_is next_is =
       next_is
@@ -78,7 +80,7 @@ module _ (make : ℕ → Addressed) (named : ℕ → Bool) (count : ℕ) where
 pub read_sent : (channels : List (Channel Place)) (shard : ℕ) (channel : Channel Place) → shard < length channels → channel ≡ get_or channels shard channel → channel.sent ≡ sent_at shard channels
 read_sent channels shard channel within is = ap sent_on (sym (slice_get-get_or channels shard channel within ∙ ap Some (sym is)))
 
-module _ (home shards : ℕ) (clock : Clock) (flight : Option Flight) (running : List ((ℕ × ℕ) × Clock)) (channels : List (Channel Place)) (nops : List Message) (log : List GateEntry) (kept : IsReplayOf home shards clock flight running channels nops log) where
+module _ (home shards : ℕ) (clock : Clock) (flight : Option Flight) (running : List ((ℕ × ℕ) × Clock)) (channels : List (Channel Place)) (nops : List Message) (log : List GateEntry) (kept : IsGateReplay home shards clock flight running channels nops log) where
   -- on each channel there are as many places as the log has messages, and beyond the last shard nothing was sent
   pub count_is : SendsNoneBeyond → (shard : ℕ) → length (sent_at shard channels) ≡ length (channel_of shard log)
   count_is none shard =
@@ -117,6 +119,7 @@ module _ (home shards : ℕ) (clock : Clock) (flight : Option Flight) (running :
           | inr fails ↦ rw fails (all_from p (first + 1) count (omega arith))
         ]
 
+  -- the messages of a transaction can all go if there is room for one more message to each shard
   pub all_can_go : (one : Flight) (now : List (Channel Place)) → ((shard : ℕ) → shard < length channels → HasRoomAt now shard) → (ops : List Op) (verdict : Verdict) → CanAllGo now (messages_of shards log (as_begun one) ops verdict)
   all_can_go one now room ops (Committed number answers counts) = all_from one now room ops counts (λ shard. list_any (keeps_of shards shard) counts) 0 shards (omega arith)
   all_can_go one now room ops (Conflict vertex newer) = tt
@@ -142,6 +145,7 @@ module _ (home shards : ℕ) (clock : Clock) (flight : Option Flight) (running :
       subst (λ (ps : List Place). LeadTo nops longer ps (channel_of shard log ++ map (λ (addressed : Addressed). addressed.message) (to_shard shard messages))) (sym places_are)
       (lead-append nops longer a.0.sent (places_to shard (length log) 0 messages) (channel_of shard log) (map (λ (addressed : Addressed). addressed.message) (to_shard shard messages)) still (lead-sent nops log author request messages shard))
 
+  -- after messages were sent there is still one channel to each shard
   pub all_then : (now next : List (Channel Place)) (messages : List Addressed) → KeepsSent channels now → AreSent now next (length log) messages → length next ≡ shards
   all_then now next messages keeps sent = sent.count ∙ keeps.count ∙ kept.all_channels
 
@@ -203,7 +207,7 @@ module _ (home shards : ℕ) (clock : Clock) (flight : Option Flight) (running :
   -- its sending is right
   pub sends_fit : (one : Flight) → flight ≡ Some one → (author : ℕ) → one.author ≡ author → (ops : List Op) (verdict : Verdict) → IsCountsOf ops verdict → (messages : List Addressed) → messages ≡ messages_of shards log (as_begun one) ops verdict → Sends shards log author one.request messages
   sends_fit one flies author author_is ops verdict counts messages is =
-      let begun : ℕ → Begun = λ a. record { author = a; request = one.request; stamp = one.stamp } in
+      let begun : ℕ → BegunRequest = λ a. record { author = a; request = one.request; stamp = one.stamp } in
       record {
         stamp = one.stamp;
         flight = flight_told one flies ∙ ap (λ a. Some (begun a)) author_is;

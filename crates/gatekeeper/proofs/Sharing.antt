@@ -18,7 +18,7 @@ use Rattle.graph_ops.specs.declared.op.Op.{Op}
 use Rattle.graph_ops.specs.declared.part.Part.{Part}
 use Rattle.graph_ops.proofs.States.{here_or_else}
 use Rattle.weave_entries.specs.declared.verdict.Counted.{Counted}
-use Rattle.weave_entries.specs.Sending.{ops_on, part_for, keeps, parts_for}
+use Rattle.weave_entries.specs.Sending.{ops_on, part_for, is_kept_at, parts_for}
 use Rattle.gatekeeper.specs.Parts.{ops_at, parts_by_shard, AreOfTheirOwn, HasOpsOf}
 
 -- Operations under their vertices
@@ -27,6 +27,7 @@ use Rattle.gatekeeper.specs.Parts.{ops_at, parts_by_shard, AreOfTheirOwn, HasOps
 abbrev pub Writes : Name → List Op → List (Name × List Op) → List (Name × List Op) → Type 0
 Writes v some es fs = (q : Name) → lookup (same_name q) fs ≡ cond (same_name v q) (Some some) (lookup (same_name q) es)
 
+-- operations that aren't found are none
 pub absent : (x : Option (List Op)) → is_some x ≡ false → x ≡ None
 absent None none = refl
 absent (Some some) none = cc
@@ -112,10 +113,10 @@ module _ {A : Type 0} (f g : ℕ → A) (place : ℕ) (same : (n : ℕ) → n �
   set_within first (suc count) (suc k) is within = λ i. same first (λ e. omega arith) i ∷ set_within (first + 1) count k (omega arith) (omega arith) i
 
 -- what one more vertex gives a shard
-parts_more : (shards shard : ℕ) (ops : List Op) (counts : List Counted) (one : Counted) → parts_for shards shard ops (counts ++ one ∷ []) ≡ parts_for shards shard ops counts ++ map (part_for ops) (filter (keeps shards shard) (one ∷ []))
+parts_more : (shards shard : ℕ) (ops : List Op) (counts : List Counted) (one : Counted) → parts_for shards shard ops (counts ++ one ∷ []) ≡ parts_for shards shard ops counts ++ map (part_for ops) (filter (is_kept_at shards shard) (one ∷ []))
 parts_more shards shard ops counts one =
-    ap (map (part_for ops)) (filter-append (keeps shards shard) counts (one ∷ []))
-    ∙ map-append (part_for ops) (filter (keeps shards shard) counts) (filter (keeps shards shard) (one ∷ []))
+    ap (map (part_for ops)) (filter-append (is_kept_at shards shard) counts (one ∷ []))
+    ∙ map-append (part_for ops) (filter (is_kept_at shards shard) counts) (filter (is_kept_at shards shard) (one ∷ []))
 
 parts_here : (shards : ℕ) (ops : List Op) (counts : List Counted) (one : Counted) (shard : ℕ) → shard ≡ shard_of one.vertex shards → parts_for shards shard ops (counts ++ one ∷ []) ≡ parts_for shards shard ops counts ++ part_for ops one ∷ []
 parts_here shards ops counts one shard is =

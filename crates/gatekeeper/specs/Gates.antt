@@ -1,6 +1,7 @@
 -- A gatekeeper as contracts see it.
 use Rattle.std.specs.Prelude.{◌≡◌, ℕ, ◌+◌, ◌≤◌, ◌<◌, List, [], ◌∷◌, ◌++◌, length, slice_get, Contains, IsTrue, Option, Some}
 use Rattle.std.specs.Option.{option_map}
+use Rattle.weave_data.specs.Limits.{most_gates}
 use Rattle.vector_stamp.specs.declared.clock.Clock.{Clock}
 use Rattle.vector_stamp.specs.declared.clock.Stamp.{Stamp}
 use Rattle.vector_stamp.specs.Order.{has_64_bits}
@@ -11,7 +12,7 @@ use Rattle.weave_entries.specs.declared.gate_log.GateDeed.TheVariants.{Sent}
 use Rattle.weave_entries.specs.declared.verdict.Verdict.{Verdict}
 use Rattle.graph_ops.specs.declared.op.Op.{Op}
 use Rattle.weave_entries.specs.Sending.{messages_of}
-use Rattle.weave_entries.specs.GateReplay.{Begun, clock_of, stamps_of, flight_of, running_of, channel_of}
+use Rattle.weave_entries.specs.GateReplay.{BegunRequest, clock_of, stamps_of, flight_of, running_of, channel_of}
 use Rattle.weave_entries.specs.GateRules.{IsGateLog}
 use Rattle.shard_queue.specs.Sent.{Channel}
 use Rattle.gatekeeper.specs.Opened.{as_begun}
@@ -46,7 +47,7 @@ pub record Adds (old new : GateView) (author : ℕ) (deed : GateDeed) : Type 0 w
 
 -- the transaction in flight was sent by this author: the entry has its messages by the verdict, at the end of the log
 pub record SendsFlight (old new : GateView) (author : ℕ) (ops : List Op) (verdict : Verdict) : Type 0 where
-  pub flight : Begun
+  pub flight : BegunRequest
   pub flies : flight_of old.log ≡ Some flight
   pub adds : Adds old new author (Sent flight.request (messages_of old.shards old.log flight ops verdict))
 
@@ -65,7 +66,7 @@ HaveBits stamps = (stamp : Stamp) → Contains stamps stamp → IsTrue (has_64_b
 
 -- the fields are what the replay of the log gives; the channels lead to the messages, in the log or among those of the
 -- nops
-pub record IsReplayOf (home shards : ℕ) (clock : Clock) (flight : Option Flight) (running : List ((ℕ × ℕ)
+pub record IsGateReplay (home shards : ℕ) (clock : Clock) (flight : Option Flight) (running : List ((ℕ × ℕ)
     × Clock)) (channels : List (Channel Place)) (nops : List Message) (log : List GateEntry) : Type 0 where
   pub clock_is : clock ≡ clock_of home log
   pub flight_is : option_map as_begun flight ≡ flight_of log
@@ -73,7 +74,7 @@ pub record IsReplayOf (home shards : ℕ) (clock : Clock) (flight : Option Fligh
   pub all_channels : length channels ≡ shards
   pub channels_are : (shard : ℕ) (channel : Channel Place) → slice_get channels shard ≡ Some channel
       → LeadTo nops log channel.sent (channel_of shard log)
-  pub home_is : home < 8
+  pub home_is : home < most_gates
   pub some_shard : 1 ≤ shards
   pub rules : IsGateLog home shards log
   pub bits : HaveBits (stamps_of log)

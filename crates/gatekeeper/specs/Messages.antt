@@ -36,12 +36,12 @@ made_for channels shards flight low ops counts shard = record {
   };
 }
 
--- the messages with one more, unless there are no parts
+-- the messages with one more, unless there are no parts. No public contract cites this.
 abbrev pub with_parted : Addressed → List Part → List Addressed → List Addressed
 with_parted addressed [] messages = messages
 with_parted addressed (part ∷ parts) messages = messages ++ addressed ∷ []
 
--- whether there are parts
+-- whether there are parts. No public contract cites this.
 abbrev pub has_parts : List Part → Bool
 has_parts [] = false
 has_parts (part ∷ parts) = true

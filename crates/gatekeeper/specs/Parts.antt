@@ -10,7 +10,7 @@ use Rattle.graph_ops.specs.declared.part.Part.{Part}
 use Rattle.weave_entries.specs.declared.verdict.Counted.{Counted}
 use Rattle.weave_entries.specs.Sending.{ops_on, parts_for}
 
--- the operations that a table has under a vertex
+-- the operations that a table has under a vertex. No public contract cites this.
 abbrev pub ops_at : Name → List (Name × List Op) → List Op
 ops_at vertex table = unwrap_or (lookup (same_name vertex) table) []
 
@@ -22,7 +22,7 @@ parts_by_shard shards ops counts = map (λ shard. parts_for shards shard ops cou
 abbrev pub AreOfTheirOwn : List Counted → Type 0
 AreOfTheirOwn counts = IsDistinct same_name (map (λ (counted : Counted). counted.vertex) counts)
 
--- the table has the operations on each of these vertices
+-- the table has the operations on each of these vertices. No public contract cites this.
 abbrev pub HasOpsOf : List (Name × List Op) → List Op → List Counted → Type 0
 HasOpsOf table ops counts = AllByRecursion (λ (counted : Counted). ops_at counted.vertex table
     ≡ ops_on counted.vertex ops) counts

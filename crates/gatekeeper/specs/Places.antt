@@ -9,16 +9,16 @@ use Rattle.weave_entries.specs.declared.gate_log.GateDeed.TheVariants.{Sent, Nop
 use Rattle.gatekeeper.specs.declared.places.Place.{Place}
 
 -- the message of a deed at an index: that of a nop is among the empty ones
-abbrev pub message_by : List Message → GateDeed → ℕ → Option Message
-message_by nops (Sent request messages) at =
+abbrev pub message_sent_by : List Message → GateDeed → ℕ → Option Message
+message_sent_by nops (Sent request messages) at =
     option_map (λ (addressed : Addressed). addressed.message) (slice_get messages at)
-message_by nops (Nop shard number stamp low) at = slice_get nops at
-message_by nops _ at = None
+message_sent_by nops (Nop shard number stamp low) at = slice_get nops at
+message_sent_by nops _ at = None
 
 -- the message at a place
 abbrev pub message_at : List Message → List GateEntry → Place → Option Message
 message_at nops log place =
-    option_and_then (λ (entry : GateEntry). message_by nops entry.deed place.at) (slice_get log place.entry)
+    option_and_then (λ (entry : GateEntry). message_sent_by nops entry.deed place.at) (slice_get log place.entry)
 
 -- the places lead to these messages, one to each, in order
 abbrev pub LeadTo : List Message → List GateEntry → List Place → List Message → Type 0

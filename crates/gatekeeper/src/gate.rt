@@ -2,6 +2,7 @@
 ghost use Rattle.std.specs.Prelude.{◌≡◌, ◌≤◌, ◌<◌, ◌+◌, ◌∷◌, ◌++◌, [], not, is_some, is_none, IsTrue, IfOk, IfErr, OnOk, OnErr, option_copied, vec_len, vec_capacity};
 ghost use Rattle.std.specs.List.{list_any};
 ghost use Rattle.std.specs.Option.{ForSome, option_map};
+ghost use Rattle.weave_data.specs.Limits.{most_gates, most_shards};
 ghost use Rattle.vector_stamp.specs.Order.{count_of, has_64_bits, stamp_before};
 ghost use Rattle.vector_stamp.specs.Clocks.{counts_no_more};
 ghost use Rattle.shard_queue.specs.Sent.{sent_as};
@@ -45,7 +46,7 @@ pub struct Gate {
 
 impl Model for Gate {
     ghost use Rattle.std.specs.Prelude.{◌-◌, vec_len, vec_capacity};
-    ghost use Rattle.gatekeeper.specs.Gates.{GateView, IsReplayOf};
+    ghost use Rattle.gatekeeper.specs.Gates.{GateView, IsGateReplay};
 
     ghost Value = { GateView };
 
@@ -58,16 +59,16 @@ impl Model for Gate {
     } };
 
     ghost invariant = { λ g.
-        IsReplayOf g.home g.shards g.clock g.flight g.running.entries g.channels.items g.nops.items g.log.items };
+        IsGateReplay g.home g.shards g.clock g.flight g.running.entries g.channels.items g.nops.items g.log.items };
 }
 
 impl Gate {
     /// The gatekeeper of this home, before its first event. The one error is out of memory.
     pub fn new(alloc: Global, home: u32, gates: u32, shards: u32) -> Result<Gate, AllocError>
         requires home { home < gates }
-        requires gates { gates ≤ 8 }
+        requires gates { gates ≤ most_gates }
         requires one_shard { 1 ≤ shards }
-        requires shards { shards ≤ 16 }
+        requires shards { shards ≤ most_shards }
         ensures { IfOk result (λ gate. IsNew home gates shards gate) }
     {
         Ok(Gate {
@@ -317,7 +318,7 @@ impl Gate {
     pub fn log(&self) -> &[GateEntry]
         ensures log { result.now ≡ self.now.log }
         ensures rules { IsGateLog self.now.home self.now.shards self.now.log }
-        ensures home { self.now.home < 8 }
+        ensures home { self.now.home < most_gates }
         ensures bits { HaveBits (stamps_of self.now.log) }
     {
         self.log.as_slice()

@@ -3,7 +3,7 @@ ghost use Rattle.std.specs.Prelude.{◌≡◌, ◌≤◌, ◌<◌, ◌+◌, ◌^
 ghost use Rattle.std.specs.Option.{option_and_then, option_map};
 ghost use Rattle.shard_queue.specs.Sent.{sent_as};
 ghost use Rattle.weave_entries.specs.declared.message.Addressed.{Addressed};
-ghost use Rattle.gatekeeper.specs.Places.{message_by, message_at};
+ghost use Rattle.gatekeeper.specs.Places.{message_sent_by, message_at};
 
 use std::alloc::{AllocError, Global};
 use std::marker::Model;
@@ -112,7 +112,7 @@ fn message_at<'a>(place: &Place, log: &'a [GateEntry], nops: &'a [Message]) -> O
 
 // The message of an entry at this index.
 fn message_by<'a>(entry: &'a GateEntry, at: usize, nops: &'a [Message]) -> Option<&'a Message>
-    ensures { option_copied result ≡ message_by nops.now entry.now.deed at }
+    ensures { option_copied result ≡ message_sent_by nops.now entry.now.deed at }
 {
     match &entry.deed {
         GateDeed::Sent { messages, .. } => message_among(messages.as_slice(), at),

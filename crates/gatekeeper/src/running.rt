@@ -3,7 +3,7 @@ ghost use Rattle.std.specs.Prelude.{◌≡◌, ◌≤◌, ◌++◌, ◌∷◌, [
 ghost use Rattle.std.specs.List.{list_any};
 ghost use Rattle.std.specs.Map.{lookup};
 ghost use Rattle.std.specs.HashMap.{spare};
-ghost use Rattle.weave_entries.specs.GateReplay.{Begun, is_begun, low_mark};
+ghost use Rattle.weave_entries.specs.GateReplay.{BegunRequest, is_begun, low_mark};
 ghost use Rattle.gatekeeper.specs.Running.{same_program, met_after, HoldsPrograms};
 
 use std::collections::HashMap;
@@ -16,7 +16,7 @@ pub type Programs = HashMap<(u32, u32), Clock>;
 
 /// The meet of a stamp and the stamps of the running programs.
 pub fn low_mark(stamp: &Stamp, running: &Programs) -> Clock
-    ensures { (programs : List Begun) → HoldsPrograms running.now.entries programs
+    ensures { (programs : List BegunRequest) → HoldsPrograms running.now.entries programs
         → result ≡ low_mark stamp.now programs }
 {
     meets_commute();
@@ -29,7 +29,7 @@ pub fn low_mark(stamp: &Stamp, running: &Programs) -> Clock
 
 /// Whether a program is running that the author began under the request's number.
 pub fn is_running(running: &Programs, author: u32, request: u32) -> bool
-    ensures { (programs : List Begun) → HoldsPrograms running.now.entries programs
+    ensures { (programs : List BegunRequest) → HoldsPrograms running.now.entries programs
         → result ≡ list_any (is_begun author request) programs }
 {
     running.contains_key(&(author, request))
@@ -38,7 +38,8 @@ pub fn is_running(running: &Programs, author: u32, request: u32) -> bool
 /// A program of this stamp is running, too. There is room for it.
 pub fn start(running: &mut Programs, author: u32, request: u32, stamp: &Stamp)
     requires { 1 ≤ spare running.old }
-    ensures { (programs : List Begun) → HoldsPrograms running.old.entries programs → HoldsPrograms running.new.entries
+    ensures { (programs : List BegunRequest) → HoldsPrograms running.old.entries programs
+        → HoldsPrograms running.new.entries
         (programs ++ record { author = author; request = request; stamp = stamp.now } ∷ []) }
 {
     let low = met_with(running, author, request, stamp.clock);
@@ -57,7 +58,8 @@ fn met_with(running: &Programs, author: u32, request: u32, clock: Clock) -> Cloc
 
 /// The programs that the author began under the request's number are no longer running.
 pub fn end(running: &mut Programs, author: u32, request: u32)
-    ensures { (programs : List Begun) → HoldsPrograms running.old.entries programs → HoldsPrograms running.new.entries
+    ensures { (programs : List BegunRequest) → HoldsPrograms running.old.entries programs
+        → HoldsPrograms running.new.entries
         (filter (λ begun. not (is_begun author request begun)) programs) }
 {
     let _ = running.remove(&(author, request));

@@ -9,9 +9,9 @@ use Rattle.std.specs.Str.{bytes_eq}
 use Rattle.std.proofs.lemmas.Slice.Eq.{bytes_eq-Decides}
 use Rattle.weave_data.proofs.Lists.{all-find}
 use Rattle.weave_data.specs.Names.{is_name}
-use Rattle.weave_data.specs.Pairs.{at_key, has, put, without, is_full}
+use Rattle.weave_data.specs.Pairs.{at_key, has, put, without_key, is_full}
 use Rattle.weave_data.specs.declared.name.Name.{Name}
-use Rattle.graph_ops.specs.Operations.{State, Outcome, applied, becomes, on_edge, on_vertex, refused_if, vertex_of}
+use Rattle.graph_ops.specs.Operations.{State, Outcome, outcome_of_op, done_with, on_edge, on_vertex, refused_if, vertex_of}
 use Rattle.graph_ops.specs.Operations.{op_word, op_fields, ops_with, op_with, is_get, target_of}
 use Rattle.graph_ops.specs.VertexOps.{state_left}
 use Rattle.graph_ops.specs.declared.record.Edge.{Edge}
@@ -105,7 +105,7 @@ quiet-edge (Some edge) rest h = h edge
 ruleset quiet = (quiet-if, quiet-vertex, quiet-edge, Changes)
 
 -- what each operation answers
-pub answers-as : (op : Op) (state : State) → AnswersAs (is_get op) state (applied op state)
+pub answers-as : (op : Op) (state : State) → AnswersAs (is_get op) state (outcome_of_op op state)
 answers-as (Create v) state = search quiet
 answers-as (Delete v) state = search quiet
 answers-as (Set v key value) state = search quiet
@@ -124,7 +124,7 @@ pub record EdgesKeep (Good : List (Name × Edge) → Type 0) (MayLead : Name →
   pub link : (name target : Name) (edges : List (Name × Edge)) → Good edges → MayLead target
       → has name edges ≡ false → is_full 1000 name edges ≡ false
       → Good (put name (record { target = target; tags = [] }) edges)
-  pub unlink : (name : Name) (edges : List (Name × Edge)) → Good edges → Good (without name edges)
+  pub unlink : (name : Name) (edges : List (Name × Edge)) → Good edges → Good (without_key name edges)
   pub retag : (name : Name) (edge : Edge) (tags : List (Name × Name)) (edges : List (Name × Edge)) → Good edges
       → at_key name edges ≡ Some edge → Good (put name (record edge { tags = tags }) edges)
 
@@ -149,7 +149,7 @@ module _ (Good : List (Name × Edge) → Type 0) (MayLead : Name → Type 0) (ke
   abbrev tagging : Name → Record → (Edge → Bool) → Reason → (Edge → List (Name × Name)) → Option Edge → Outcome
   tagging name was test reason tags found =
       on_edge found (λ (edge : Edge).
-      refused_if (test edge) reason (becomes (record was { edges = put name (record edge { tags = tags edge }) was.edges })))
+      refused_if (test edge) reason (done_with (record was { edges = put name (record edge { tags = tags edge }) was.edges })))
 
   retagged : (name : Name) (test : Edge → Bool) (reason : Reason) (tags : Edge → List (Name × Name)) (was : Record)
       → Good was.edges → HasGood Good (state_left (Some was) (tagging name was test reason tags (at_key name was.edges)))
@@ -163,7 +163,7 @@ module _ (Good : List (Name × Edge) → Type 0) (MayLead : Name → Type 0) (ke
 
   -- an operation keeps them good
   pub edges-kept : (op : Op) (state : State) → HasGood Good state → IfSome (target_of op) MayLead
-      → HasGood Good (state_left state (applied op state))
+      → HasGood Good (state_left state (outcome_of_op op state))
   edges-kept (Create v) state good may = unless-refused (is_some state) Exists state _ good (λ _. keep.none)
   edges-kept (Delete v) state good may = of-vertex state _ good (λ was was-good. tt)
   edges-kept (Set v key value) state good may = of-vertex state _ good (λ was was-good.
@@ -182,5 +182,5 @@ module _ (Good : List (Name × Edge) → Type 0) (MayLead : Name → Type 0) (ke
       (retagged name (λ (edge : Edge). is_full 8 key edge.tags) Full (λ (edge : Edge). put key value edge.tags))
   edges-kept (Untag v name key) state good may =
       of-vertex state _ good
-      (retagged name (λ (edge : Edge). not (has key edge.tags)) NoKey (λ (edge : Edge). without key edge.tags))
+      (retagged name (λ (edge : Edge). not (has key edge.tags)) NoKey (λ (edge : Edge). without_key key edge.tags))
   edges-kept (Get v) state good may = good

@@ -51,6 +51,7 @@ mentioned names more v =
       | false ↦ λ e. append_assoc names (v ∷ []) _ ∙ ap (λ rest. names ++ v ∷ rest) (sym (new names more v))
     ] refl
 
+-- if no name was mentioned before, all are fresh
 pub fresh_none : (names : List Name) → fresh [] names ≡ names
 fresh_none [] = refl
 fresh_none (v ∷ rest) = ap (λ names. v ∷ names) (fresh_none rest)

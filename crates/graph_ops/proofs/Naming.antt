@@ -18,6 +18,7 @@ use Rattle.graph_ops.proofs.Vertices.{itself}
 
 -- Each once
 
+-- no name comes twice among the first mentions
 pub mentions-distinct : (xs : List Name) → AllPairs (λ a b. a ≢ b) (first_mentions xs)
 mentions-distinct [] = pairs_none (λ (a b : Name). a ≢ b)
 mentions-distinct (x ∷ xs) =
@@ -55,11 +56,13 @@ mentions-among (x ∷ xs) v = at (same_name x v) refl (mentions-among xs v)
     at true same rest = refl
     at false other rest = others-among x v other (first_mentions xs) ∙ rest
 
+-- a list contains each name that is among it
 pub among-has : (xs : List Name) (v : Name) → IsTrue (is_among xs v) → Contains xs v
 among-has xs v h =
     let found = any_has (λ other. same_name other v) xs h in
     subst (Contains xs) (one_name found.0 v found.2) found.1
 
+-- and each name that a list contains is among it
 pub has-among : (xs : List Name) (v : Name) → Contains xs v → IsTrue (is_among xs v)
 has-among xs v h = any_from (λ other. same_name other v) xs v h (itself v)
 

@@ -8,10 +8,10 @@ use Rattle.weave_data.specs.Names.{name_cmp}
 use Rattle.weave_data.specs.Pairs.{IsRising, at_key, put}
 use Rattle.weave_data.specs.declared.name.Name.{Name}
 use Rattle.weave_data.proofs.Changing.{found_put}
-use Rattle.graph_ops.specs.Operations.{becomes, on_edge}
+use Rattle.graph_ops.specs.Operations.{done_with, on_edge}
 use Rattle.graph_ops.specs.TagChanges.{tags_after, record_after, edge_after, DoesToTags}
-use Rattle.graph_ops.specs.TakingBack.{retagged, with_edge, CanRetag, Does}
-use Rattle.weave_data.specs.Changes.{undone, Fits}
+use Rattle.graph_ops.specs.TakingBack.{edges_retagged, with_edge, CanRetag, HasOutcome}
+use Rattle.weave_data.specs.Changes.{undone_pairs, Fits}
 use Rattle.weave_data.specs.declared.change.Undo.{Undo}
 use Rattle.graph_ops.specs.declared.op.OpFault.{OpFault}
 use Rattle.graph_ops.specs.declared.op.OpFault.TheVariants.{Refused, Memory}
@@ -51,32 +51,38 @@ put_same {X} key value (e ∷ es) rising there =
 
 -- an edge that was swapped out, whose tags changed, and that was swapped in again
 module _ (name : Name) (was : Record) (edge bare : Edge) (tags : List (Name × Name)) (held edges : List (Name × Edge)) (rising : IsRising was.edges) (there : at_key name was.edges ≡ Some edge) (out : held ≡ put name bare was.edges) (back_in : edges ≡ put name (record edge { tags = tags }) held) where
+  -- the edges are those from before, with the new tags of this edge
   pub after : edges ≡ put name (record edge { tags = tags }) was.edges
   after = back_in ∙ ap (put name (record edge { tags = tags })) out ∙ put_over name (record edge { tags = tags }) bare was.edges
 
   now_there : at_key name edges ≡ Some (record edge { tags = tags })
   now_there = ap (at_key name) after ∙ found_put name (record edge { tags = tags }) was.edges
 
+  -- if its tags are as they were, the edges are as they were
   pub as_before : tags ≡ edge.tags → edges ≡ was.edges
   as_before same = after ∙ ap (λ all. put name (record edge { tags = all }) was.edges) same ∙ put_same name edge was.edges rising there
 
   here : (change : TagChange) → edge_after change name was ≡ record_after was name edge (tags_after change edge.tags)
   here change = ap (λ x. on_edge x (λ found. record_after was name found (tags_after change found.tags))) there
 
-  pub changed : (change : TagChange) → tags_after change edge.tags ≡ Ok tags → edge_after change name was ≡ becomes (record was { edges = edges })
-  changed change passes = here change ∙ ap (record_after was name edge) passes ∙ ap (λ all. becomes (record was { edges = all })) (sym after)
+  -- if the change passes with these tags, the operation on the record passes and leaves these edges
+  pub changed : (change : TagChange) → tags_after change edge.tags ≡ Ok tags → edge_after change name was ≡ done_with (record was { edges = edges })
+  changed change passes = here change ∙ ap (record_after was name edge) passes ∙ ap (λ all. done_with (record was { edges = all })) (sym after)
 
+  -- a change that can be taken back on the new tags without memory can be taken back so on the edges
   pub can_retag : (undo : Undo Name) → Fits undo tags → CanRetag name undo edges
   can_retag undo fits = subst (λ x. IfSome x (λ found. Fits undo found.tags)) (sym now_there) fits
 
-  pub retagged_back : (undo : Undo Name) → undone undo tags ≡ edge.tags → retagged name undo edges ≡ was.edges
+  -- if the tags with the change taken back are those from before, so are the edges
+  pub retagged_back : (undo : Undo Name) → undone_pairs undo tags ≡ edge.tags → edges_retagged name undo edges ≡ was.edges
   retagged_back undo back =
-      ap (λ x. with_edge name (option_map {T = Edge} (λ found. record found { tags = undone undo found.tags }) x) edges) now_there
+      ap (λ x. with_edge name (option_map {T = Edge} (λ found. record found { tags = undone_pairs undo found.tags }) x) edges) now_there
       ∙ ap (λ all. put name (record edge { tags = all }) edges) back
       ∙ ap (put name edge) after
       ∙ put_over name edge (record edge { tags = tags }) was.edges
       ∙ put_same name edge was.edges rising there
 
-  pub failed : (change : TagChange) (fault : OpFault) → DoesToTags (tags_after change edge.tags) edge.tags tags (Err fault) → Does (edge_after change name was) (Some was) (Some (record was { edges = edges })) (Err fault)
+  -- if the change of the tags fails, so does the operation, with the same fault, and the record is as it was
+  pub failed : (change : TagChange) (fault : OpFault) → DoesToTags (tags_after change edge.tags) edge.tags tags (Err fault) → HasOutcome (edge_after change name was) (Some was) (Some (record was { edges = edges })) (Err fault)
   failed change (Refused reason) a = (here change ∙ ap (record_after was name edge) a.0, ap (λ all. Some (record was { edges = all })) (as_before a.1))
   failed change Memory a = ap (λ all. Some (record was { edges = all })) (as_before a)

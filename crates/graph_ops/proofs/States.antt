@@ -13,11 +13,11 @@ use Rattle.std.proofs.lemmas.Map.Entries.{none_past_head}
 use Rattle.weave_data.specs.Names.{name_cmp, same_name, one_name}
 use Rattle.weave_data.specs.Pairs.{at_key}
 use Rattle.weave_data.specs.declared.name.Name.{Name}
-use Rattle.graph_ops.specs.Operations.{State, applied, vertex_of, IfRefused}
+use Rattle.graph_ops.specs.Operations.{State, outcome_of_op, vertex_of, IfRefused}
 use Rattle.graph_ops.specs.PlainGraph.{PlainGraph, empty_graph, with_state, in_graph, on_graph}
 use Rattle.graph_ops.specs.Graphs.{Vertices, plain_of}
-use Rattle.graph_ops.specs.Slots.{state_in, states_of, with_slot, held, Covers}
-use Rattle.graph_ops.specs.TakingBack.{taken_back, CanTakeBack, Does, step_back}
+use Rattle.graph_ops.specs.Slots.{state_in, states_of, with_slot, vertices_held, Covers}
+use Rattle.graph_ops.specs.TakingBack.{taken_back, CanTakeBack, HasOutcome, step_back}
 use Rattle.graph_ops.specs.Journals.{Keeps}
 use Rattle.graph_ops.specs.declared.op.Op.{Op}
 use Rattle.graph_ops.specs.declared.op.Op.TheVariants.{Get}
@@ -36,6 +36,7 @@ here_or_else v P here other q =
       | false ↦ λ _. other q
     ] refl
 
+-- sameness of two names can be turned
 pub other_way : (v q : Name) → same_name v q ≡ same_name q v
 other_way = (eq_by_cmp_equiv nat_list_cmp_total).symm
 
@@ -49,28 +50,31 @@ Writes v s es fs = (q : Name) → at_key q fs ≡ cond (same_name v q) (Some s) 
 
 -- The finite map of a table.
 
+-- the finite map with a state of a vertex has this state there, and elsewhere what it had
 pub get_with : (v : Name) (s : State) (vertices : Vertices) (q : Name) → map.get (with_slot v s vertices) q ≡ cond (same_name q v) s (map.get vertices q)
 get_with v None vertices q = get-remove nat_list_cmp_total vertices v q
 get_with v (Some now) vertices q = get-insert nat_list_cmp_total vertices v now q
 
-pub get_held : (slots : List (Name × State)) (q : Name) → map.get (held slots) q ≡ states_of slots q
+-- the finite map of a table has the states of the table
+pub get_held : (slots : List (Name × State)) (q : Name) → map.get (vertices_held slots) q ≡ states_of slots q
 unfolding states_of
 get_held [] q = get-empty name_cmp q
-get_held (slot ∷ rest) q = get_with slot.0 slot.1 (held rest) q ∙ ap (cond (same_name q slot.0) slot.1) (get_held rest q) ∙ written_state (same_name q slot.0) slot.1 (at_key q rest)
+get_held (slot ∷ rest) q = get_with slot.0 slot.1 (vertices_held rest) q ∙ ap (cond (same_name q slot.0) slot.1) (get_held rest q) ∙ written_state (same_name q slot.0) slot.1 (at_key q rest)
 
 -- its plain graph has the states of the table
-pub seen : (slots : List (Name × State)) (vertices : Vertices) → held slots ≡ vertices → plain_of vertices ≡ states_of slots
+pub seen : (slots : List (Name × State)) (vertices : Vertices) → vertices_held slots ≡ vertices → plain_of vertices ≡ states_of slots
 seen slots vertices view = ap plain_of (sym view) ∙ (λ i q. get_held slots q i)
 
-pub seen_empty : (slots : List (Name × State)) → slots ≡ [] → plain_of (held slots) ≡ empty_graph
-seen_empty slots e = ap (λ all. plain_of (held all)) e ∙ (λ i q. get-empty name_cmp q i)
+-- the plain graph of an empty table is the empty graph
+pub seen_empty : (slots : List (Name × State)) → slots ≡ [] → plain_of (vertices_held slots) ≡ empty_graph
+seen_empty slots e = ap (λ all. plain_of (vertices_held all)) e ∙ (λ i q. get-empty name_cmp q i)
 
 -- finite maps of the same states are equal
 pub one_map : (a b : Vertices) → ((q : Name) → map.get a q ≡ map.get b q) → a ≡ b
 one_map a b same = same_map nat_list_cmp_total (slice_cmp-IsAntisymmetric nat_cmp-IsAntisymmetric) a b same
 
 -- tables of the same states give the same finite map
-pub unchanged : (slots others : List (Name × State)) (vertices : Vertices) → held others ≡ vertices → states_of slots ≡ states_of others → held slots ≡ vertices
+pub unchanged : (slots others : List (Name × State)) (vertices : Vertices) → vertices_held others ≡ vertices → states_of slots ≡ states_of others → vertices_held slots ≡ vertices
 unchanged slots others vertices view same = one_map _ _ (λ q. get_held slots q ∙ ap (λ graph. graph q) same ∙ sym (get_held others q)) ∙ view
 
 -- The states of a table.
@@ -80,13 +84,15 @@ pub state_there : (v : Name) (slots : List (Name × State)) (x : Option State) �
 unfolding states_of
 state_there v slots x e = ap state_in (sym e)
 
-pub found : (v : Name) (slots : List (Name × State)) (vertices : Vertices) (x : Option State) → held slots ≡ vertices → at_key v slots ≡ x → state_in x ≡ plain_of vertices v
+-- what is found in the place of a vertex is its state in the plain graph; without a place it is absent
+pub found : (v : Name) (slots : List (Name × State)) (vertices : Vertices) (x : Option State) → vertices_held slots ≡ vertices → at_key v slots ≡ x → state_in x ≡ plain_of vertices v
 found v slots vertices x view e = state_there v slots x e ∙ ap (λ graph. graph v) (sym (seen slots vertices view))
 
 -- to read changes nothing
 pub reads : (v : Name) (graph : PlainGraph) (state : State) → state ≡ graph v → on_graph (Get v) graph ≡ Ok (graph, answered.Got state)
 reads v graph state is = λ i. Ok ((λ q. here_or_else v (λ k b. cond b (graph v) (graph k) ≡ graph k) refl (λ k. refl) q i), answered.Got (sym is i))
 
+-- a table with a state written at a vertex gives the graph with this state there
 pub written : (v : Name) (s : State) (es fs : List (Name × State)) → Writes v s es fs → states_of fs ≡ with_state v s (states_of es)
 unfolding states_of
 written v s es fs writes = λ i q. (ap state_in (writes q) ∙ sym (written_state (same_name v q) s (at_key q es))) i
@@ -99,6 +105,7 @@ placed v es fs none writes = λ i q. (
     ∙ here_or_else v (λ k b. state_in (cond b (Some None) (at_key k es)) ≡ state_in (at_key k es)) (ap state_in (sym none)) (λ k. refl) q
     ) i
 
+-- if no place is found, what was found is none
 pub absent : (x : Option State) → is_some x ≡ false → x ≡ None
 absent None e = refl
 absent (Some s) e = cc
@@ -107,6 +114,7 @@ absent (Some s) e = cc
 pub rewritten : (v : Name) (was now : State) (graph : PlainGraph) → graph v ≡ was → with_state v was (with_state v now graph) ≡ graph
 rewritten v was now graph is = λ i q. here_or_else v (λ k b. cond b was (cond b now (graph k)) ≡ graph k) (sym is) (λ k. refl) q i
 
+-- the graph with a state of a vertex has this state there
 pub state_of_written : (v : Name) (now : State) (graph : PlainGraph) → with_state v now graph v ≡ now
 state_of_written v now graph = ap (λ b. cond b now (graph v)) ((eq_by_cmp_equiv nat_list_cmp_total).refl v)
 
@@ -115,8 +123,8 @@ module _ (op : Op) (v : Name) (e : v ≡ vertex_of op) (es fs : List (Name × St
   before : states_of es (vertex_of op) ≡ was
   before = subst (λ k. states_of es k ≡ was) e (sym (state_there v es _ there))
 
-  comes : on_graph op (states_of es) ≡ in_graph (vertex_of op) (applied op was) (states_of es)
-  comes = ap (λ s. in_graph (vertex_of op) (applied op s) (states_of es)) before
+  comes : on_graph op (states_of es) ≡ in_graph (vertex_of op) (outcome_of_op op was) (states_of es)
+  comes = ap (λ s. in_graph (vertex_of op) (outcome_of_op op s) (states_of es)) before
 
   becomes : states_of fs ≡ with_state (vertex_of op) now (states_of es)
   becomes = subst (λ k. states_of fs ≡ with_state k now (states_of es)) e (written v now es fs (writes (ap is_some there)))
@@ -127,15 +135,18 @@ module _ (op : Op) (v : Name) (e : v ≡ vertex_of op) (es fs : List (Name × St
   as_before : (state : State) → state ≡ was → with_state (vertex_of op) state (states_of fs) ≡ states_of es
   as_before state is = ap (λ s. with_state (vertex_of op) s (states_of fs)) is ∙ ap (with_state (vertex_of op) was) becomes ∙ rewritten (vertex_of op) was now (states_of es) before
 
-  pub done : (result : Result Change OpFault) → Does (applied op was) was now result → IfOk result (λ change. on_graph op (states_of es) ≡ Ok (states_of fs, change.answered))
+  -- if the call passed, the operation passes on the table's graph with its answer, and leaves the new table's graph
+  pub done : (result : Result Change OpFault) → HasOutcome (outcome_of_op op was) was now result → IfOk result (λ change. on_graph op (states_of es) ≡ Ok (states_of fs, change.answered))
   done (Ok change) a = comes ∙ ap (λ o. in_graph (vertex_of op) o (states_of es)) a.0 ∙ ap (λ (k : PlainGraph). Ok (k, change.answered)) (sym becomes)
   done (Err fault) a = tt
 
-  pub kept : (result : Result Change OpFault) → Does (applied op was) was now result → IfOk result (λ change. Keeps (record { v = vertex_of op; back = change.back }) fs es)
+  -- and the step that it noted takes the change back
+  pub kept : (result : Result Change OpFault) → HasOutcome (outcome_of_op op was) was now result → IfOk result (λ change. Keeps (record { v = vertex_of op; back = change.back }) fs es)
   kept (Ok change) a = (subst (CanTakeBack change.back) (sym state_now) a.1, as_before _ (ap (taken_back change.back) state_now ∙ a.2))
   kept (Err fault) a = tt
 
-  pub refused : (result : Result Change OpFault) → Does (applied op was) was now result → IfRefused result (λ reason. on_graph op (states_of es) ≡ Err reason)
+  -- if the call was refused, the operation is refused on the table's graph for the same reason
+  pub refused : (result : Result Change OpFault) → HasOutcome (outcome_of_op op was) was now result → IfRefused result (λ reason. on_graph op (states_of es) ≡ Err reason)
   refused (Ok change) a = tt
   refused (Err (Refused reason)) a = comes ∙ ap (λ o. in_graph (vertex_of op) o (states_of es)) a.0
   refused (Err Memory) a = tt
@@ -143,7 +154,8 @@ module _ (op : Op) (v : Name) (e : v ≡ vertex_of op) (es fs : List (Name × St
   unmoved : now ≡ was → states_of fs ≡ states_of es
   unmoved same = becomes ∙ ap (λ s. with_state (vertex_of op) s (states_of es)) (same ∙ sym before) ∙ (λ i q. here_or_else (vertex_of op) (λ k b. cond b (states_of es (vertex_of op)) (states_of es k) ≡ states_of es k) refl (λ k. refl) q i)
 
-  pub as_it_was : (result : Result Change OpFault) → Does (applied op was) was now result → OnErr result (states_of fs ≡ states_of es)
+  -- after either fault the table has the same states as before
+  pub as_it_was : (result : Result Change OpFault) → HasOutcome (outcome_of_op op was) was now result → OnErr result (states_of fs ≡ states_of es)
   as_it_was (Ok change) a = tt
   as_it_was (Err (Refused reason)) a = unmoved a.1
   as_it_was (Err Memory) a = unmoved a
@@ -176,9 +188,11 @@ copied_more v s copy all front rest es fs is same apart writes states q =
     here_first false None y none = refl
     here_first false (Some t) y none = refl
 
+-- if no vertex comes twice in a table, none does in the table without its first place
 pub apart_rest : (v : Name) (s : State) (front rest : List (Name × State)) → front ≡ (v, s) ∷ rest → IsDistinct same_name (keys_of front) → IsDistinct same_name (keys_of rest)
 apart_rest v s front rest is apart = IsDistinct-tail same_name v (keys_of rest) (subst (λ pairs. IsDistinct same_name (keys_of pairs)) is apart)
 
+-- when nothing is left to copy, the copy has the states of the whole table
 pub all_copied : (front es all : List (Name × State)) → front ≡ [] → ((q : Name) → first_of (at_key q front) (at_key q es) ≡ at_key q all) → states_of es ≡ states_of all
 unfolding states_of
 all_copied front es all none states = λ i q. (ap (λ pairs. state_in (first_of (at_key q pairs) (at_key q es))) (sym none) ∙ ap state_in (states q)) i

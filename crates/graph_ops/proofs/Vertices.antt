@@ -7,9 +7,9 @@ use Rattle.std.specs.Cmp.{eq_by_cmp_equiv}
 use Rattle.std.specs.Cmp.Lexicographic.{nat_list_cmp_total}
 use Rattle.weave_data.specs.Names.{same_name, one_name}
 use Rattle.weave_data.specs.declared.name.Name.{Name}
-use Rattle.graph_ops.specs.Operations.{State, Outcome, applied, vertex_of}
-use Rattle.graph_ops.specs.PlainGraph.{PlainGraph, Passed, TxOutcome, with_state, in_graph, got, after, onward, run}
-use Rattle.graph_ops.specs.VertexOps.{ops_on, state_left, state_after, none_refused}
+use Rattle.graph_ops.specs.Operations.{State, Outcome, outcome_of_op, vertex_of}
+use Rattle.graph_ops.specs.PlainGraph.{PlainGraph, PassedTx, TxOutcome, with_state, in_graph, gots_of_answer, with_gots_before, outcome_then, run}
+use Rattle.graph_ops.specs.VertexOps.{ops_on, state_left, state_after_ops, none_refused}
 use Rattle.graph_ops.specs.declared.op.Op.{Op}
 use Rattle.graph_ops.specs.declared.op.Answered.{Answered}
 use Rattle.graph_ops.specs.declared.tx.Got.{Got}
@@ -22,44 +22,45 @@ itself = (eq_by_cmp_equiv nat_list_cmp_total).refl
 
 -- the operations pass on the old state, and leave the new one
 abbrev pub Leaves : List Op → State → State → Type 0
-Leaves ops old new = IsTrue (none_refused ops old) × (state_after ops old ≡ new)
+Leaves ops old new = IsTrue (none_refused ops old) × (state_after_ops ops old ≡ new)
 
 -- one more operation in front
-one-more : (op : Op) (ops : List Op) (old now new : State) (answered : Answered) → applied op old ≡ Ok (now, answered) → Leaves ops now new → Leaves (op ∷ ops) old new
+one-more : (op : Op) (ops : List Op) (old now new : State) (answered : Answered) → outcome_of_op op old ≡ Ok (now, answered) → Leaves ops now new → Leaves (op ∷ ops) old new
 one-more op ops old now new answered e rest =
-    subst (λ (o : Outcome). IsTrue (is_ok o && none_refused ops (state_left old o)) × (state_after ops (state_left old o) ≡ new)) (sym e) rest
+    subst (λ (o : Outcome). IsTrue (is_ok o && none_refused ops (state_left old o)) × (state_after_ops ops (state_left old o) ≡ new)) (sym e) rest
 
 -- an outcome that passes and leaves this graph
 abbrev pub LeavesGraph : TxOutcome → PlainGraph → Type 0
 LeavesGraph (Ok p) graph = p.graph ≡ graph
 LeavesGraph (Err stopped) graph = ⊥
 
-without-first : (gots : List Got) (o : TxOutcome) (graph : PlainGraph) → LeavesGraph (after gots o) graph → LeavesGraph o graph
+without-first : (gots : List Got) (o : TxOutcome) (graph : PlainGraph) → LeavesGraph (with_gots_before gots o) graph → LeavesGraph o graph
 without-first gots (Ok p) graph c = c
 without-first gots (Err stopped) graph c = c
 
-module _ (op : Op) (ops : List Op) (graph h : PlainGraph) (v : Name) (now : State) (answered : Answered) (e : applied op (graph (vertex_of op)) ≡ Ok (now, answered)) (later : Leaves (ops_on v ops) (with_state (vertex_of op) now graph v) (h v)) where
+module _ (op : Op) (ops : List Op) (graph h : PlainGraph) (v : Name) (now : State) (answered : Answered) (e : outcome_of_op op (graph (vertex_of op)) ≡ Ok (now, answered)) (later : Leaves (ops_on v ops) (with_state (vertex_of op) now graph v) (h v)) where
   at-vertex : (b : Bool) → same_name (vertex_of op) v ≡ b → Leaves (cond b (op ∷ ops_on v ops) (ops_on v ops)) (graph v) (h v)
   at-vertex true same =
       let here : vertex_of op ≡ v = one_name _ _ same in
-      one-more op (ops_on v ops) (graph v) now (h v) answered (ap (λ k. applied op (graph k)) (sym here) ∙ e)
+      one-more op (ops_on v ops) (graph v) now (h v) answered (ap (λ k. outcome_of_op op (graph k)) (sym here) ∙ e)
       (subst (λ b. Leaves (ops_on v ops) (cond b now (graph v)) (h v)) same later)
   at-vertex false other = subst (λ b. Leaves (ops_on v ops) (cond b now (graph v)) (h v)) other later
 
 leaves-graph : (ops : List Op) (number : ℕ) (graph h : PlainGraph) (v : Name) → LeavesGraph (run number ops graph) h → Leaves (ops_on v ops) (graph v) (h v)
 leaves-graph [] number graph h v c = (refl, ap (λ (k : PlainGraph). k v) c)
 leaves-graph (op ∷ ops) number graph h v c =
-    elim (applied op (graph (vertex_of op))) as (λ o. applied op (graph (vertex_of op)) ≡ o → LeavesGraph (onward number (in_graph (vertex_of op) o graph) (λ next. run (number + 1) ops next)) h → Leaves (ops_on v (op ∷ ops)) (graph v) (h v)) [
+    elim (outcome_of_op op (graph (vertex_of op))) as (λ o. outcome_of_op op (graph (vertex_of op)) ≡ o → LeavesGraph (outcome_then number (in_graph (vertex_of op) o graph) (λ next. run (number + 1) ops next)) h → Leaves (ops_on v (op ∷ ops)) (graph v) (h v)) [
       | Ok p ↦ λ e k. at-vertex op ops graph h v p.0 p.1 e (leaves-graph ops (number + 1) (with_state (vertex_of op) p.0 graph) h v (without-first _ _ h k)) _ refl
       | Err reason ↦ λ e k. absurd k
     ] refl c
 
 -- each vertex has the state that the operations on it leave
-pub leaves : (ops : List Op) (number : ℕ) (graph : PlainGraph) (passed : Passed) (v : Name) → run number ops graph ≡ Ok passed → Leaves (ops_on v ops) (graph v) (passed.graph v)
+pub leaves : (ops : List Op) (number : ℕ) (graph : PlainGraph) (passed : PassedTx) (v : Name) → run number ops graph ≡ Ok passed → Leaves (ops_on v ops) (graph v) (passed.graph v)
 leaves ops number graph passed v e = leaves-graph ops number graph passed.graph v (subst (λ (o : TxOutcome). LeavesGraph o passed.graph) (sym e) refl)
 
 -- Whether a transaction passes
 
+-- if operations pass on a graph, those on each vertex pass on its state
 pub passes-each : (ops : List Op) (number : ℕ) (graph : PlainGraph) → IsTrue (is_ok (run number ops graph)) → (v : Name) → IsTrue (none_refused (ops_on v ops) (graph v))
 passes-each ops number graph h v = at (run number ops graph) refl h
   where
@@ -67,31 +68,32 @@ passes-each ops number graph h v = at (run number ops graph) refl h
     at (Ok passed) e h = (leaves ops number graph passed v e).0
     at (Err stopped) e h = absurd (cc)
 
-after-ok : (gots : List Got) (o : TxOutcome) → IsTrue (is_ok o) → IsTrue (is_ok (after gots o))
+after-ok : (gots : List Got) (o : TxOutcome) → IsTrue (is_ok o) → IsTrue (is_ok (with_gots_before gots o))
 after-ok gots (Ok p) h = h
 after-ok gots (Err stopped) h = h
 
 -- the first operation passes on its vertex, and the rest pass on the graph that it leaves
-first-passes : (op : Op) (ops : List Op) (graph : PlainGraph) → ((v : Name) → IsTrue (none_refused (ops_on v (op ∷ ops)) (graph v))) → IsTrue (is_ok (applied op (graph (vertex_of op))))
+first-passes : (op : Op) (ops : List Op) (graph : PlainGraph) → ((v : Name) → IsTrue (none_refused (ops_on v (op ∷ ops)) (graph v))) → IsTrue (is_ok (outcome_of_op op (graph (vertex_of op))))
 first-passes op ops graph each =
     let u = vertex_of op in
     let here : IsTrue (none_refused (op ∷ ops_on u ops) (graph u)) = subst (λ b. IsTrue (none_refused (cond b (op ∷ ops_on u ops) (ops_on u ops)) (graph u))) (itself u) (each u) in
     (and_parts _ _ here).0
 
-rest-passes : (op : Op) (ops : List Op) (graph : PlainGraph) (now : State) (answered : Answered) → applied op (graph (vertex_of op)) ≡ Ok (now, answered) → ((v : Name) → IsTrue (none_refused (ops_on v (op ∷ ops)) (graph v))) → (v : Name) → IsTrue (none_refused (ops_on v ops) (with_state (vertex_of op) now graph v))
+rest-passes : (op : Op) (ops : List Op) (graph : PlainGraph) (now : State) (answered : Answered) → outcome_of_op op (graph (vertex_of op)) ≡ Ok (now, answered) → ((v : Name) → IsTrue (none_refused (ops_on v (op ∷ ops)) (graph v))) → (v : Name) → IsTrue (none_refused (ops_on v ops) (with_state (vertex_of op) now graph v))
 rest-passes op ops graph now answered e each v = at (same_name (vertex_of op) v) refl (each v)
   where
     at : (b : Bool) → same_name (vertex_of op) v ≡ b → IsTrue (none_refused (cond b (op ∷ ops_on v ops) (ops_on v ops)) (graph v)) → IsTrue (none_refused (ops_on v ops) (cond b now (graph v)))
     at true same h =
         let here : vertex_of op ≡ v = one_name _ _ same in
-        let is : applied op (graph v) ≡ Ok (now, answered) = ap (λ k. applied op (graph k)) (sym here) ∙ e in
+        let is : outcome_of_op op (graph v) ≡ Ok (now, answered) = ap (λ k. outcome_of_op op (graph k)) (sym here) ∙ e in
         subst (λ (o : Outcome). IsTrue (is_ok o && none_refused (ops_on v ops) (state_left (graph v) o))) is h
     at false other h = h
 
+-- and if those on each vertex pass on its state, all of them pass on the graph
 pub each-passes : (ops : List Op) (number : ℕ) (graph : PlainGraph) → ((v : Name) → IsTrue (none_refused (ops_on v ops) (graph v))) → IsTrue (is_ok (run number ops graph))
 each-passes [] number graph each = refl
 each-passes (op ∷ ops) number graph each =
-    elim (applied op (graph (vertex_of op))) as (λ o. applied op (graph (vertex_of op)) ≡ o → IsTrue (is_ok o) → IsTrue (is_ok (onward number (in_graph (vertex_of op) o graph) (λ next. run (number + 1) ops next)))) [
+    elim (outcome_of_op op (graph (vertex_of op))) as (λ o. outcome_of_op op (graph (vertex_of op)) ≡ o → IsTrue (is_ok o) → IsTrue (is_ok (outcome_then number (in_graph (vertex_of op) o graph) (λ next. run (number + 1) ops next)))) [
       | Ok p ↦ λ e h. after-ok _ _ (each-passes ops (number + 1) (with_state (vertex_of op) p.0 graph) (rest-passes op ops graph p.0 p.1 e each))
       | Err reason ↦ λ e h. absurd (cc)
     ] refl (first-passes op ops graph each)

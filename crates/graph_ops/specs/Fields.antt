@@ -5,8 +5,8 @@ use Rattle.graph_ops.specs.declared.op.Fields.{Fields}
 use Rattle.graph_ops.specs.declared.op.Fields.TheVariants.{One, Two, Three, Four}
 
 -- as a list
-abbrev pub names_in : Fields → List Name
-names_in (One names) = names
-names_in (Two names) = names
-names_in (Three names) = names
-names_in (Four names) = names
+abbrev pub names_of_fields : Fields → List Name
+names_of_fields (One names) = names
+names_of_fields (Two names) = names
+names_of_fields (Three names) = names
+names_of_fields (Four names) = names

@@ -16,7 +16,7 @@ HavePlaces steps slots = AllByRecursion (λ (step : Step). IsSome (at_key step.v
 abbrev pub CanRewindIn : List Step → List (Name × State) → Type 0
 CanRewindIn steps slots = CanRewind steps (states_of slots) × HavePlaces steps slots
 
--- the step takes the change from `before` to `now` back
+-- the step takes the change from `before` to `now` back. No public contract cites this.
 abbrev pub Keeps : Step → List (Name × State) → List (Name × State) → Type 0
 Keeps step now before = CanTakeBack step.back (states_of now step.v)
     × (step_back step (states_of now) ≡ states_of before)

@@ -2,8 +2,9 @@
 -- and how each is written. A record has at most 64 properties and 1,000 edges, an edge 8 tags.
 use Rattle.std.specs.Prelude.{◌≡◌, ℕ, Bool, true, false, not, cond, List, [], ◌∷◌, find, codes, Option, Some, None, is_some, Result, Ok, Err}
 use Rattle.std.specs.Str.{bytes_eq}
-use Rattle.weave_data.specs.Pairs.{at_key, has, put, without, is_full}
+use Rattle.weave_data.specs.Pairs.{at_key, has, put, without_key, is_full}
 use Rattle.weave_data.specs.declared.name.Name.{Name}
+use Rattle.weave_data.specs.Limits.{most_edges, most_props, most_tags}
 use Rattle.graph_ops.specs.declared.record.Edge.{Edge}
 use Rattle.graph_ops.specs.declared.record.Record.{Record}
 use Rattle.graph_ops.specs.declared.op.Op.{Op}
@@ -24,8 +25,8 @@ abbrev pub Outcome : Type 0
 Outcome = Result (State × Answered) Reason
 
 -- the vertex has this record now, and there is nothing to answer
-abbrev pub becomes : Record → Outcome
-becomes now = Ok (Some now, Done)
+abbrev pub done_with : Record → Outcome
+done_with now = Ok (Some now, Done)
 
 -- refused for the reason if the test holds; otherwise the rest
 abbrev pub refused_if : Bool → Reason → Outcome → Outcome
@@ -42,26 +43,26 @@ on_edge None rest = Err NoEdge
 on_edge (Some edge) rest = rest edge
 
 -- the operation on its vertex
-abbrev pub applied : Op → State → Outcome
-applied (Create v) state = refused_if (is_some state) Exists (becomes (record { props = []; edges = [] }))
-applied (Delete v) state = on_vertex state (λ was. Ok (None, Done))
-applied (Set v key value) state = on_vertex state (λ was.
-    refused_if (is_full 64 key was.props) Full (becomes (record was { props = put key value was.props })))
-applied (Unset v key) state = on_vertex state (λ was.
-    refused_if (not (has key was.props)) NoKey (becomes (record was { props = without key was.props })))
-applied (Link v name target) state = on_vertex state (λ was.
+abbrev pub outcome_of_op : Op → State → Outcome
+outcome_of_op (Create v) state = refused_if (is_some state) Exists (done_with (record { props = []; edges = [] }))
+outcome_of_op (Delete v) state = on_vertex state (λ was. Ok (None, Done))
+outcome_of_op (Set v key value) state = on_vertex state (λ was.
+    refused_if (is_full most_props key was.props) Full (done_with (record was { props = put key value was.props })))
+outcome_of_op (Unset v key) state = on_vertex state (λ was.
+    refused_if (not (has key was.props)) NoKey (done_with (record was { props = without_key key was.props })))
+outcome_of_op (Link v name target) state = on_vertex state (λ was.
     refused_if (has name was.edges) EdgeExists (
-    refused_if (is_full 1000 name was.edges) Full
-    (becomes (record was { edges = put name (record { target = target; tags = [] }) was.edges }))))
-applied (Unlink v name) state = on_vertex state (λ was.
-    refused_if (not (has name was.edges)) NoEdge (becomes (record was { edges = without name was.edges })))
-applied (Tag v name key value) state = on_vertex state (λ was. on_edge (at_key name was.edges) (λ edge.
-    refused_if (is_full 8 key edge.tags) Full (becomes
+    refused_if (is_full most_edges name was.edges) Full
+    (done_with (record was { edges = put name (record { target = target; tags = [] }) was.edges }))))
+outcome_of_op (Unlink v name) state = on_vertex state (λ was.
+    refused_if (not (has name was.edges)) NoEdge (done_with (record was { edges = without_key name was.edges })))
+outcome_of_op (Tag v name key value) state = on_vertex state (λ was. on_edge (at_key name was.edges) (λ edge.
+    refused_if (is_full most_tags key edge.tags) Full (done_with
     (record was { edges = put name (record edge { tags = put key value edge.tags }) was.edges }))))
-applied (Untag v name key) state = on_vertex state (λ was. on_edge (at_key name was.edges) (λ edge.
+outcome_of_op (Untag v name key) state = on_vertex state (λ was. on_edge (at_key name was.edges) (λ edge.
     refused_if (not (has key edge.tags)) NoKey
-    (becomes (record was { edges = put name (record edge { tags = without key edge.tags }) was.edges }))))
-applied (Get v) state = Ok (state, Got state)
+    (done_with (record was { edges = put name (record edge { tags = without_key key edge.tags }) was.edges }))))
+outcome_of_op (Get v) state = Ok (state, Got state)
 
 -- the vertex that an operation is on
 abbrev pub vertex_of : Op → Name
@@ -128,9 +129,3 @@ abbrev pub IfRefused : {A : Type 0} → Result A OpFault → (Reason → Type 0)
 IfRefused (Ok answer) P = Unit {0}
 IfRefused (Err (Refused reason)) P = P reason
 IfRefused (Err Memory) P = Unit {0}
-
--- a call had this outcome on a state, or ran out of memory; after either fault the state is as before
-abbrev pub Performs : Outcome → State → State → Result Answered OpFault → Type 0
-Performs outcome old new (Ok answered) = outcome ≡ Ok (new, answered)
-Performs outcome old new (Err (Refused reason)) = (outcome ≡ Err reason) × (new ≡ old)
-Performs outcome old new (Err Memory) = new ≡ old

@@ -8,7 +8,7 @@ use Rattle.graph_ops.specs.Slots.{with_slot}
 use Rattle.graph_ops.specs.TakingBack.{taken_back}
 use Rattle.graph_ops.specs.declared.journal.Step.{Step}
 
-pub record Both : Type 0 where
+pub record BothVertices : Type 0 where
   pub before : Vertices
   pub after : Vertices
 
@@ -19,7 +19,7 @@ rewound_map (step ∷ steps) vertices =
     with_slot step.v (taken_back step.back (map.get (rewound_map steps vertices) step.v)) (rewound_map steps vertices)
 
 -- by which values they are told apart
-abbrev pub coded_both : Coded Both
+abbrev pub coded_both : Coded BothVertices
 coded_both =
     code_by (Vertices × Vertices) (coded× (map.code coded_name coded_record) (map.code coded_name coded_record))
     (λ b. (b.before, b.after)) (λ p. record { before = p.0; after = p.1 }) (λ _. refl)

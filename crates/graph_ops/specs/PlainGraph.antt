@@ -3,7 +3,7 @@
 use Rattle.std.specs.Prelude.{ℕ, ◌+◌, List, [], ◌∷◌, ◌++◌, None, Result, Ok, Err, if◌then◌else◌}
 use Rattle.weave_data.specs.Names.{same_name}
 use Rattle.weave_data.specs.declared.name.Name.{Name}
-use Rattle.graph_ops.specs.Operations.{State, Outcome, applied, vertex_of}
+use Rattle.graph_ops.specs.Operations.{State, Outcome, outcome_of_op, vertex_of}
 use Rattle.graph_ops.specs.declared.op.Op.{Op}
 use Rattle.graph_ops.specs.declared.op.Reason.{Reason}
 use Rattle.graph_ops.specs.declared.op.Answered.{Answered}
@@ -30,41 +30,41 @@ in_graph v (Err reason) graph = Err reason
 
 -- an operation on a graph changes its vertex's state and no other
 abbrev pub on_graph : Op → PlainGraph → Result (PlainGraph × Answered) Reason
-on_graph op graph = in_graph (vertex_of op) (applied op (graph (vertex_of op))) graph
+on_graph op graph = in_graph (vertex_of op) (outcome_of_op op (graph (vertex_of op))) graph
 
 -- a transaction that passes: the graph after it, and the states that its `get`s read
-pub record Passed : Type 0 where
+pub record PassedTx : Type 0 where
   pub graph : PlainGraph
   pub gots : List Got
 
 -- a transaction that is refused: its first refused operation, and the reason
-pub record Stopped : Type 0 where
+pub record StoppedTx : Type 0 where
   pub op : ℕ
   pub reason : Reason
 
 -- what a transaction results in
 abbrev pub TxOutcome : Type 0
-TxOutcome = Result Passed Stopped
+TxOutcome = Result PassedTx StoppedTx
 
 -- what an answer adds to those of a transaction
-abbrev pub got : ℕ → Answered → List Got
-got number answered.Done = []
-got number (answered.Got state) = record { op = number; state = state } ∷ []
+abbrev pub gots_of_answer : ℕ → Answered → List Got
+gots_of_answer number answered.Done = []
+gots_of_answer number (answered.Got state) = record { op = number; state = state } ∷ []
 
 -- an outcome with these answers before its own
-abbrev pub after : List Got → TxOutcome → TxOutcome
-after gots (Ok passed) = Ok (record passed { gots = gots ++ passed.gots })
-after gots (Err stopped) = Err stopped
+abbrev pub with_gots_before : List Got → TxOutcome → TxOutcome
+with_gots_before gots (Ok passed) = Ok (record passed { gots = gots ++ passed.gots })
+with_gots_before gots (Err stopped) = Err stopped
 
 -- the outcome of operation `number`; if it isn't refused, then the rest, on the graph that it leaves
-abbrev pub onward : ℕ → Result (PlainGraph × Answered) Reason → (PlainGraph → TxOutcome) → TxOutcome
-onward number (Ok (graph, answer)) rest = after (got number answer) (rest graph)
-onward number (Err reason) rest = Err (record { op = number; reason = reason })
+abbrev pub outcome_then : ℕ → Result (PlainGraph × Answered) Reason → (PlainGraph → TxOutcome) → TxOutcome
+outcome_then number (Ok (graph, answer)) rest = with_gots_before (gots_of_answer number answer) (rest graph)
+outcome_then number (Err reason) rest = Err (record { op = number; reason = reason })
 
 -- operations in order, numbered from `number`, each on the graph that the one before leaves
 abbrev pub run : ℕ → List Op → PlainGraph → TxOutcome
 run number [] graph = Ok (record { graph = graph; gots = [] })
-run number (op ∷ ops) graph = onward number (on_graph op graph) (λ next. run (number + 1) ops next)
+run number (op ∷ ops) graph = outcome_then number (on_graph op graph) (λ next. run (number + 1) ops next)
 
 -- a transaction's operations are numbered from 1
 abbrev pub transaction : List Op → PlainGraph → TxOutcome

@@ -22,10 +22,10 @@ with_slot v None vertices = map.remove vertices v
 with_slot v (Some now) vertices = map.insert vertices v now
 
 -- the finite map of a table
-abbrev pub held : List (Name × State) → Vertices
-held [] = map.empty
-held (slot ∷ rest) = with_slot slot.0 slot.1 (held rest)
+abbrev pub vertices_held : List (Name × State) → Vertices
+vertices_held [] = map.empty
+vertices_held (slot ∷ rest) = with_slot slot.0 slot.1 (vertices_held rest)
 
--- each vertex of the second table has a place in the first
+-- each vertex of the second table has a place in the first. No public contract cites this.
 abbrev pub Covers : List (Name × State) → List (Name × State) → Type 0
 Covers slots before = (v : Name) → IsSome (at_key v before) → IsSome (at_key v slots)

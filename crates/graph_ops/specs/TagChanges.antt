@@ -1,10 +1,11 @@
--- Changes of an edge's tags, as `tag` and `untag` make them.
+-- Changes of an edge's tags, as `tag` and `untag` make them. No public contract cites this.
 use Rattle.std.specs.Prelude.{◌≡◌, List, Some, Result, Ok, Err, if◌then◌else◌}
 use Rattle.weave_data.specs.Changes.{TakesBack}
-use Rattle.weave_data.specs.Pairs.{at_key, has, put, without, is_full}
+use Rattle.weave_data.specs.Pairs.{at_key, has, put, without_key, is_full}
 use Rattle.weave_data.specs.declared.name.Name.{Name}
 use Rattle.weave_data.specs.declared.change.Undo.{Undo}
-use Rattle.graph_ops.specs.Operations.{Outcome, becomes, on_edge}
+use Rattle.weave_data.specs.Limits.{most_tags}
+use Rattle.graph_ops.specs.Operations.{Outcome, done_with, on_edge}
 use Rattle.graph_ops.specs.declared.record.Edge.{Edge}
 use Rattle.graph_ops.specs.declared.record.Record.{Record}
 use Rattle.graph_ops.specs.declared.tags.TagChange.{TagChange}
@@ -19,12 +20,13 @@ Tags = List (Name × Name)
 
 -- the tags after a change, or the reason of its refusal
 abbrev pub tags_after : TagChange → Tags → Result Tags Reason
-tags_after (Put key value) tags = if is_full 8 key tags then Err Full else Ok (put key value tags)
-tags_after (Drop key) tags = if has key tags then Ok (without key tags) else Err NoKey
+tags_after (Put key value) tags = if is_full most_tags key tags then Err Full else Ok (put key value tags)
+tags_after (Drop key) tags = if has key tags then Ok (without_key key tags) else Err NoKey
 
 -- the record with these tags of an edge, or the reason
 abbrev pub record_after : Record → Name → Edge → Result Tags Reason → Outcome
-record_after was name edge (Ok tags) = becomes (record was { edges = put name (record edge { tags = tags }) was.edges })
+record_after was name edge (Ok tags) =
+    done_with (record was { edges = put name (record edge { tags = tags }) was.edges })
 record_after was name edge (Err reason) = Err reason
 
 -- what the change of an edge results in

@@ -1,6 +1,6 @@
 -- How operations are taken back, each by what it noted, the last one first.
 use Rattle.std.specs.Prelude.{◌≡◌, List, [], ◌∷◌, Option, Some, None, option_map, Result, Ok, Err, IfSome}
-use Rattle.weave_data.specs.Changes.{undone, Fits}
+use Rattle.weave_data.specs.Changes.{undone_pairs, Fits}
 use Rattle.weave_data.specs.Pairs.{at_key, put}
 use Rattle.weave_data.specs.declared.name.Name.{Name}
 use Rattle.weave_data.specs.declared.change.Undo.{Undo}
@@ -21,9 +21,10 @@ with_edge name None edges = edges
 with_edge name (Some edge) edges = put name edge edges
 
 -- the edges with a change of one's tags taken back
-abbrev pub retagged : Name → Undo Name → List (Name × Edge) → List (Name × Edge)
-retagged name undo edges =
-    with_edge name (option_map {T = Edge} (λ edge. record edge { tags = undone undo edge.tags }) (at_key name edges))
+abbrev pub edges_retagged : Name → Undo Name → List (Name × Edge) → List (Name × Edge)
+edges_retagged name undo edges =
+    with_edge name (option_map {T = Edge} (λ edge. record edge { tags = undone_pairs undo edge.tags })
+    (at_key name edges))
     edges
 
 -- it can be taken back without memory
@@ -35,10 +36,12 @@ abbrev pub taken_back : Back → State → State
 taken_back Nothing state = state
 taken_back Absent state = None
 taken_back (Present was) state = Some was
-taken_back (Props undo) state = option_map {T = Record} (λ now. record now { props = undone undo now.props }) state
-taken_back (Edges undo) state = option_map {T = Record} (λ now. record now { edges = undone undo now.edges }) state
+taken_back (Props undo) state =
+    option_map {T = Record} (λ now. record now { props = undone_pairs undo now.props }) state
+taken_back (Edges undo) state =
+    option_map {T = Record} (λ now. record now { edges = undone_pairs undo now.edges }) state
 taken_back (Tags name undo) state =
-    option_map {T = Record} (λ now. record now { edges = retagged name undo now.edges }) state
+    option_map {T = Record} (λ now. record now { edges = edges_retagged name undo now.edges }) state
 
 -- it can be taken back without memory
 abbrev pub CanTakeBack : Back → State → Type 0
@@ -50,22 +53,23 @@ CanTakeBack (Edges undo) state = IfSome state (λ now. Fits undo now.edges)
 CanTakeBack (Tags name undo) state = IfSome state (λ now. CanRetag name undo now.edges)
 
 -- a call resulted in this outcome on a state, and noted how it is taken back; after either fault the state is as before
-abbrev pub Does : Outcome → State → State → Result Change OpFault → Type 0
-Does outcome old new (Ok change) = (outcome ≡ Ok (new, change.answered)) × CanTakeBack change.back new
+-- No public contract cites this.
+abbrev pub HasOutcome : Outcome → State → State → Result Change OpFault → Type 0
+HasOutcome outcome old new (Ok change) = (outcome ≡ Ok (new, change.answered)) × CanTakeBack change.back new
     × (taken_back change.back new ≡ old)
-Does outcome old new (Err (Refused reason)) = (outcome ≡ Err reason) × (new ≡ old)
-Does outcome old new (Err Memory) = new ≡ old
+HasOutcome outcome old new (Err (Refused reason)) = (outcome ≡ Err reason) × (new ≡ old)
+HasOutcome outcome old new (Err Memory) = new ≡ old
 
 -- a graph with a step taken back
 abbrev pub step_back : Step → PlainGraph → PlainGraph
 step_back step graph = with_state step.v (taken_back step.back (graph step.v)) graph
 
 -- a graph with steps taken back, the last one first
-abbrev pub rewound : List Step → PlainGraph → PlainGraph
-rewound [] graph = graph
-rewound (step ∷ steps) graph = step_back step (rewound steps graph)
+abbrev pub graph_rewound : List Step → PlainGraph → PlainGraph
+graph_rewound [] graph = graph
+graph_rewound (step ∷ steps) graph = step_back step (graph_rewound steps graph)
 
 -- they can be taken back without memory
 abbrev pub CanRewind : List Step → PlainGraph → Type 0
 CanRewind [] graph = Unit {0}
-CanRewind (step ∷ steps) graph = CanRewind steps graph × CanTakeBack step.back (rewound steps graph step.v)
+CanRewind (step ∷ steps) graph = CanRewind steps graph × CanTakeBack step.back (graph_rewound steps graph step.v)

@@ -1,7 +1,7 @@
 //! How an operation is taken back.
 ghost use Rattle.std.specs.Prelude.{◌≡◌};
-ghost use Rattle.weave_data.specs.Changes.{undone, Fits};
-ghost use Rattle.graph_ops.specs.TakingBack.{taken_back, CanTakeBack, retagged, CanRetag};
+ghost use Rattle.weave_data.specs.Changes.{undone_pairs, Fits};
+ghost use Rattle.graph_ops.specs.TakingBack.{taken_back, CanTakeBack, edges_retagged, CanRetag};
 ghost use Rattle.graph_ops.specs.declared.back.Back.TheVariants.{Props, Edges, Tags};
 
 use crate::op::Answered;
@@ -57,7 +57,7 @@ fn take_back_property(state: &mut Option<Record>, undo: Undo<Name>)
 
 fn take_back_property_of(held: &mut Record, undo: Undo<Name>)
     requires { Fits undo held.old.props }
-    ensures { held.new ≡ record held.old { props = undone undo held.old.props } }
+    ensures { held.new ≡ record held.old { props = undone_pairs undo held.old.props } }
 {
     held.props.take_back(undo);
 }
@@ -74,7 +74,7 @@ fn take_back_edge(state: &mut Option<Record>, undo: Undo<Edge>)
 
 fn take_back_edge_of(held: &mut Record, undo: Undo<Edge>)
     requires { Fits undo held.old.edges }
-    ensures { held.new ≡ record held.old { edges = undone undo held.old.edges } }
+    ensures { held.new ≡ record held.old { edges = undone_pairs undo held.old.edges } }
 {
     held.edges.take_back(undo);
 }
@@ -91,14 +91,14 @@ fn take_back_tag(alloc: Global, state: &mut Option<Record>, edge: Name, undo: Un
 
 fn take_back_tag_in(alloc: Global, held: &mut Record, edge: Name, undo: Undo<Name>)
     requires { CanRetag edge undo held.old.edges }
-    ensures { held.new ≡ record held.old { edges = retagged edge undo held.old.edges } }
+    ensures { held.new ≡ record held.old { edges = edges_retagged edge undo held.old.edges } }
 {
     take_back_tag_of(alloc, &mut held.edges, edge, undo);
 }
 
 fn take_back_tag_of(alloc: Global, edges: &mut NameMap<Edge>, name: Name, undo: Undo<Name>)
     requires { CanRetag name undo edges.old }
-    ensures { edges.new ≡ retagged name undo edges.old }
+    ensures { edges.new ≡ edges_retagged name undo edges.old }
 {
     if !edges.has(name) {
         return;

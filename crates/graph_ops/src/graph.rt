@@ -24,14 +24,14 @@ pub struct Graph {
 impl Model for Graph {
     ghost use Rattle.std.specs.FinMap as map;
     ghost use Rattle.graph_ops.specs.Graphs.{Vertices};
-    ghost use Rattle.graph_ops.specs.Slots.{held};
+    ghost use Rattle.graph_ops.specs.Slots.{vertices_held};
     ghost use Rattle.graph_ops.specs.Codes.{coded_name, coded_record};
 
     ghost Value = { Vertices };
 
     ghost coded = { map.code coded_name coded_record };
 
-    ghost view = { λ g. held g.slots.entries };
+    ghost view = { λ g. vertices_held g.slots.entries };
 }
 
 impl Graph {

@@ -2,10 +2,10 @@
 ghost use Rattle.std.specs.Prelude.{◌≡◌, ◌++◌, ◌<◌, ◌^◌, length, Ok, Err, IfOk, OnOk, OnErr, IsSome};
 ghost use Rattle.weave_data.specs.Pairs.{at_key};
 ghost use Rattle.graph_ops.specs.Operations.{IfRefused, vertex_of};
-ghost use Rattle.graph_ops.specs.PlainGraph.{on_graph, transaction, got};
+ghost use Rattle.graph_ops.specs.PlainGraph.{on_graph, transaction, gots_of_answer};
 ghost use Rattle.graph_ops.specs.Graphs.{IfTxRefused};
 ghost use Rattle.graph_ops.specs.Slots.{states_of, Covers};
-ghost use Rattle.graph_ops.specs.TakingBack.{step_back, rewound, CanTakeBack};
+ghost use Rattle.graph_ops.specs.TakingBack.{step_back, graph_rewound, CanTakeBack};
 ghost use Rattle.graph_ops.specs.Journals.{CanRewindIn, Keeps};
 
 use crate::back::{Back, Change, take_back};
@@ -78,8 +78,8 @@ fn note(
         ≡ Ok (states_of slots.new.entries, answer)) }
     ensures refused { IfRefused result (λ reason. on_graph op.now (states_of slots.old.entries) ≡ Err reason) }
     ensures kept { CanRewindIn journal.new.items slots.new.entries }
-    ensures same { rewound journal.new.items (states_of slots.new.entries)
-        ≡ rewound journal.old.items (states_of slots.old.entries) }
+    ensures same { graph_rewound journal.new.items (states_of slots.new.entries)
+        ≡ graph_rewound journal.old.items (states_of slots.old.entries) }
 {
     let v = op.vertex();
     make_place(slots, v)?;
@@ -105,8 +105,8 @@ fn do_step(
         ≡ Ok (states_of slots.new.entries, answer)) }
     ensures refused { IfRefused result (λ reason. on_graph op.now (states_of slots.old.entries) ≡ Err reason) }
     ensures kept { CanRewindIn journal.new.items slots.new.entries }
-    ensures same { rewound journal.new.items (states_of slots.new.entries)
-        ≡ rewound journal.old.items (states_of slots.old.entries) }
+    ensures same { graph_rewound journal.new.items (states_of slots.new.entries)
+        ≡ graph_rewound journal.old.items (states_of slots.old.entries) }
 {
     if let Op::Get { v } = *op {
         return Ok(Answered::Got(read(alloc, slots, v)?));
@@ -116,7 +116,7 @@ fn do_step(
 
 // Adds what an answer reports.
 fn tell(gots: &mut Vec<Got>, op: u32, answer: Answered) -> Result<(), AllocError>
-    ensures { OnOk result (gots.new.items ≡ gots.old.items ++ got op answer) }
+    ensures { OnOk result (gots.new.items ≡ gots.old.items ++ gots_of_answer op answer) }
 {
     if let Answered::Got(state) = answer {
         gots.push(Got { op, state })?;
@@ -137,8 +137,8 @@ fn run_all(
         ≡ Ok (record { graph = states_of slots.new.entries; gots = gots.items })) }
     ensures refused { IfTxRefused result (λ stopped. transaction ops.now (states_of slots.old.entries) ≡ Err stopped) }
     ensures kept { CanRewindIn journal.new.items slots.new.entries }
-    ensures same { rewound journal.new.items (states_of slots.new.entries)
-        ≡ rewound journal.old.items (states_of slots.old.entries) }
+    ensures same { graph_rewound journal.new.items (states_of slots.new.entries)
+        ≡ graph_rewound journal.old.items (states_of slots.old.entries) }
 {
     let mut gots = Vec::new(alloc);
     for (i, op) in ops.iter().enumerate() {
@@ -169,7 +169,7 @@ fn undo_step(alloc: Global, slots: &mut Slots, step: Step)
 /// Takes the steps back, the last one first. It takes no memory.
 pub(crate) fn rewind(alloc: Global, slots: &mut Slots, mut journal: Vec<Step>)
     requires { CanRewindIn journal.items slots.old.entries }
-    ensures { states_of slots.new.entries ≡ rewound journal.items (states_of slots.old.entries) }
+    ensures { states_of slots.new.entries ≡ graph_rewound journal.items (states_of slots.old.entries) }
 {
     while let Some(step) = journal.pop() {
         undo_step(alloc, slots, step);
@@ -186,7 +186,7 @@ pub(crate) fn run_or_rewind(
     ensures done { IfOk result (λ passed. transaction ops.now (states_of slots.old.entries)
         ≡ Ok (record { graph = states_of slots.new.entries; gots = passed.0.items })) }
     ensures kept { IfOk result (λ passed. CanRewindIn passed.1.items slots.new.entries) }
-    ensures back { IfOk result (λ passed. rewound passed.1.items (states_of slots.new.entries)
+    ensures back { IfOk result (λ passed. graph_rewound passed.1.items (states_of slots.new.entries)
         ≡ states_of slots.old.entries) }
     ensures refused { IfTxRefused result (λ stopped. transaction ops.now (states_of slots.old.entries) ≡ Err stopped) }
     ensures unchanged { OnErr result (states_of slots.new.entries ≡ states_of slots.old.entries) }

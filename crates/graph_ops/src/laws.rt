@@ -5,8 +5,8 @@ ghost use Rattle.graph_ops.specs.declared.op.Op.{Op};
 ghost use Rattle.graph_ops.specs.Alike.{EndAlike};
 ghost use Rattle.graph_ops.specs.Mentions.{named_by, is_among};
 ghost use Rattle.graph_ops.specs.Operations.{vertex_of};
-ghost use Rattle.graph_ops.specs.PlainGraph.{PlainGraph, Passed, transaction};
-ghost use Rattle.graph_ops.specs.VertexOps.{ops_on, state_after, none_refused};
+ghost use Rattle.graph_ops.specs.PlainGraph.{PlainGraph, PassedTx, transaction};
+ghost use Rattle.graph_ops.specs.VertexOps.{ops_on, state_after_ops, none_refused};
 
 /// A transaction names the vertices of its operations, each once, and no others.
 pub fn each_vertex_is_named_once()
@@ -19,8 +19,8 @@ pub fn each_vertex_is_named_once()
 /// What a transaction does to a vertex depends on that vertex's state and the operations on it alone.
 /// It passes exactly if the operations on each vertex, by themselves, pass on that vertex's state.
 pub fn vertices_are_independent()
-    ensures leaves { (ops : List Op) (graph : PlainGraph) (passed : Passed) → transaction ops graph ≡ Ok passed
-        → (v : Name) → passed.graph v ≡ state_after (ops_on v ops) (graph v) }
+    ensures leaves { (ops : List Op) (graph : PlainGraph) (passed : PassedTx) → transaction ops graph ≡ Ok passed
+        → (v : Name) → passed.graph v ≡ state_after_ops (ops_on v ops) (graph v) }
     ensures passes { (ops : List Op) (graph : PlainGraph) → IsTrue (is_ok (transaction ops graph))
         ↔ ((v : Name) → IsTrue (none_refused (ops_on v ops) (graph v))) }
 {}

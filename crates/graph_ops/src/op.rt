@@ -1,8 +1,8 @@
 //! Operations on one vertex.
 ghost use Rattle.std.specs.Prelude.{◌≡◌, Ok, Err, IfOk, OnErr};
-ghost use Rattle.graph_ops.specs.Fields.{names_in};
-ghost use Rattle.graph_ops.specs.Operations.{applied, is_get, op_fields, op_word, target_of, vertex_of, IfRefused};
-ghost use Rattle.graph_ops.specs.TakingBack.{Does};
+ghost use Rattle.graph_ops.specs.Fields.{names_of_fields};
+ghost use Rattle.graph_ops.specs.Operations.{outcome_of_op, is_get, op_fields, op_word, target_of, vertex_of, IfRefused};
+ghost use Rattle.graph_ops.specs.TakingBack.{HasOutcome};
 
 use crate::back::Change;
 use crate::record::Record;
@@ -173,7 +173,7 @@ impl Op {
 
     /// The names that it takes, in the order of a script.
     pub fn fields(&self) -> Fields
-        ensures { names_in result ≡ op_fields self.now }
+        ensures { names_of_fields result ≡ op_fields self.now }
     {
         match *self {
             Op::Create { v } | Op::Delete { v } | Op::Get { v } => Fields::One([v]),
@@ -212,7 +212,7 @@ impl Op {
 impl Fields {
     /// The names.
     pub fn as_slice(&self) -> &[Name]
-        ensures { result.now ≡ names_in self.now }
+        ensures { result.now ≡ names_of_fields self.now }
     {
         match self {
             Fields::One(names) => names,
@@ -225,8 +225,8 @@ impl Fields {
 
 /// Does an operation to a vertex's state, by the table of operations. After either fault the state is as before.
 pub fn apply_op(alloc: Global, state: &mut Option<Record>, op: &Op) -> Result<Answered, OpFault>
-    ensures done { IfOk result (λ answered. applied op.now state.old ≡ Ok (state.new, answered)) }
-    ensures refused { IfRefused result (λ reason. applied op.now state.old ≡ Err reason) }
+    ensures done { IfOk result (λ answered. outcome_of_op op.now state.old ≡ Ok (state.new, answered)) }
+    ensures refused { IfRefused result (λ reason. outcome_of_op op.now state.old ≡ Err reason) }
     ensures unchanged { OnErr result (state.new ≡ state.old) }
 {
     match do_op(alloc, state, op) {
@@ -237,7 +237,7 @@ pub fn apply_op(alloc: Global, state: &mut Option<Record>, op: &Op) -> Result<An
 
 /// Does an operation to a vertex's state, and notes how it is taken back.
 pub(crate) fn do_op(alloc: Global, state: &mut Option<Record>, op: &Op) -> Result<Change, OpFault>
-    ensures { Does (applied op.now state.old) state.old state.new result }
+    ensures { HasOutcome (outcome_of_op op.now state.old) state.old state.new result }
 {
     match *op {
         Op::Create { .. } => rows::create(alloc, state),

@@ -2,7 +2,7 @@
 ghost use Rattle.std.specs.Prelude.{◌≡◌};
 ghost use Rattle.graph_ops.specs.Journals.{CanRewindIn};
 ghost use Rattle.graph_ops.specs.Pendings.{rewound_map};
-ghost use Rattle.graph_ops.specs.Slots.{held};
+ghost use Rattle.graph_ops.specs.Slots.{vertices_held};
 
 use crate::graph::Graph;
 use crate::journal::{Slots, Step, rewind};
@@ -19,16 +19,16 @@ pub struct Pending {
 
 impl Model for Pending {
     ghost use Rattle.graph_ops.specs.Journals.{CanRewindIn};
-    ghost use Rattle.graph_ops.specs.Pendings.{Both, rewound_map, coded_both};
-    ghost use Rattle.graph_ops.specs.Slots.{held};
+    ghost use Rattle.graph_ops.specs.Pendings.{BothVertices, rewound_map, coded_both};
+    ghost use Rattle.graph_ops.specs.Slots.{vertices_held};
 
-    ghost Value = { Both };
+    ghost Value = { BothVertices };
 
     ghost coded = { coded_both };
 
     ghost view = { λ p. record {
-      before = rewound_map p.journal.items (held p.slots.entries);
-      after = held p.slots.entries;
+      before = rewound_map p.journal.items (vertices_held p.slots.entries);
+      after = vertices_held p.slots.entries;
     } };
 
     ghost invariant = { λ p. CanRewindIn p.journal.items p.slots.entries };
@@ -37,8 +37,8 @@ impl Model for Pending {
 impl Pending {
     pub(crate) fn new(slots: Slots, journal: Vec<Step>) -> Pending
         requires { CanRewindIn journal.items slots.entries }
-        ensures after { result.after ≡ held slots.entries }
-        ensures before { result.before ≡ rewound_map journal.items (held slots.entries) }
+        ensures after { result.after ≡ vertices_held slots.entries }
+        ensures before { result.before ≡ rewound_map journal.items (vertices_held slots.entries) }
     {
         Pending { slots, journal }
     }

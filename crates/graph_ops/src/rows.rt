@@ -1,8 +1,8 @@
 //! The rows of the table of operations, each on the state of its vertex.
 ghost use Rattle.std.specs.Prelude.{Some};
 ghost use Rattle.graph_ops.specs.declared.op.Op.TheVariants.{Create, Delete, Set, Unset, Link, Unlink, Get};
-ghost use Rattle.graph_ops.specs.Operations.{applied};
-ghost use Rattle.graph_ops.specs.TakingBack.{Does};
+ghost use Rattle.graph_ops.specs.Operations.{outcome_of_op};
+ghost use Rattle.graph_ops.specs.TakingBack.{HasOutcome};
 
 use crate::back::{Back, Change};
 use crate::op::{Answered, OpFault, Reason};
@@ -11,7 +11,7 @@ use std::alloc::Global;
 use weave_data::{Copied, Name, NameMap};
 
 pub(crate) fn create(alloc: Global, state: &mut Option<Record>) -> Result<Change, OpFault>
-    ensures { (v : _) → Does (applied (Create v) state.old) state.old state.new result }
+    ensures { (v : _) → HasOutcome (outcome_of_op (Create v) state.old) state.old state.new result }
 {
     if state.is_some() {
         return Err(OpFault::Refused(Reason::Exists));
@@ -27,7 +27,7 @@ pub(crate) fn create(alloc: Global, state: &mut Option<Record>) -> Result<Change
 }
 
 pub(crate) fn delete(state: &mut Option<Record>) -> Result<Change, OpFault>
-    ensures { (v : _) → Does (applied (Delete v) state.old) state.old state.new result }
+    ensures { (v : _) → HasOutcome (outcome_of_op (Delete v) state.old) state.old state.new result }
 {
     let Some(was) = state.take() else {
         return Err(OpFault::Refused(Reason::Missing));
@@ -39,7 +39,7 @@ pub(crate) fn delete(state: &mut Option<Record>) -> Result<Change, OpFault>
 }
 
 pub(crate) fn set(state: &mut Option<Record>, key: Name, value: Name) -> Result<Change, OpFault>
-    ensures { (v : _) → Does (applied (Set v key value) state.old) state.old state.new result }
+    ensures { (v : _) → HasOutcome (outcome_of_op (Set v key value) state.old) state.old state.new result }
 {
     let Some(record) = state else {
         return Err(OpFault::Refused(Reason::Missing));
@@ -55,7 +55,7 @@ pub(crate) fn set(state: &mut Option<Record>, key: Name, value: Name) -> Result<
 }
 
 pub(crate) fn unset(alloc: Global, state: &mut Option<Record>, key: Name) -> Result<Change, OpFault>
-    ensures { (v : _) → Does (applied (Unset v key) state.old) state.old state.new result }
+    ensures { (v : _) → HasOutcome (outcome_of_op (Unset v key) state.old) state.old state.new result }
 {
     let Some(record) = state else {
         return Err(OpFault::Refused(Reason::Missing));
@@ -76,7 +76,7 @@ pub(crate) fn link(
     edge: Name,
     target: Name,
 ) -> Result<Change, OpFault>
-    ensures { (v : _) → Does (applied (Link v edge target) state.old) state.old state.new result }
+    ensures { (v : _) → HasOutcome (outcome_of_op (Link v edge target) state.old) state.old state.new result }
 {
     let Some(record) = state else {
         return Err(OpFault::Refused(Reason::Missing));
@@ -99,7 +99,7 @@ pub(crate) fn unlink(
     state: &mut Option<Record>,
     edge: Name,
 ) -> Result<Change, OpFault>
-    ensures { (v : _) → Does (applied (Unlink v edge) state.old) state.old state.new result }
+    ensures { (v : _) → HasOutcome (outcome_of_op (Unlink v edge) state.old) state.old state.new result }
 {
     let Some(record) = state else {
         return Err(OpFault::Refused(Reason::Missing));
@@ -115,7 +115,7 @@ pub(crate) fn unlink(
 }
 
 pub(crate) fn get(alloc: Global, state: &Option<Record>) -> Result<Change, OpFault>
-    ensures { (v : _) → Does (applied (Get v) state.now) state.now state.now result }
+    ensures { (v : _) → HasOutcome (outcome_of_op (Get v) state.now) state.now state.now result }
 {
     Ok(Change {
         answered: Answered::Got(state.copy(alloc)?),

@@ -2,9 +2,9 @@
 ghost use Rattle.std.specs.Prelude.{Some};
 ghost use Rattle.graph_ops.specs.declared.op.Op.TheVariants.{Tag, Untag};
 ghost use Rattle.graph_ops.specs.declared.tags.TagChange.TheVariants.{Put, Drop};
-ghost use Rattle.graph_ops.specs.Operations.{applied};
+ghost use Rattle.graph_ops.specs.Operations.{outcome_of_op};
 ghost use Rattle.graph_ops.specs.TagChanges.{tags_after, edge_after, DoesToTags};
-ghost use Rattle.graph_ops.specs.TakingBack.{Does};
+ghost use Rattle.graph_ops.specs.TakingBack.{HasOutcome};
 
 use crate::back::{Back, Change};
 use crate::op::{Answered, OpFault, Reason};
@@ -26,7 +26,7 @@ pub(crate) fn tag(
     key: Name,
     value: Name,
 ) -> Result<Change, OpFault>
-    ensures { (v : _) → Does (applied (Tag v edge key value) state.old) state.old state.new result }
+    ensures { (v : _) → HasOutcome (outcome_of_op (Tag v edge key value) state.old) state.old state.new result }
 {
     let Some(record) = state else {
         return Err(OpFault::Refused(Reason::Missing));
@@ -40,7 +40,7 @@ pub(crate) fn untag(
     edge: Name,
     key: Name,
 ) -> Result<Change, OpFault>
-    ensures { (v : _) → Does (applied (Untag v edge key) state.old) state.old state.new result }
+    ensures { (v : _) → HasOutcome (outcome_of_op (Untag v edge key) state.old) state.old state.new result }
 {
     let Some(record) = state else {
         return Err(OpFault::Refused(Reason::Missing));
@@ -55,7 +55,7 @@ fn change_edge(
     name: Name,
     change: TagChange,
 ) -> Result<Change, OpFault>
-    ensures { Does (edge_after change name held.old) (Some held.old) (Some held.new) result }
+    ensures { HasOutcome (edge_after change name held.old) (Some held.old) (Some held.new) result }
 {
     let edges = &mut held.edges;
     if !edges.has(name) {

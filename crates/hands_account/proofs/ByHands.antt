@@ -121,6 +121,7 @@ module _ {script : Script} {hands : ℕ} {start : Account} {seen_by : ℕ → Ac
   pub gates-on : (home : ℕ) → IsBeginningOf (gate_log start home) (gate_log closed home)
   gates-on = (start-within run.of).gates
 
+  -- the store's log at the start goes on
   pub store-on : IsBeginningOf start.store closed.store
   store-on = (start-within run.of).store
 
@@ -129,12 +130,14 @@ module _ {script : Script} {hands : ℕ} {start : Account} {seen_by : ℕ → Ac
   IsGateByHand home before entry number =
       IsByHand hands (gate_log start home) (λ n. gate_log (seen_by n) home) before entry entry.author number
 
+  -- an entry that a gatekeeper's log gained since the start was made by the hand with its author's number
   pub gate-by : (home : ℕ) (before : List GateEntry) (entry : GateEntry) (after : List GateEntry) → gate_log closed home ≡ before ++ entry ∷ after
       → length (gate_log start home) ≤ length before → (number : ℕ) → entry.author ≡ number → IsGateByHand home before entry number
   gate-by home before entry after at late number is =
       by-author hands (gate_log start home) (λ n. gate_log (seen_by n) home) (gate_log closed home) (λ n known. (run.of.within n known).gates home)
       before entry after at entry.author (run.of.gate_entries home before entry after at) late number is
 
+  -- an entry of a gatekeeper's closed log was there at the start, or was made by the hand of its author
   pub gate-case : (home : ℕ) (before : List GateEntry) (entry : GateEntry) (after : List GateEntry) → gate_log closed home ≡ before ++ entry ∷ after
       → IsAtStart (gate_log start home) before entry ⊎ IsGateByHand home before entry entry.author
   gate-case home before entry after at =
@@ -145,12 +148,14 @@ module _ {script : Script} {hands : ℕ} {start : Account} {seen_by : ℕ → Ac
   abbrev pub IsStoreByHand : List StoreEntry → StoreEntry → ℕ → Type 0
   IsStoreByHand before entry number = IsByHand hands start.store (λ n. (seen_by n).store) before entry entry.author number
 
+  -- an entry that the store's log gained since the start was made by the hand with its author's number
   pub store-by : (before : List StoreEntry) (entry : StoreEntry) (after : List StoreEntry) → closed.store ≡ before ++ entry ∷ after
       → length start.store ≤ length before → (number : ℕ) → entry.author ≡ number → IsStoreByHand before entry number
   store-by before entry after at late number is =
       by-author hands start.store (λ n. (seen_by n).store) closed.store (λ n known. (run.of.within n known).store)
       before entry after at entry.author (run.of.store_entries before entry after at) late number is
 
+  -- an entry of the store's closed log was there at the start, or was made by the hand of its author
   pub store-case : (before : List StoreEntry) (entry : StoreEntry) (after : List StoreEntry) → closed.store ≡ before ++ entry ∷ after
       → IsAtStart start.store before entry ⊎ IsStoreByHand before entry entry.author
   store-case before entry after at =

@@ -21,7 +21,7 @@ use Rattle.weave_entries.specs.declared.session_log.SessionDeed.TheVariants as s
 use Rattle.weave_entries.specs.declared.shard_log.ShardEntry.{ShardEntry}
 use Rattle.weave_entries.specs.declared.store_log.StoreEntry.{StoreEntry}
 use Rattle.weave_entries.specs.Logs.{AtEachEntry}
-use Rattle.weave_entries.specs.GateReplay.{Begun, begun_in, programs_of}
+use Rattle.weave_entries.specs.GateReplay.{BegunRequest, begun_in, programs_of}
 use Rattle.weave_entries.specs.GateRules.{FitsAs, HearsAs, HearsNoMore, IsGateLog}
 use Rattle.weave_entries.specs.SessionReplay.{FitsSession, has_reply_in, session_of, session_stamp_of}
 use Rattle.weave_entries.specs.StoreReplay.{Judgement, judged_by}
@@ -36,7 +36,7 @@ use Rattle.weave_account.specs.Sessions.{RepliesAs, SessionsClause, requests_of_
 use Rattle.weave_account.specs.Store.{InTurn}
 use Rattle.seen_logs.specs.Closed.{AreOfHands, IsOfHands}
 use Rattle.seen_logs.specs.References.{GateRefersAs, StoreRefersAs}
-use Rattle.seen_logs.specs.Seen.{AreLegal, AnswersFor, IsOwn, IsSeenByHand, IsWithin, since, without_sessions}
+use Rattle.seen_logs.specs.Seen.{AreLegal, AnswersFor, IsOwn, IsSeenByHand, IsWithin, entries_since, without_sessions}
 use Rattle.hands_account.specs.LowerLaws.{LawsForHands}
 use Rattle.hands_account.specs.Runs.{FinishesItsOwn, IsFollowedByHand, IsRunByHands, own_begun}
 use Rattle.hands_account.proofs.Account.{closed-account}
@@ -196,7 +196,7 @@ begins zero =
     (λ own. record { own = refl; small = refl; stamp_is = refl; hears_no_more = λ x at. cc }) (λ own. tt)
 begins (suc home) = each_none _
 
-no-program : (home : ℕ) (begun : Begun) → ¬ Contains (programs_of (since (gate_log start home) (gate_log seen home))) begun
+no-program : (home : ℕ) (begun : BegunRequest) → ¬ Contains (programs_of (entries_since (gate_log start home) (gate_log seen home))) begun
 no-program zero begun h = has_none begun h
 no-program (suc home) begun h = has_none begun h
 
@@ -219,9 +219,9 @@ follows =
       finishes = finishes;
     }
   where
-    once : (home : ℕ) → AllPairs (λ (a b : Begun). a.request ≢ b.request) (begun_in (gate_log start home) ++ own_begun 0 start seen home)
-    once zero = pairs-one (λ (a b : Begun). a.request ≢ b.request) (record { author = 0; request = 0; stamp = t })
-    once (suc home) = pairs_none (λ (a b : Begun). a.request ≢ b.request)
+    once : (home : ℕ) → AllPairs (λ (a b : BegunRequest). a.request ≢ b.request) (begun_in (gate_log start home) ++ own_begun 0 start seen home)
+    once zero = pairs-one (λ (a b : BegunRequest). a.request ≢ b.request) (record { author = 0; request = 0; stamp = t })
+    once (suc home) = pairs_none (λ (a b : BegunRequest). a.request ≢ b.request)
 
 -- and so does its session
 
@@ -265,6 +265,7 @@ runs empty = record {
   sessions = sessions;
 }
 
+-- if logs without any entry are an account of the script, so are the closed logs of this run
 pub worked-run : LawsForHands → IsAccount script start → IsAccount script closed
 worked-run laws empty =
     closed-account {script = script} {hands = 1} {start = start} {seen_by = λ number. seen}

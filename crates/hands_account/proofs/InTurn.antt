@@ -24,7 +24,7 @@ use Rattle.weave_entries.specs.declared.gate_log.GateDeed.{GateDeed}
 use Rattle.weave_entries.specs.declared.gate_log.GateDeed.TheVariants.{BeganTx, BeganProgram, Sent, Nop, Heard, Raised, Finished}
 use Rattle.weave_entries.specs.declared.session_log.SessionEntry.{SessionEntry}
 use Rattle.weave_entries.specs.declared.store_log.StoreEntry.{StoreEntry}
-use Rattle.weave_entries.specs.GateReplay.{Begun, begun_by, begun_in, ended_by, ended_in, flight_of, has_ended_in, program_by, tx_by, txs_of}
+use Rattle.weave_entries.specs.GateReplay.{BegunRequest, begun_by, begun_in, ended_by, ended_in, flight_of, has_ended_in, program_by, tx_by, txs_of}
 use Rattle.weave_entries.specs.SessionReplay.{begins_in, has_begun_in, session_of}
 use Rattle.weave_entries.specs.StoreReplay.{Judgement, judgements_of}
 use Rattle.weave_entries.specs.StoreRule.{stamps_judged}
@@ -32,7 +32,7 @@ use Rattle.weave_account.specs.declared.account.Account.{Account}
 use Rattle.weave_account.specs.Account.{all_begun, gate_log, session_log}
 use Rattle.weave_account.specs.Sessions.{requests_of_session}
 use Rattle.weave_account.specs.Store.{InTurn}
-use Rattle.seen_logs.specs.Seen.{since}
+use Rattle.seen_logs.specs.Seen.{entries_since}
 use Rattle.hands_account.proofs.ByHands.{IsClosedRun, IsStoreByHand, follows, gates-on, pair-since, pair-there, starts, store-by, store-case, store-on}
 use Rattle.hands_account.proofs.Once.{begun-on, not-both, one-begin}
 use Rattle.hands_account.proofs.Places.{Across, earlier-place, flat-pairs, has-on, in-back, less-or, pairs-by-places, pairs-one, place-of}
@@ -111,7 +111,7 @@ module _ {script : Script} {hands : ℕ} {start : Account} {seen_by : ℕ → Ac
             (has-on log (gate_log closed refers.home) ((run.of.within entry.author mine.known).gates refers.home) from.0 from.1) from.2,
       )
 
-  tx-begun : (home : ℕ) (begun : Begun) → Contains (txs_of (gate_log closed home)) begun → Contains (begun_in (gate_log closed home)) begun
+  tx-begun : (home : ℕ) (begun : BegunRequest) → Contains (txs_of (gate_log closed home)) begun → Contains (begun_in (gate_log closed home)) begun
   tx-begun home begun h =
       let from = flat_has (λ (e : GateEntry). tx_by e.author e.deed) (gate_log closed home) begun h in
       has_flat (λ (e : GateEntry). begun_by e.author e.deed) (gate_log closed home) from.0 begun from.1
@@ -132,12 +132,12 @@ module _ {script : Script} {hands : ℕ} {start : Account} {seen_by : ℕ → Ac
       let begun = begun-at-start judged h in
       let tx = tx-of-hand before entry mine in
       let one = one-begin run begun.0 tx.0 _ _ (begun-on run begun.0 _ begun.1) (tx-begun tx.0 _ tx.1) same in
-      new (ap (λ (b : Begun). id_of b.stamp) one)
+      new (ap (λ (b : BegunRequest). id_of b.stamp) one)
 
   -- One of the start, and a later one
 
   -- a request that was begun at a gatekeeper was begun in its session
-  begun-in-session : (r : ℕ) (request : Request) → request_at script r ≡ Some request → (begun : Begun) → Contains (all_begun start) begun
+  begun-in-session : (r : ℕ) (request : Request) → request_at script r ≡ Some request → (begun : BegunRequest) → Contains (all_begun start) begun
       → begun.request ≡ r → IsTrue (has_begun_in r (session_log start request.session))
   begun-in-session r request at_r begun h is =
       at (find of_session (begins_in log)) refl (find of_gates (all_begun start)) refl (run.runs.at_start.sessions.stamps r request at_r)
@@ -148,11 +148,11 @@ module _ {script : Script} {hands : ℕ} {start : Account} {seen_by : ℕ → Ac
       of_session : ℕ × Stamp → Bool
       of_session begin = begin.0 == r
 
-      of_gates : Begun → Bool
+      of_gates : BegunRequest → Bool
       of_gates other = other.request == r
 
-      at : (found : Option (ℕ × Stamp)) → find of_session (begins_in log) ≡ found → (there : Option Begun) → find of_gates (all_begun start) ≡ there
-          → option_map (λ (begin : ℕ × Stamp). begin.1) found ≡ option_map (λ (other : Begun). other.stamp) there
+      at : (found : Option (ℕ × Stamp)) → find of_session (begins_in log) ≡ found → (there : Option BegunRequest) → find of_gates (all_begun start) ≡ there
+          → option_map (λ (begin : ℕ × Stamp). begin.1) found ≡ option_map (λ (other : BegunRequest). other.stamp) there
           → IsTrue (list_any of_session (begins_in log))
       at (Some begin) e there f same = let has = find_has of_session (begins_in log) begin e in any_from of_session (begins_in log) begin has.0 has.1
       at None e (Some other) f same = absurd cc
@@ -161,7 +161,7 @@ module _ {script : Script} {hands : ℕ} {start : Account} {seen_by : ℕ → Ac
   -- what a gatekeeper had ended at the start was judged there, if it is a transaction
   ended-judged : (home : ℕ) (before : List GateEntry) (author : ℕ) (deed : GateDeed) (after : List GateEntry)
       → gate_log start home ≡ before ++ record { author = author; deed = deed } ∷ after → (r : ℕ) → Contains (ended_by deed) r
-      → (other : ℕ) (tx : Begun) → Contains (txs_of (gate_log closed other)) tx → tx.request ≡ r
+      → (other : ℕ) (tx : BegunRequest) → Contains (txs_of (gate_log closed other)) tx → tx.request ≡ r
       → (judged : Judgement) × Contains (judgements_of start.store) judged × (judged.request ≡ r)
   ended-judged home before author (Sent q messages) after at r h other tx there is =
       let sends = run.runs.at_start.channels home before (record { author = author; deed = Sent q messages }) after at in
@@ -200,11 +200,11 @@ module _ {script : Script} {hands : ℕ} {start : Account} {seen_by : ℕ → Ac
     -- if its session had begun it at the start, it was in flight
     in-flight : (request : Request) → request_at script later.request ≡ Some request
         → IsTrue (has_begun_in later.request (session_log start request.session))
-        → IsTrue (is_some_and (λ (flight : Begun). flight.request == later.request) (flight_of (gate_log start request.gate)))
+        → IsTrue (is_some_and (λ (flight : BegunRequest). flight.request == later.request) (flight_of (gate_log start request.gate)))
     in-flight request at_request begun =
         let has = has-change script later request at_request (work-all run later
         (has_map judgement closed.store entry (subst (λ l. Contains l entry) (sym at) (has_cut before entry after)))) in
-        let flies = is_some_and (λ (flight : Begun). flight.request == later.request) (flight_of (gate_log start request.gate)) in
+        let flies = is_some_and (λ (flight : BegunRequest). flight.request == later.request) (flight_of (gate_log start request.gate)) in
         let says : has_ended_in later.request (gate_log start request.gate) ≡ not flies =
         run.laws.sent script start run.limits run.runs.at_start later.request request at_request has begun in
         elim (cases_Bool flies) [
@@ -212,8 +212,8 @@ module _ {script : Script} {hands : ℕ} {start : Account} {seen_by : ℕ → Ac
           | inr none ↦ absurd (not-ended request.gate (says ∙ ap not none))
         ]
 
-    flying : (home : ℕ) (flight : Option Begun) → flight_of (gate_log start home) ≡ flight
-        → IsTrue (is_some_and (λ (flight : Begun). flight.request == later.request) flight) → InTurn script judged.request later.request
+    flying : (home : ℕ) (flight : Option BegunRequest) → flight_of (gate_log start home) ≡ flight
+        → IsTrue (is_some_and (λ (flight : BegunRequest). flight.request == later.request) flight) → InTurn script judged.request later.request
     flying home None at_flight is = absurd cc
     flying home (Some flight) at_flight is =
         let same = eqb-true flight.request later.request is in
@@ -260,7 +260,7 @@ module _ {script : Script} {hands : ℕ} {start : Account} {seen_by : ℕ → Ac
       let by_d = λ (j : Judgement). j.author == d.author in
       let log = (seen_by d.author).store in
       pair-since Turn judges by_d start.store log (starts run d.author of_d.known).store
-      (subst (λ l. AllPairs Turn (filter by_d l)) (sym (flat_map_single judgement (since start.store log))) (follows run d.author of_d.known).in_turn)
+      (subst (λ l. AllPairs Turn (filter by_d l)) (sym (flat_map_single judgement (entries_since start.store log))) (follows run d.author of_d.known).in_turn)
       before mid of_d.rest e d of_d.at late x y hx hy
       (eq-eqb x.author d.author (sym (ap (λ (j : Judgement). j.author) same_x) ∙ judged-author e.author e.deed ∙ authors))
       (eq-eqb y.author d.author (sym (ap (λ (j : Judgement). j.author) same_y) ∙ judged-author d.author d.deed)) session

@@ -16,7 +16,7 @@ use Rattle.program_defs.specs.Limits.{IsWithinLimits}
 use Rattle.report_rules.specs.Lookups.{request_at}
 use Rattle.weave_entries.specs.declared.gate_log.GateEntry.{GateEntry}
 use Rattle.weave_entries.specs.Logs.{AtEachEntry}
-use Rattle.weave_entries.specs.GateReplay.{Begun, begun_in}
+use Rattle.weave_entries.specs.GateReplay.{BegunRequest, begun_in}
 use Rattle.weave_entries.specs.StoreReplay.{Judgement, judgements_of}
 use Rattle.weave_account.specs.declared.account.Account.{Account}
 use Rattle.weave_account.specs.Account.{gate_log, is_ended, reads_of}
@@ -25,7 +25,7 @@ use Rattle.weave_account.specs.IsAccount.{IsAccount}
 use Rattle.weave_account.specs.Programs.{ReadsInTurn}
 use Rattle.weave_account.specs.Store.{InTurn}
 use Rattle.seen_logs.specs.Closed.{AreOfHands}
-use Rattle.seen_logs.specs.Seen.{AreLegal, IsOwn, since, without_sessions}
+use Rattle.seen_logs.specs.Seen.{AreLegal, IsOwn, entries_since, without_sessions}
 use Rattle.hands_account.specs.LowerLaws.{LawsForHands}
 use Rattle.hands_account.specs.Runs.{FinishesOwnPrograms, IsFollowedByHand, IsOwnProgram, own_begun, own_judgements}
 use Rattle.hands_account.proofs.Places.{has-on, pairs-append, pairs-filter, pairs-second}
@@ -54,19 +54,19 @@ module _ (laws : LawsForHands) (script : Script) (hands : ℕ) (start : Account)
       let on = (of.within number known).gates home in
       is.gatekeepers.begins home before entry (after ++ on.0) (on.1 ∙ ap (λ l. l ++ on.0) at ∙ append_assoc before (entry ∷ after) on.0)
 
-  once : (home : ℕ) → AllPairs (λ (a b : Begun). a.request ≢ b.request)
+  once : (home : ℕ) → AllPairs (λ (a b : BegunRequest). a.request ≢ b.request)
       (begun_in (gate_log start home) ++ own_begun number start (seen_by number) home)
   once home =
-      let R = λ (a b : Begun). a.request ≢ b.request in
-      let by_it = λ (begun : Begun). begun.author == number in
+      let R = λ (a b : BegunRequest). a.request ≢ b.request in
+      let by_it = λ (begun : BegunRequest). begun.author == number in
       let old = gate_log start home in
       let log = gate_log (seen_by number) home in
       let starts = (of.seen number known).starts.gates home in
       let on = (of.within number known).gates home in
-      let new = begun_in (since old log) in
-      let rest : since old log ≡ starts.0 = ap (drop (length old)) starts.1 ∙ drop-append_seam old starts.0 in
+      let new = begun_in (entries_since old log) in
+      let rest : entries_since old log ≡ starts.0 = ap (drop (length old)) starts.1 ∙ drop-append_seam old starts.0 in
       let seen : begun_in log ≡ begun_in old ++ new =
-      ap begun_in (starts.1 ∙ ap (λ l. old ++ l) (sym rest)) ∙ flat_map-append begins-of old (since old log) in
+      ap begun_in (starts.1 ∙ ap (λ l. old ++ l) (sym rest)) ∙ flat_map-append begins-of old (entries_since old log) in
       let all : begun_in (gate_log closed home) ≡ begun_in log ++ begun_in on.0 = ap begun_in on.1 ∙ flat_map-append begins-of log on.0 in
       let pairs : AllPairs R (begun_in old ++ new) = subst (AllPairs R) seen
       (pairs_front R (begun_in log) (begun_in on.0) (subst (AllPairs R) all (list-within R begun_in refl closed.gates is.gatekeepers.once home))) in
@@ -77,8 +77,8 @@ module _ (laws : LawsForHands) (script : Script) (hands : ℕ) (start : Account)
   work : (judged : Judgement) → Contains (own_judgements number start (seen_by number)) judged → HasWork script judged
   work judged h =
       let log = (seen_by number).store in
-      let among = (filter_has (λ (j : Judgement). j.author == number) (judgements_of (since start.store log)) judged h).0 in
-      let entry = map_has judgement (since start.store log) judged among in
+      let among = (filter_has (λ (j : Judgement). j.author == number) (judgements_of (entries_since start.store log)) judged h).0 in
+      let entry = map_has judgement (entries_since start.store log) judged among in
       let there = has-on log closed.store (of.within number known).store entry.0 (drop_has (length start.store) log entry.0 entry.1) in
       let cut = cut_at closed.store entry.0 there in
       subst (HasWork script) entry.2 (is.store.judges cut.before entry.0 cut.after cut.is).work
@@ -90,12 +90,12 @@ module _ (laws : LawsForHands) (script : Script) (hands : ℕ) (start : Account)
       let log = (seen_by number).store in
       let starts = (of.seen number known).starts.store in
       let on = (of.within number known).store in
-      let rest : since old log ≡ starts.0 = ap (drop (length old)) starts.1 ∙ drop-append_seam old starts.0 in
-      let seen : judgements_of log ≡ judgements_of old ++ judgements_of (since old log) =
-      ap judgements_of (starts.1 ∙ ap (λ l. old ++ l) (sym rest)) ∙ map-append judgement old (since old log) in
+      let rest : entries_since old log ≡ starts.0 = ap (drop (length old)) starts.1 ∙ drop-append_seam old starts.0 in
+      let seen : judgements_of log ≡ judgements_of old ++ judgements_of (entries_since old log) =
+      ap judgements_of (starts.1 ∙ ap (λ l. old ++ l) (sym rest)) ∙ map-append judgement old (entries_since old log) in
       let all : judgements_of closed.store ≡ judgements_of log ++ judgements_of on.0 = ap judgements_of on.1 ∙ map-append judgement log on.0 in
-      pairs-filter R (λ (j : Judgement). j.author == number) (judgements_of (since old log))
-      (pairs-second R (judgements_of old) (judgements_of (since old log))
+      pairs-filter R (λ (j : Judgement). j.author == number) (judgements_of (entries_since old log))
+      (pairs-second R (judgements_of old) (judgements_of (entries_since old log))
       (subst (AllPairs R) seen (pairs_front R (judgements_of log) (judgements_of on.0) (subst (AllPairs R) all is.store.in_turn))))
 
   programs : (r : ℕ) → IsOwnProgram number start (seen_by number) r → (request : Request) (program : Program)

@@ -16,11 +16,11 @@ use Rattle.report_rules.specs.Lookups.{is_some_and, request_at}
 use Rattle.weave_entries.specs.declared.gate_log.GateEntry.{GateEntry}
 use Rattle.weave_entries.specs.declared.gate_log.GateDeed.{GateDeed}
 use Rattle.weave_entries.specs.declared.gate_log.GateDeed.TheVariants.{BeganTx, BeganProgram, Sent, Nop, Heard, Raised, Finished}
-use Rattle.weave_entries.specs.GateReplay.{Begun, begun_by, begun_in, program_by, programs_of, tx_by, txs_of}
+use Rattle.weave_entries.specs.GateReplay.{BegunRequest, begun_by, begun_in, program_by, programs_of, tx_by, txs_of}
 use Rattle.weave_account.specs.declared.account.Account.{Account}
 use Rattle.weave_account.specs.Account.{all_begun, gate_log}
 use Rattle.weave_account.specs.Gatekeepers.{BeginEachOnce, BeginsAs}
-use Rattle.seen_logs.specs.Seen.{since}
+use Rattle.seen_logs.specs.Seen.{entries_since}
 use Rattle.hands_account.specs.Runs.{own_begun}
 use Rattle.hands_account.proofs.ByHands.{IsGateByHand, IsClosedRun, first, follows, gate-by, gate-case, gates-on, pair-since, pair-there, starts}
 use Rattle.hands_account.proofs.Places.{Across, at-place, earlier-place, flat-pairs, has-on, less-or, list-there, pairs-by-places, pairs-one, pairs-second, place-of, since-place}
@@ -41,12 +41,12 @@ has-request script is_kind home r (Some request) at own =
     let parts = and_parts (request.gate == home) (is_kind request.work) own in
     record { request = request; at = at; gate = eqb-true request.gate home parts.0; kind = parts.1 }
 
--- the transaction of an entry, and its program
+-- a transaction that an entry begins as the script says is one of the script, at the gatekeeper of its request
 pub tx-request : (script : Script) (account : Account) (home : ℕ) (before : List GateEntry) (author : ℕ) (deed : GateDeed)
-    → BeginsAs script account home before deed → (begun : Begun) → Contains (tx_by author deed) begun
+    → BeginsAs script account home before deed → (begun : BegunRequest) → Contains (tx_by author deed) begun
     → HasRequest script is_change home begun.request
 tx-request script account home before author (BeganTx r stamp) begins begun h =
-    subst (λ (b : Begun). HasRequest script is_change home b.request) (only _ begun h) (has-request script is_change home r (request_at script r) refl begins.own)
+    subst (λ (b : BegunRequest). HasRequest script is_change home b.request) (only _ begun h) (has-request script is_change home r (request_at script r) refl begins.own)
 tx-request script account home before author (BeganProgram r stamp) begins begun h = absurd (has_none begun h)
 tx-request script account home before author (Sent r messages) begins begun h = absurd (has_none begun h)
 tx-request script account home before author (Nop shard n stamp low) begins begun h = absurd (has_none begun h)
@@ -54,11 +54,12 @@ tx-request script account home before author (Heard clock) begins begun h = absu
 tx-request script account home before author (Raised epoch) begins begun h = absurd (has_none begun h)
 tx-request script account home before author (Finished r) begins begun h = absurd (has_none begun h)
 
+-- a program that an entry begins as the script says is one of the script, at the gatekeeper of its request
 pub program-request : (script : Script) (account : Account) (home : ℕ) (before : List GateEntry) (author : ℕ) (deed : GateDeed)
-    → BeginsAs script account home before deed → (begun : Begun) → Contains (program_by author deed) begun
+    → BeginsAs script account home before deed → (begun : BegunRequest) → Contains (program_by author deed) begun
     → HasRequest script is_look home begun.request
 program-request script account home before author (BeganProgram r stamp) begins begun h =
-    subst (λ (b : Begun). HasRequest script is_look home b.request) (only _ begun h) (has-request script is_look home r (request_at script r) refl begins.own)
+    subst (λ (b : BegunRequest). HasRequest script is_look home b.request) (only _ begun h) (has-request script is_look home r (request_at script r) refl begins.own)
 program-request script account home before author (BeganTx r stamp) begins begun h = absurd (has_none begun h)
 program-request script account home before author (Sent r messages) begins begun h = absurd (has_none begun h)
 program-request script account home before author (Nop shard n stamp low) begins begun h = absurd (has_none begun h)
@@ -71,7 +72,7 @@ abbrev any_kind : Work → Bool
 any_kind work = true
 
 begun-request : (script : Script) (account : Account) (home : ℕ) (before : List GateEntry) (author : ℕ) (deed : GateDeed)
-    → BeginsAs script account home before deed → (begun : Begun) → Contains (begun_by author deed) begun
+    → BeginsAs script account home before deed → (begun : BegunRequest) → Contains (begun_by author deed) begun
     → HasRequest script any_kind home begun.request
 begun-request script account home before author deed begins begun h =
     elim (Contains-append_cases (tx_by author deed) (program_by author deed) begun h) [
@@ -89,9 +90,9 @@ one-gate script first second home other a b of_a of_b same =
     sym of_a.gate ∙ ap (λ (request : Request). request.gate) requests ∙ of_b.gate
 
 -- an entry's begin is of its author
-pub begun-author : (author : ℕ) (deed : GateDeed) (begun : Begun) → Contains (begun_by author deed) begun → author ≡ begun.author
-begun-author author (BeganTx r stamp) begun h = ap (λ (b : Begun). b.author) (only _ begun h)
-begun-author author (BeganProgram r stamp) begun h = ap (λ (b : Begun). b.author) (only _ begun h)
+pub begun-author : (author : ℕ) (deed : GateDeed) (begun : BegunRequest) → Contains (begun_by author deed) begun → author ≡ begun.author
+begun-author author (BeganTx r stamp) begun h = ap (λ (b : BegunRequest). b.author) (only _ begun h)
+begun-author author (BeganProgram r stamp) begun h = ap (λ (b : BegunRequest). b.author) (only _ begun h)
 begun-author author (Sent r messages) begun h = absurd (has_none begun h)
 begun-author author (Nop shard n stamp low) begun h = absurd (has_none begun h)
 begun-author author (Heard clock) begun h = absurd (has_none begun h)
@@ -99,7 +100,7 @@ begun-author author (Raised epoch) begun h = absurd (has_none begun h)
 begun-author author (Finished r) begun h = absurd (has_none begun h)
 
 -- it begins at most one request
-one-begun : (R : Begun → Begun → Type 0) (author : ℕ) (deed : GateDeed) → AllPairs R (begun_by author deed)
+one-begun : (R : BegunRequest → BegunRequest → Type 0) (author : ℕ) (deed : GateDeed) → AllPairs R (begun_by author deed)
 one-begun R author (BeganTx r stamp) = pairs-one R _
 one-begun R author (BeganProgram r stamp) = pairs-one R _
 one-begun R author (Sent r messages) = pairs_none R
@@ -114,11 +115,11 @@ both-kinds (Change ops) change look = cc
 both-kinds (Look program) change look = cc
 
 -- what an entry began
-abbrev pub begins-of : GateEntry → List Begun
+abbrev pub begins-of : GateEntry → List BegunRequest
 begins-of entry = begun_by entry.author entry.deed
 
 -- of two begins, that they are of two requests
-abbrev pub Differ : Begun → Begun → Type 0
+abbrev pub Differ : BegunRequest → BegunRequest → Type 0
 Differ a b = a.request ≢ b.request
 
 module _ {script : Script} {hands : ℕ} {start : Account} {seen_by : ℕ → Account} {closed : Account} (run : IsClosedRun script hands start seen_by closed) where
@@ -132,12 +133,12 @@ module _ {script : Script} {hands : ℕ} {start : Account} {seen_by : ℕ → Ac
       ]
 
   request-of : (home : ℕ) (before : List GateEntry) (entry : GateEntry) (after : List GateEntry) → gate_log closed home ≡ before ++ entry ∷ after
-      → (begun : Begun) → Contains (begins-of entry) begun → HasRequest script any_kind home begun.request
+      → (begun : BegunRequest) → Contains (begins-of entry) begun → HasRequest script any_kind home begun.request
   request-of home before entry after at begun h =
       let begins = begins-there home before entry after at in
       begun-request script begins.0 home before entry.author entry.deed begins.1 begun h
 
-  request-in : (home : ℕ) (begun : Begun) → Contains (begun_in (gate_log closed home)) begun → HasRequest script any_kind home begun.request
+  request-in : (home : ℕ) (begun : BegunRequest) → Contains (begun_in (gate_log closed home)) begun → HasRequest script any_kind home begun.request
   request-in home begun h =
       let entry = flat_has begins-of (gate_log closed home) begun h in
       let cut = cut_at (gate_log closed home) entry.0 entry.1 in
@@ -145,17 +146,17 @@ module _ {script : Script} {hands : ℕ} {start : Account} {seen_by : ℕ → Ac
 
   -- what a hand has made is among what it began
   pub own-has : (home : ℕ) (before : List GateEntry) (entry : GateEntry) (number : ℕ) → IsGateByHand run home before entry number
-      → (begun : Begun) → Contains (begins-of entry) begun → Contains (own_begun number start (seen_by number) home) begun
+      → (begun : BegunRequest) → Contains (begins-of entry) begun → Contains (own_begun number start (seen_by number) home) begun
   own-has home before entry number mine begun h =
       let place = since-place (gate_log start home) (gate_log (seen_by number) home) ((starts run number mine.known).gates home) before entry mine.rest mine.at
       mine.own.1 in
-      let log = since (gate_log start home) (gate_log (seen_by number) home) in
-      has_filter (λ (b : Begun). b.author == number) (begun_in log) begun
+      let log = entries_since (gate_log start home) (gate_log (seen_by number) home) in
+      has_filter (λ (b : BegunRequest). b.author == number) (begun_in log) begun
       (has_flat begins-of log entry begun (subst (λ l. Contains l entry) (sym place.2) (has_cut place.0 entry mine.rest)) h)
       (eq-eqb begun.author number (sym (begun-author entry.author entry.deed begun h) ∙ mine.own.0))
 
   -- one request is begun by one hand alone
-  one-author : (home : ℕ) (before rest : List GateEntry) (e d : GateEntry) (x y : Begun)
+  one-author : (home : ℕ) (before rest : List GateEntry) (e d : GateEntry) (x y : BegunRequest)
       → IsGateByHand run home before e e.author → IsGateByHand run home rest d d.author → Contains (begins-of e) x → Contains (begins-of d) y
       → HasRequest script any_kind home x.request → x.request ≡ y.request → e.author ≡ d.author
   one-author home before rest e d x y of_e of_d hx hy has same =
@@ -166,14 +167,14 @@ module _ {script : Script} {hands : ℕ} {start : Account} {seen_by : ℕ → Ac
   -- two entries of one log, made since the start, begin two requests
   since-differ : (home : ℕ) (before mid after : List GateEntry) (e d : GateEntry) → gate_log closed home ≡ before ++ e ∷ (mid ++ d ∷ after)
       → gate_log closed home ≡ (before ++ e ∷ mid) ++ d ∷ after → length (gate_log start home) ≤ length before
-      → IsGateByHand run home (before ++ e ∷ mid) d d.author → (x y : Begun) → Contains (begins-of e) x → Contains (begins-of d) y → x.request ≢ y.request
+      → IsGateByHand run home (before ++ e ∷ mid) d d.author → (x y : BegunRequest) → Contains (begins-of e) x → Contains (begins-of d) y → x.request ≢ y.request
   since-differ home before mid after e d at_e at_d late of_d x y hx hy same =
       let of_e = gate-by run home before e (mid ++ d ∷ after) at_e late e.author refl in
       let has = request-of home before e (mid ++ d ∷ after) at_e x hx in
       let authors = one-author home before (before ++ e ∷ mid) e d x y of_e of_d hx hy has same in
       let pairs = (follows run d.author of_d.known).once home in
       let log = gate_log (seen_by d.author) home in
-      pair-since Differ begins-of (λ (b : Begun). b.author == d.author) (gate_log start home) log ((starts run d.author of_d.known).gates home)
+      pair-since Differ begins-of (λ (b : BegunRequest). b.author == d.author) (gate_log start home) log ((starts run d.author of_d.known).gates home)
       (pairs-second Differ (begun_in (gate_log start home)) (own_begun d.author start (seen_by d.author) home) pairs)
       before mid of_d.rest e d of_d.at late x y hx hy
       (eq-eqb x.author d.author (sym (begun-author e.author e.deed x hx) ∙ authors))
@@ -222,13 +223,13 @@ module _ {script : Script} {hands : ℕ} {start : Account} {seen_by : ℕ → Ac
 
   -- What follows
 
-  all-there : (home : ℕ) (begun : Begun) → Contains (begun_in (gate_log closed home)) begun → Contains (all_begun closed) begun
+  all-there : (home : ℕ) (begun : BegunRequest) → Contains (begun_in (gate_log closed home)) begun → Contains (all_begun closed) begun
   all-there home begun h =
       let entry = flat_has begins-of (gate_log closed home) begun h in
       has_flat begun_in closed.gates (gate_log closed home) begun (list-there closed.gates home entry.0 entry.1) h
 
   -- two begins of one request are the same
-  pub one-begin : (home other : ℕ) (a b : Begun) → Contains (begun_in (gate_log closed home)) a → Contains (begun_in (gate_log closed other)) b
+  pub one-begin : (home other : ℕ) (a b : BegunRequest) → Contains (begun_in (gate_log closed home)) a → Contains (begun_in (gate_log closed other)) b
       → a.request ≡ b.request → a ≡ b
   one-begin home other a b ha hb same =
       elim (pairs_cases Differ (all_begun closed) each-once a b (all-there home a ha) (all-there other b hb)) [
@@ -238,18 +239,18 @@ module _ {script : Script} {hands : ℕ} {start : Account} {seen_by : ℕ → Ac
       ]
 
   -- what began at the start is among all
-  pub begun-on : (home : ℕ) (begun : Begun) → Contains (begun_in (gate_log start home)) begun → Contains (begun_in (gate_log closed home)) begun
+  pub begun-on : (home : ℕ) (begun : BegunRequest) → Contains (begun_in (gate_log start home)) begun → Contains (begun_in (gate_log closed home)) begun
   begun-on home begun h =
       let entry = flat_has begins-of (gate_log start home) begun h in
       has_flat begins-of (gate_log closed home) entry.0 begun (has-on (gate_log start home) (gate_log closed home) (gates-on run home) entry.0 entry.1) entry.2
 
   -- what began at the start is begun by no hand
-  pub never-again : (home other number : ℕ) → number < hands → (a b : Begun) → Contains (begun_in (gate_log start home)) a
+  pub never-again : (home other number : ℕ) → number < hands → (a b : BegunRequest) → Contains (begun_in (gate_log start home)) a
       → Contains (own_begun number start (seen_by number) other) b → a.request ≢ b.request
   never-again home other number known a b ha hb same =
       let log = gate_log (seen_by number) other in
-      let began = (filter_has (λ (c : Begun). c.author == number) (begun_in (since (gate_log start other) log)) b hb).0 in
-      let entry = flat_has begins-of (since (gate_log start other) log) b began in
+      let began = (filter_has (λ (c : BegunRequest). c.author == number) (begun_in (entries_since (gate_log start other) log)) b hb).0 in
+      let entry = flat_has begins-of (entries_since (gate_log start other) log) b began in
       let seen = has-on log (gate_log closed other) ((run.of.within number known).gates other) entry.0
       (drop_has (length (gate_log start other)) log entry.0 entry.1) in
       let of_b = request-in other b (has_flat begins-of (gate_log closed other) entry.0 b seen entry.2) in
@@ -259,7 +260,7 @@ module _ {script : Script} {hands : ℕ} {start : Account} {seen_by : ℕ → Ac
       (subst (λ k. Contains (begun_in (gate_log start k)) a) gates ha) hb same
 
   -- no request begins as a transaction and as a program
-  pub not-both : (home other : ℕ) (a b : Begun) → Contains (txs_of (gate_log closed home)) a → Contains (programs_of (gate_log closed other)) b
+  pub not-both : (home other : ℕ) (a b : BegunRequest) → Contains (txs_of (gate_log closed home)) a → Contains (programs_of (gate_log closed other)) b
       → a.request ≢ b.request
   not-both home other a b ha hb same =
       let tx = flat_has (λ (e : GateEntry). tx_by e.author e.deed) (gate_log closed home) a ha in

@@ -17,12 +17,12 @@ use Rattle.report_rules.specs.Lookups.{request_at}
 use Rattle.weave_entries.specs.declared.gate_log.GateEntry.{GateEntry}
 use Rattle.weave_entries.specs.declared.gate_log.GateDeed.{GateDeed}
 use Rattle.weave_entries.specs.declared.gate_log.GateDeed.TheVariants.{BeganTx, BeganProgram, Sent, Nop, Heard, Raised, Finished}
-use Rattle.weave_entries.specs.GateReplay.{Begun, begun_by, begun_in, ended_by, ended_in, program_by, programs_of, tx_by}
+use Rattle.weave_entries.specs.GateReplay.{BegunRequest, begun_by, begun_in, ended_by, ended_in, program_by, programs_of, tx_by}
 use Rattle.weave_account.specs.declared.account.Account.{Account}
 use Rattle.weave_account.specs.Account.{gate_log, is_ended, reads_of}
 use Rattle.weave_account.specs.Programs.{ReadsInTurn}
 use Rattle.seen_logs.specs.FollowsScript.{BegunProgramsReadInTurn}
-use Rattle.seen_logs.specs.Seen.{AreLegal, since, without_sessions}
+use Rattle.seen_logs.specs.Seen.{AreLegal, entries_since, without_sessions}
 use Rattle.hands_account.proofs.ByHands.{IsGateByHand, IsClosedRun, follows, gate-by, gate-case, gates-on, starts}
 use Rattle.hands_account.proofs.Once.{begun-author, each-once, never-again, not-both}
 use Rattle.hands_account.proofs.Places.{has-on, list-there, place-of, since-place}
@@ -44,8 +44,8 @@ reads-move program xs ys ended next same back reads =
     let moved : ReadsInTurn ys program ended = subst (λ zs. ReadsInTurn zs program ended) (sym same) reads in
     record { once = moved.once; first_ones = moved.first_ones; whole = λ h. moved.whole (back h) }
 
--- the program of an entry is what it began
-program-begun : (log : List GateEntry) (begun : Begun) → Contains (programs_of log) begun → Contains (begun_in log) begun
+-- a program begun in a log is among all that was begun in it
+program-begun : (log : List GateEntry) (begun : BegunRequest) → Contains (programs_of log) begun → Contains (begun_in log) begun
 program-begun log begun h =
     let from = flat_has (λ (e : GateEntry). program_by e.author e.deed) log begun h in
     has_flat (λ (e : GateEntry). begun_by e.author e.deed) log from.0 begun from.1
@@ -65,11 +65,12 @@ module _ {script : Script} {hands : ℕ} {start : Account} {seen_by : ℕ → Ac
   pub few : length closed.gates ≤ 8
   few = let gates = run.runs.gates in let limit = run.limits.few_gates in omega (arith, gates, limit)
 
+  -- without those of the sessions, the closed logs keep their rules
   pub legal-apart : AreLegal script.gates script.shards (without_sessions closed)
   legal-apart = apart run.legal
 
   -- a program of the start is among all
-  programs-on : (home : ℕ) (begun : Begun) → Contains (programs_of (gate_log start home)) begun → Contains (programs_of (gate_log closed home)) begun
+  programs-on : (home : ℕ) (begun : BegunRequest) → Contains (programs_of (gate_log start home)) begun → Contains (programs_of (gate_log closed home)) begun
   programs-on home begun h =
       let from = flat_has (λ (e : GateEntry). program_by e.author e.deed) (gate_log start home) begun h in
       has_flat (λ (e : GateEntry). program_by e.author e.deed) (gate_log closed home) from.0 begun
@@ -77,17 +78,17 @@ module _ {script : Script} {hands : ℕ} {start : Account} {seen_by : ℕ → Ac
 
   -- A program of the start
 
-  module _ (home : ℕ) (begun : Begun) (there : Contains (programs_of (gate_log start home)) begun) where
+  module _ (home : ℕ) (begun : BegunRequest) (there : Contains (programs_of (gate_log start home)) begun) where
     -- it is not ended by a hand
     not-ended : (other : ℕ) (before : List GateEntry) (author : ℕ) (deed : GateDeed) (after : List GateEntry)
         → gate_log closed other ≡ before ++ record { author = author; deed = deed } ∷ after
         → IsGateByHand run other before (record { author = author; deed = deed }) author → Contains (ended_by deed) begun.request → ⊥
     not-ended other before author (Finished r) after at mine h =
         let own = (follows run author mine.known).finishes other before (record { author = author; deed = Finished r }) mine.rest mine.at mine.own in
-        let log = since (gate_log start own.0) (gate_log (seen_by author) own.0) in
-        let program : Begun = record { author = author; request = r; stamp = own.1 } in
+        let log = entries_since (gate_log start own.0) (gate_log (seen_by author) own.0) in
+        let program : BegunRequest = record { author = author; request = r; stamp = own.1 } in
         never-again run home own.0 author mine.known begun program (program-begun (gate_log start home) begun there)
-        (has_filter (λ (b : Begun). b.author == author) (begun_in log) program (program-begun log program own.2) (eq-eqb author author refl))
+        (has_filter (λ (b : BegunRequest). b.author == author) (begun_in log) program (program-begun log program own.2) (eq-eqb author author refl))
         (sym (only r begun.request h))
     not-ended other before author (Sent r messages) after at mine h =
         let log = gate_log closed other in
@@ -126,12 +127,12 @@ module _ {script : Script} {hands : ℕ} {start : Account} {seen_by : ℕ → Ac
 
   -- A program that a hand began since
 
-  reads-late : (home : ℕ) (before : List GateEntry) (entry : GateEntry) (begun : Begun) → IsGateByHand run home before entry begun.author
+  reads-late : (home : ℕ) (before : List GateEntry) (entry : GateEntry) (begun : BegunRequest) → IsGateByHand run home before entry begun.author
       → Contains (program_by entry.author entry.deed) begun → (request : Request) (program : Program) → request_at script begun.request ≡ Some request
       → request.work ≡ Look program → ReadsInTurn (reads_of closed begun.request) program (IsTrue (is_ended closed begun.request))
   reads-late home before entry begun mine h request program at work =
       let number = begun.author in
-      let log = since (gate_log start home) (gate_log (seen_by number) home) in
+      let log = entries_since (gate_log start home) (gate_log (seen_by number) home) in
       let place = since-place (gate_log start home) (gate_log (seen_by number) home) ((starts run number mine.known).gates home) before entry mine.rest mine.at
       mine.own.1 in
       let there = has_flat (λ (e : GateEntry). program_by e.author e.deed) log entry begun

@@ -14,7 +14,7 @@ use Rattle.weave_entries.specs.declared.store_log.StoreDeed.{StoreDeed}
 use Rattle.weave_entries.specs.declared.store_log.StoreDeed.TheVariants.{Judged}
 use Rattle.weave_entries.specs.StoreReplay.{Judgement, judged_by, judgements_of}
 use Rattle.weave_account.specs.declared.account.Account.{Account}
-use Rattle.seen_logs.specs.Seen.{since}
+use Rattle.seen_logs.specs.Seen.{entries_since}
 use Rattle.hands_account.specs.Runs.{own_judgements}
 use Rattle.hands_account.proofs.ByHands.{IsClosedRun, IsStoreByHand, follows, starts, store-case}
 use Rattle.hands_account.proofs.Places.{since-place}
@@ -38,8 +38,8 @@ module _ {script : Script} {hands : ℕ} {start : Account} {seen_by : ℕ → Ac
   own-judged before entry number mine =
       let log = (seen_by number).store in
       let place = since-place start.store log (starts run number mine.known).store before entry mine.rest mine.at mine.own.1 in
-      has_filter (λ (judged : Judgement). judged.author == number) (judgements_of (since start.store log)) (judgement entry)
-      (has_map judgement (since start.store log) entry (subst (λ l. Contains l entry) (sym place.2) (has_cut place.0 entry mine.rest)))
+      has_filter (λ (judged : Judgement). judged.author == number) (judgements_of (entries_since start.store log)) (judgement entry)
+      (has_map judgement (entries_since start.store log) entry (subst (λ l. Contains l entry) (sym place.2) (has_cut place.0 entry mine.rest)))
       (eq-eqb (judgement entry).author number (judged-author entry.author entry.deed ∙ mine.own.0))
 
   -- each judgement has the operations of its request

@@ -12,7 +12,7 @@ use Rattle.weave_entries.specs.declared.gate_log.GateEntry.{GateEntry}
 use Rattle.weave_entries.specs.declared.gate_log.GateDeed.{GateDeed}
 use Rattle.weave_entries.specs.declared.gate_log.GateDeed.TheVariants.{Finished}
 use Rattle.weave_entries.specs.Logs.{AtEachEntry}
-use Rattle.weave_entries.specs.GateReplay.{Begun, begun_in, programs_of}
+use Rattle.weave_entries.specs.GateReplay.{BegunRequest, begun_in, programs_of}
 use Rattle.weave_entries.specs.StoreReplay.{Judgement, judgements_of}
 use Rattle.weave_account.specs.declared.account.Account.{Account}
 use Rattle.weave_account.specs.Account.{gate_log, is_ended, reads_of}
@@ -21,24 +21,25 @@ use Rattle.weave_account.specs.IsAccount.{IsAccount}
 use Rattle.weave_account.specs.Programs.{ReadsInTurn}
 use Rattle.weave_account.specs.Sessions.{SessionsClause}
 use Rattle.weave_account.specs.Store.{InTurn}
-use Rattle.seen_logs.specs.Seen.{IsOwn, since}
+use Rattle.seen_logs.specs.Seen.{IsOwn, entries_since}
 
 -- What a hand, known by its number as an author, made since the logs were as at the start
 
 -- what it began at a gatekeeper, in order
-abbrev pub own_begun : ℕ → Account → Account → ℕ → List Begun
+abbrev pub own_begun : ℕ → Account → Account → ℕ → List BegunRequest
 own_begun number start seen home =
-    filter (λ (begun : Begun). begun.author == number) (begun_in (since (gate_log start home) (gate_log seen home)))
+    filter (λ (begun : BegunRequest). begun.author == number)
+    (begun_in (entries_since (gate_log start home) (gate_log seen home)))
 
 -- what it judged, in order
 abbrev pub own_judgements : ℕ → Account → Account → List Judgement
 own_judgements number start seen =
-    filter (λ (judged : Judgement). judged.author == number) (judgements_of (since start.store seen.store))
+    filter (λ (judged : Judgement). judged.author == number) (judgements_of (entries_since start.store seen.store))
 
 -- it began this request as a program
 abbrev pub IsOwnProgram : ℕ → Account → Account → ℕ → Type 0
 IsOwnProgram number start seen r = (home : ℕ) × (stamp : Stamp)
-    × Contains (programs_of (since (gate_log start home) (gate_log seen home)))
+    × Contains (programs_of (entries_since (gate_log start home) (gate_log seen home)))
     (record { author = number; request = r; stamp = stamp })
 
 -- a deed finishes one of its programs, if it finishes one
@@ -55,7 +56,7 @@ FinishesOwnPrograms number start seen = (home : ℕ) → AtEachEntry (λ before 
 -- this request was given to it: it began the request, or judged it
 abbrev pub WasGiven : ℕ → Account → Account → ℕ → Type 0
 WasGiven number start seen r =
-    ((home : ℕ) × (begun : Begun) × Contains (own_begun number start seen home) begun × (begun.request ≡ r))
+    ((home : ℕ) × (begun : BegunRequest) × Contains (own_begun number start seen home) begun × (begun.request ≡ r))
     ⊎ ((judged : Judgement) × Contains (own_judgements number start seen) judged × (judged.request ≡ r))
 
 -- A script is followed by a hand in what it made since the start. It begins requests of the script, each at its own
@@ -66,7 +67,7 @@ pub record IsFollowedByHand (script : Script) (number : ℕ) (start seen closed 
   pub begins : (home : ℕ) → AtEachEntry (λ before (entry : GateEntry).
       IsOwn number (gate_log start home) before entry.author
       → BeginsAs script closed home before entry.deed) (gate_log seen home)
-  pub once : (home : ℕ) → AllPairs (λ (a b : Begun). a.request ≢ b.request)
+  pub once : (home : ℕ) → AllPairs (λ (a b : BegunRequest). a.request ≢ b.request)
       (begun_in (gate_log start home) ++ own_begun number start seen home)
   pub work : (judged : Judgement) → Contains (own_judgements number start seen) judged
       → IsSomeAnd (request_at script judged.request) (λ (request : Request). request.work ≡ Change judged.ops)

@@ -7,12 +7,12 @@ use Rattle.std.proofs.lemmas.List.{get_or-set_same, length-map}
 use Rattle.weave_data.proofs.Members.{has_flat, has_head, has_last, only}
 use Rattle.graph_ops.specs.declared.op.Op.{Op}
 use Rattle.vector_stamp.specs.declared.clock.Stamp.{Stamp}
-use Rattle.chronicle.specs.Passes.{own}
+use Rattle.chronicle.specs.Passes.{own_entries}
 use Rattle.weave_entries.specs.declared.gate_log.GateDeed.{GateDeed}
 use Rattle.weave_entries.specs.declared.gate_log.GateDeed.TheVariants.{BeganTx}
 use Rattle.weave_entries.specs.declared.gate_log.GateEntry.{GateEntry}
 use Rattle.weave_entries.specs.declared.verdict.Verdict.{Verdict}
-use Rattle.weave_entries.specs.GateReplay.{Begun, begun_by, begun_in}
+use Rattle.weave_entries.specs.GateReplay.{BegunRequest, begun_by, begun_in}
 use Rattle.weave_account.specs.declared.account.Account.{Account}
 use Rattle.weave_account.specs.Account.{gate_log, shard_log}
 use Rattle.weave_account.specs.GoesOn.{visits_by}
@@ -29,7 +29,7 @@ use Rattle.weaver_hands.specs.Leaving.{LeavesAlone, MakesNoVisit}
 use Rattle.weaver_hands.specs.Programs.{IsRunning}
 use Rattle.weaver_hands.specs.Transactions.{Transacts, TransactsAs}
 use Rattle.hands_rows.specs.Going.{OwnRequestLaws}
-use Rattle.hands_rows.specs.Workers.{IsWorker}
+use Rattle.hands_rows.specs.Workers.{IsWorkerOf}
 use Rattle.weaver_locks.proofs.Options.{for-some, just, nothing-there}
 use Rattle.hands_rows.proofs.Quiet.{Quietly, none-begins, one-begins-none, quiet-elsewhere, quiet-gate}
 
@@ -56,22 +56,23 @@ made-there : (shared : Shared) (old new : Hand) (gate : ℕ) (added : List GateE
 made-there shared old new gate added is low made =
     let logs = (made_by old).gates in
     let there : gate < length logs =
-    omega (arith, low, is.gates, length-map (map own old.gates.items) gate_entries, length-map old.gates.items own) in
+    omega (arith, low, is.gates, length-map (map own_entries old.gates.items) gate_entries, length-map old.gates.items own_entries) in
     ap (λ (a : Account). gate_log a gate) made ∙ get_or-set_same logs gate (gate_log (made_by old) gate ++ added) [] there
 
 -- a hold of a gatekeeper in which a request was begun
 module _ (laws : OwnRequestLaws) (shared : Shared) (old new : Hand) (gate request : ℕ) (stamp : Stamp) (deed : GateDeed)
     (begins : begun_by (hand_number old) deed ≡ record { author = hand_number old; request = request; stamp = stamp } ∷ []) where
-  abbrev this : Begun
+  abbrev this : BegunRequest
   this = record { author = hand_number old; request = request; stamp = stamp }
 
-  other-begun : (r : ℕ) → r ≢ request → (entry : GateEntry) (begun : Begun) → Contains (gate_entry_by old deed ∷ []) entry
+  other-begun : (r : ℕ) → r ≢ request → (entry : GateEntry) (begun : BegunRequest) → Contains (gate_entry_by old deed ∷ []) entry
       → Contains (begun_by entry.author entry.deed) begun → begun.request ≢ r
   other-begun r other entry begun h there same =
       let here = subst (λ (e : GateEntry). Contains (begun_by e.author e.deed) begun) (sym (only (gate_entry_by old deed) entry h)) there in
-      let is_this = only this begun (subst (λ (l : List Begun). Contains l begun) begins here) in
-      other (sym same ∙ sym (ap (λ (b : Begun). b.request) is_this))
+      let is_this = only this begun (subst (λ (l : List BegunRequest). Contains l begun) begins here) in
+      other (sym same ∙ sym (ap (λ (b : BegunRequest). b.request) is_this))
 
+  -- a hand that added the begin of a request at a gatekeeper, and nothing else, began this request alone
   pub began : {shards : ℕ} (before : List GateEntry) → IsHand shared old → gate < gate_count shared
       → WasAtGate shards old new gate before (gate_entry_by old deed ∷ []) → Began shared old new request stamp
   began before is low was =
@@ -79,7 +80,7 @@ module _ (laws : OwnRequestLaws) (shared : Shared) (old new : Hand) (gate reques
       let log = gate_log (made_by old) gate in
       let there : Contains (begun_in (log ++ entry ∷ [])) this =
       has_flat (λ (e : GateEntry). begun_by e.author e.deed) (log ++ entry ∷ []) entry this (has_last log entry)
-      (subst (λ (l : List Begun). Contains l this) (sym begins) (has_head this [])) in record {
+      (subst (λ (l : List BegunRequest). Contains l this) (sym begins) (has_head this [])) in record {
         number = was.number;
         fresh = λ r other. laws.fresh_at_gate old new gate (entry ∷ []) was.made r (other-begun r other);
         heard = laws.heard_at_gate shared old new gate (entry ∷ []) was.made;
@@ -103,10 +104,12 @@ module _ (laws : OwnRequestLaws) (shared : Shared) (old new : Hand) (gate reques
       began-then shared old did.judged new request stamp second
       (quiet-gate laws shared did.judged new did.sends.was.number gate _ did.sends.was.made (one-begins-none did.judged _ refl))
 
+  -- a hand whose transaction was sent began this request alone
   pub transact-done : (done : Stamp × Verdict) → IsHand shared old → gate < gate_count shared
       → TransactsAs (shard_count shared) old new gate request ops last (Ok done) → Began shared old new request done.0
   transact-done (stamp, verdict) is low did = transact-began stamp verdict is low did
 
+  -- a hand that found the gatekeeper busy has begun nothing
   pub transact-busy : TransactsAs (shard_count shared) old new gate request ops last (Err Busy) → Quietly shared old new
   transact-busy did = quiet-gate laws shared old new did.was.number gate [] did.was.made none-begins
 
@@ -114,9 +117,9 @@ module _ (laws : OwnRequestLaws) (shared : Shared) (old new : Hand) (gate reques
 
 module _ (laws : OwnRequestLaws) (shared : Shared) (old new : Hand) (next : ℕ) (last : Option Stamp) (walk : Option Running)
     (request n : ℕ) (stamp : Stamp) (n_is : n ≡ request) (low : next ≤ request) (on : Began shared old new request stamp)
-    (is_new : IsHand shared new) (had : IsWorker shared old next last walk) where
+    (is_new : IsHand shared new) (had : IsWorkerOf shared old next last walk) where
   begins-on : ((r : ℕ) → MakesNoVisit old new r) → (other : Option Running) → ForSome other (IsRunning shared new)
-      → ForSome other (λ (program : Running). program.request < n + 1) → IsWorker shared new (n + 1) (Some stamp) other
+      → ForSome other (λ (program : Running). program.request < n + 1) → IsWorkerOf shared new (n + 1) (Some stamp) other
   begins-on unvisited other running below = record {
     is_hand = is_new;
     fresh = λ r high. on.fresh r (λ (e : r ≡ request). omega (arith, e, n_is, high)) (had.fresh r (omega (arith, low, n_is, high)));
@@ -127,18 +130,18 @@ module _ (laws : OwnRequestLaws) (shared : Shared) (old new : Hand) (next : ℕ)
   }
 
   -- a transaction was begun and sent
-  pub transacted : ((r : ℕ) → LeavesAlone old new r) → IsWorker shared new (n + 1) (Some stamp) walk
+  pub transacted : ((r : ℕ) → LeavesAlone old new r) → IsWorkerOf shared new (n + 1) (Some stamp) walk
   transacted alone = begins-on (λ r. (alone r).unvisited) walk
       (for-some _ _ walk (λ program. laws.runs shared old new program had.is_hand is_new (alone program.request)) had.running)
       (for-some _ _ walk (λ program less. omega (arith, less, low, n_is)) had.below)
 
   -- a transaction was begun, and the worker has no program
-  pub left-in-flight : ((r : ℕ) → MakesNoVisit old new r) → IsWorker shared new (n + 1) (Some stamp) None
+  pub left-in-flight : ((r : ℕ) → MakesNoVisit old new r) → IsWorkerOf shared new (n + 1) (Some stamp) None
   left-in-flight unvisited = begins-on unvisited None (nothing-there _) (nothing-there _)
 
   -- a program was begun
   pub started : ((r : ℕ) → LeavesAlone old new r) → (program : Running) → program.request ≡ request → IsRunning shared new program
-      → IsWorker shared new (n + 1) (Some stamp) (Some program)
+      → IsWorkerOf shared new (n + 1) (Some stamp) (Some program)
   started alone program same running = begins-on (λ r. (alone r).unvisited) (Some program) (just _ program running)
       (just (λ (p : Running). p.request < n + 1) program (omega (arith, same, n_is)))
 

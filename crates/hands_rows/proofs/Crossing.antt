@@ -10,6 +10,7 @@ use Rattle.hands_rows.proofs.worker.Ended.TheSendSync as ended
 use Rattle.hands_rows.specs.contracts.worker.Worker as worker
 use Rattle.weaver_locks.proofs.Crossing.{hand_send_within}
 
+-- a worker may be sent to another thread
 pub worker_send : IsSend worker.the_row
 worker_send = recorded_send worker.the_field.row _ _ worker.the_type.to_one (struct_send (shape worker.the_type) (
   hand_send_within,

@@ -13,15 +13,15 @@ use Rattle.weaver_hands.specs.declared.fault.HandFault.TheVariants.{Busy, NotYet
 use Rattle.weaver_hands.specs.Leaving.{LeavesAlone, MakesNoVisit}
 use Rattle.weaver_hands.specs.Programs.{IsRunning, VisitsAs}
 use Rattle.hands_rows.specs.Going.{OwnRequestLaws}
-use Rattle.hands_rows.specs.Workers.{IsWorker}
+use Rattle.hands_rows.specs.Workers.{IsWorkerOf}
 use Rattle.hands_rows.proofs.Quiet.{Quietly}
 use Rattle.weaver_locks.proofs.Options.{for-some, just, nothing-there}
 
 module _ (laws : OwnRequestLaws) (shared : Shared) (old new : Hand) (next : ℕ) (last : Option Stamp) (walk : Option Running)
-    (on : Quietly shared old new) (is_new : IsHand shared new) (had : IsWorker shared old next last walk) where
+    (on : Quietly shared old new) (is_new : IsHand shared new) (had : IsWorkerOf shared old next last walk) where
   -- all but the program
   pub goes-on : ((r : ℕ) → next ≤ r → MakesNoVisit old new r) → (other : Option Running) → ForSome other (IsRunning shared new)
-      → ForSome other (λ (program : Running). program.request < next) → IsWorker shared new next last other
+      → ForSome other (λ (program : Running). program.request < next) → IsWorkerOf shared new next last other
   goes-on unvisited other running below = record {
     is_hand = is_new;
     fresh = λ r low. on.fresh r (had.fresh r low);
@@ -32,17 +32,17 @@ module _ (laws : OwnRequestLaws) (shared : Shared) (old new : Hand) (next : ℕ)
   }
 
   -- all requests are left alone
-  pub carries-on : ((r : ℕ) → LeavesAlone old new r) → IsWorker shared new next last walk
+  pub carries-on : ((r : ℕ) → LeavesAlone old new r) → IsWorkerOf shared new next last walk
   carries-on alone = goes-on (λ r low. (alone r).unvisited) walk
       (for-some _ _ walk (λ program. laws.runs shared old new program had.is_hand is_new (alone program.request)) had.running) had.below
 
   -- the program is given up
-  pub ends-on : ((r : ℕ) → MakesNoVisit old new r) → IsWorker shared new next last None
+  pub ends-on : ((r : ℕ) → MakesNoVisit old new r) → IsWorkerOf shared new next last None
   ends-on unvisited = goes-on (λ r low. unvisited r) None (nothing-there _) (nothing-there _)
 
 -- the worker gives up its program
 pub without-program : (shared : Shared) (hand : Hand) (next : ℕ) (last : Option Stamp) (walk : Option Running)
-    → IsWorker shared hand next last walk → IsWorker shared hand next last None
+    → IsWorkerOf shared hand next last walk → IsWorkerOf shared hand next last None
 without-program shared hand next last walk had = record {
   is_hand = had.is_hand;
   fresh = had.fresh;
@@ -64,9 +64,9 @@ visit-same gates shards old new was is (Err (Waits vertex)) none = absurd none
 
 -- the program has read its next vertex, or tried to
 pub visits-on : OwnRequestLaws → (shared : Shared) (old new : Hand) (next : ℕ) (last : Option Stamp) (walk : Option Running) (was is : Running)
-    → Quietly shared old new → IsHand shared new → IsWorker shared old next last walk → walk ≡ Some was
+    → Quietly shared old new → IsHand shared new → IsWorkerOf shared old next last walk → walk ≡ Some was
     → ((r : ℕ) → r ≢ was.request → LeavesAlone old new r) → is.request ≡ was.request → IsRunning shared new is
-    → IsWorker shared new next last (Some is)
+    → IsWorkerOf shared new next last (Some is)
 visits-on laws shared old new next last walk was is on is_new had walk_is alone same running =
     let low : was.request < next = had.below was walk_is in
     goes-on laws shared old new next last walk on is_new had

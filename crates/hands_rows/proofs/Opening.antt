@@ -6,7 +6,7 @@ use Rattle.std.proofs.lemmas.List.{get_or-map, length-map}
 use Rattle.weave_data.proofs.Members.{has_none}
 use Rattle.weave_entries.specs.declared.gate_log.GateEntry.{GateEntry}
 use Rattle.weave_entries.specs.declared.shard_log.ShardEntry.{ShardEntry}
-use Rattle.weave_entries.specs.GateReplay.{Begun, begun_in}
+use Rattle.weave_entries.specs.GateReplay.{BegunRequest, begun_in}
 use Rattle.weave_entries.specs.ShardReplay.{reads_in}
 use Rattle.gatekeeper.specs.Gates.{GateView}
 use Rattle.shard_node.specs.Shards.{ShardView}
@@ -18,7 +18,7 @@ use Rattle.weaver_locks.specs.Closing.{logs_of}
 use Rattle.weaver_locks.specs.Hands.{hand_number, made_by, seen_by, IsHand}
 use Rattle.lock_row.proofs.Lists.{one_of}
 use Rattle.hands_rows.specs.Going.{OwnRequestLaws}
-use Rattle.hands_rows.specs.Workers.{AreWorkers, IsNumbered, IsWorker, worker_of}
+use Rattle.hands_rows.specs.Workers.{AreWorkers, IsNumbered, IsWorkerOf, worker_of}
 use Rattle.weaver_locks.proofs.Options.{nothing-there}
 
 -- nothing was read in the shards
@@ -30,6 +30,7 @@ no-reads-in r (s ∷ shards) none =
     ap (λ (l : List ShardEntry). reads_in r l ++ flat_map (reads_in r) (map (λ (shard : ShardView). shard.log) shards))
     (none zero s (omega arith)) ∙ rest
 
+-- no request has read anything if the logs of the shards are empty
 pub no-reads : (gates : List GateView) (store : _) (oracle : _) (shards : List ShardView)
     → ((k : ℕ) (s : ShardView) → k < length shards → (get_or shards k s).log ≡ []) → (r : ℕ)
     → reads_of (logs_of gates store oracle shards) r ≡ []
@@ -51,7 +52,7 @@ module _ (laws : OwnRequestLaws) (shared : Shared) (hand : Hand) (is : IsHand sh
       ap (λ (a : Account). gate_log a home) (laws.made shared hand is)
       ∙ (mapped mine refl (seen_by hand).gates home ∙ ap mine (none home))
 
-  new-worker : IsWorker shared hand 0 (worker_of hand).last (worker_of hand).walk
+  new-worker : IsWorkerOf shared hand 0 (worker_of hand).last (worker_of hand).walk
   new-worker = record {
     is_hand = is;
     fresh = λ r low home begun h. absurd (none-begun home begun h);
@@ -61,12 +62,14 @@ module _ (laws : OwnRequestLaws) (shared : Shared) (hand : Hand) (is : IsHand sh
     below = nothing-there _;
   }
     where
-      none-begun : (home : ℕ) (begun : Begun) → Contains (begun_in (gate_log (made_by hand) home)) begun → ⊥
+      none-begun : (home : ℕ) (begun : BegunRequest) → Contains (begun_in (gate_log (made_by hand) home)) begun → ⊥
       none-begun home begun h = has_none begun (subst (λ (l : List GateEntry). Contains (begun_in l) begun) (made-none home) h)
 
+  -- the worker of a hand that has seen no entry at gatekeepers and no read is ready, with the hand's number
   pub new-numbered : (number : ℕ) → hand_number hand ≡ number → IsNumbered shared number (worker_of hand)
   new-numbered number is_number = record { ready = new-worker; number_is = is_number }
 
+-- the workers of hands with the numbers from 0 that have seen no entry at gatekeepers and no read are ready
 pub new-workers : OwnRequestLaws → (shared : Shared) (hands : List Hand) (count : ℕ) (account : Account) → length hands ≡ count
     → ((home : ℕ) → gate_log account home ≡ []) → ((r : ℕ) → reads_of account r ≡ [])
     → ((k : ℕ) (h : Hand) → k < count → IsHand shared (get_or hands k h) × (hand_number (get_or hands k h) ≡ k) × (seen_by (get_or hands k h) ≡ account))

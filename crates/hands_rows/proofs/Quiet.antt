@@ -6,7 +6,7 @@ use Rattle.program_defs.specs.declared.program.Answer.{Answer}
 use Rattle.vector_stamp.specs.declared.clock.Stamp.{Stamp}
 use Rattle.weave_entries.specs.declared.gate_log.GateDeed.{GateDeed}
 use Rattle.weave_entries.specs.declared.gate_log.GateEntry.{GateEntry}
-use Rattle.weave_entries.specs.GateReplay.{Begun, begun_by}
+use Rattle.weave_entries.specs.GateReplay.{BegunRequest, begun_by}
 use Rattle.weave_account.specs.declared.account.Account.{Account}
 use Rattle.weaver_core.specs.declared.walks.Running.{Running}
 use Rattle.weaver_locks.specs.declared.hand.Hand.{Hand}
@@ -38,15 +38,17 @@ quietly-then shared old next new first last = record {
 
 -- these entries begin nothing
 abbrev pub BeginNone : List GateEntry → Type 0
-BeginNone added = (entry : GateEntry) (begun : Begun) → Contains added entry → Contains (begun_by entry.author entry.deed) begun → ⊥
+BeginNone added = (entry : GateEntry) (begun : BegunRequest) → Contains added entry → Contains (begun_by entry.author entry.deed) begun → ⊥
 
+-- a list without entries begins nothing
 pub none-begins : BeginNone []
 none-begins entry begun h there = has_none entry h
 
+-- an entry of a deed that begins nothing begins nothing
 pub one-begins-none : (hand : Hand) (deed : GateDeed) → begun_by (hand_number hand) deed ≡ [] → BeginNone (gate_entry_by hand deed ∷ [])
 one-begins-none hand deed none entry begun h there =
     let here = subst (λ (e : GateEntry). Contains (begun_by e.author e.deed) begun) (sym (only (gate_entry_by hand deed) entry h)) there in
-    has_none begun (subst (λ (l : List Begun). Contains l begun) none here)
+    has_none begun (subst (λ (l : List BegunRequest). Contains l begun) none here)
 
 module _ (laws : OwnRequestLaws) (shared : Shared) (old new : Hand) (number_is : hand_number new ≡ hand_number old) where
   -- a hold of a gatekeeper
@@ -73,6 +75,7 @@ module _ (laws : OwnRequestLaws) (shared : Shared) (old new : Hand) where
   quiet-none : MadeNone old new → Quietly shared old new
   quiet-none none = quiet-elsewhere laws shared old new none.number (gates-of (made_by old) (made_by new) none.made)
 
+  -- the pull of a message begins nothing
   pub pull-quiet : (shards gate shard number : ℕ) (result : Result Bool HandFault) → PullsAs shards old new gate shard number result
       → Quietly shared old new
   pull-quiet shards gate shard number (Ok true) did =
@@ -86,6 +89,7 @@ module _ (laws : OwnRequestLaws) (shared : Shared) (old new : Hand) where
   pull-quiet shards gate shard number (Err Empty) none = absurd none
   pull-quiet shards gate shard number (Err (Waits vertex)) none = absurd none
 
+  -- the processing of a channel's head begins nothing
   pub apply-quiet : (shards shard gate : ℕ) (result : Result (Unit {0}) HandFault) → AppliesAs shards old new shard gate result
       → Quietly shared old new
   apply-quiet shards shard gate (Ok done) did = quiet-elsewhere laws shared old new did.was.number (ap (λ (a : Account). a.gates) did.was.made)
@@ -95,6 +99,7 @@ module _ (laws : OwnRequestLaws) (shared : Shared) (old new : Hand) where
   apply-quiet shards shard gate (Err Busy) none = absurd none
   apply-quiet shards shard gate (Err (NotYet other at)) none = absurd none
 
+  -- a clock that is said and heard begins nothing
   pub tell-quiet : (shards from to : ℕ) (result : Result (Unit {0}) HandFault) → TellsAs shards old new from to result
       → Quietly shared old new
   tell-quiet shards from to (Ok done) did =
@@ -107,6 +112,7 @@ module _ (laws : OwnRequestLaws) (shared : Shared) (old new : Hand) where
   tell-quiet shards from to (Err Empty) none = absurd none
   tell-quiet shards from to (Err (Waits vertex)) none = absurd none
 
+  -- an empty message begins nothing
   pub nop-quiet : (shards gate shard : ℕ) (result : Result (Unit {0}) HandFault) → NopsAs shards old new gate shard result
       → Quietly shared old new
   nop-quiet shards gate shard (Ok done) did = quiet-gate laws shared old new did.was.number gate _ did.was.made (one-begins-none old _ refl)
@@ -116,6 +122,7 @@ module _ (laws : OwnRequestLaws) (shared : Shared) (old new : Hand) where
   nop-quiet shards gate shard (Err Empty) none = absurd none
   nop-quiet shards gate shard (Err (Waits vertex)) none = absurd none
 
+  -- a visit begins nothing
   pub visit-quiet : (gates shards : ℕ) (was is : Running) (result : Result (Unit {0}) HandFault) → VisitsAs gates shards old new was is result
       → Quietly shared old new
   visit-quiet gates shards was is (Ok done) did =
@@ -127,6 +134,7 @@ module _ (laws : OwnRequestLaws) (shared : Shared) (old new : Hand) where
   visit-quiet gates shards was is (Err Empty) none = absurd none
   visit-quiet gates shards was is (Err (Waits vertex)) none = absurd none
 
+  -- the finish of a program begins nothing
   pub finish-quiet : (shards : ℕ) (running : Running) (result : Result Answer HandFault) → FinishesAs shards old new running result
       → Quietly shared old new
   finish-quiet shards running (Ok answer) did =

@@ -1,10 +1,10 @@
--- What a worker's calls rely on: laws of the crates below, in one record.
+-- What a worker's calls rely on: laws of the crates below, in one record. For tests: no public contract cites this.
 use Rattle.std.specs.Prelude.{◌≡◌, ◌≢◌, ◌<◌, ℕ, List, [], Contains, Option}
 use Rattle.vector_stamp.specs.declared.clock.Stamp.{Stamp}
 use Rattle.path_program.specs.declared.any.AnyProgram.{AnyProgram}
 use Rattle.path_program.specs.AnyPrograms.{HasRead}
 use Rattle.weave_entries.specs.declared.gate_log.GateEntry.{GateEntry}
-use Rattle.weave_entries.specs.GateReplay.{Begun, begun_by}
+use Rattle.weave_entries.specs.GateReplay.{BegunRequest, begun_by}
 use Rattle.weave_account.specs.Account.{reads_of}
 use Rattle.weaver_core.specs.declared.walks.Running.{Running}
 use Rattle.weaver_locks.specs.declared.hand.Hand.{Hand}
@@ -21,7 +21,7 @@ use Rattle.weaver_hands.specs.Transactions.{Starts}
 pub record OwnRequestLaws : Type 0 where
   pub fresh_at_gate : (old new : Hand) (gate : ℕ) (added : List GateEntry)
       → made_by new ≡ with_gate_entries gate added (made_by old) → (r : ℕ)
-      → ((entry : GateEntry) (begun : Begun) → Contains added entry
+      → ((entry : GateEntry) (begun : BegunRequest) → Contains added entry
       → Contains (begun_by entry.author entry.deed) begun → begun.request ≢ r)
       → HasNotBegun old r → HasNotBegun new r
   pub fresh_elsewhere : (old new : Hand) → (made_by new).gates ≡ (made_by old).gates

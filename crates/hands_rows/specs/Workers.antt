@@ -1,4 +1,4 @@
--- What a hand's next calls rely on, once its earlier calls have shown it.
+-- What a hand's next calls rely on, once its earlier calls have shown it. For tests: no public contract cites this.
 use Rattle.std.specs.Prelude.{◌≡◌, ◌≤◌, ◌<◌, ℕ, List, [], length, slice_index_or, Option, None}
 use Rattle.std.specs.Option.{ForSome}
 use Rattle.vector_stamp.specs.declared.clock.Stamp.{Stamp}
@@ -12,7 +12,7 @@ use Rattle.hands_rows.specs.declared.worker.Worker.{Worker}
 
 -- It is a hand of these locks. From this number on it has begun no request, and read nothing. It may let a gatekeeper
 -- hear this stamp, and this program of its own is running.
-pub record IsWorker (shared : Shared) (hand : Hand) (next : ℕ) (last : Option Stamp) (walk : Option Running)
+pub record IsWorkerOf (shared : Shared) (hand : Hand) (next : ℕ) (last : Option Stamp) (walk : Option Running)
     : Type 0 where
   pub is_hand : IsHand shared hand
   pub fresh : (r : ℕ) → next ≤ r → HasNotBegun hand r
@@ -23,7 +23,7 @@ pub record IsWorker (shared : Shared) (hand : Hand) (next : ℕ) (last : Option 
 
 -- what the worker keeps is true of its hand
 abbrev pub IsReadyWorker : Shared → Worker → Type 0
-IsReadyWorker shared worker = IsWorker shared worker.hand worker.next worker.last worker.walk
+IsReadyWorker shared worker = IsWorkerOf shared worker.hand worker.next worker.last worker.walk
 
 -- the worker is ready, and its hand has this number
 pub record IsNumbered (shared : Shared) (number : ℕ) (worker : Worker) : Type 0 where
@@ -40,5 +40,5 @@ abbrev pub worker_of : Hand → Worker
 worker_of hand = record { hand = hand; next = 0; last = None; walk = None; ended = [] }
 
 -- and back
-abbrev pub hand_in : Worker → Hand
-hand_in worker = worker.hand
+abbrev pub hand_of_worker : Worker → Hand
+hand_of_worker worker = worker.hand

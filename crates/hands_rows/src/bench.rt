@@ -1,10 +1,11 @@
 //! Locks with the workers of their hands: opened, worked with, and closed.
 ghost use Rattle.std.specs.Prelude.{◌≡◌, ◌≤◌, ◌<◌, ℕ, map, slice_index_or, vec_len};
+ghost use Rattle.weave_data.specs.Limits.{most_gates, most_shards};
 ghost use Rattle.gatekeeper.specs.Gates.{GateView, IsNew};
 ghost use Rattle.shard_node.specs.Shards.{ShardView};
 ghost use Rattle.weaver_locks.specs.Closing.{IsNewShard};
 ghost use Rattle.weaver_locks.specs.Locks.{gate_count, hands_of, shard_count};
-ghost use Rattle.hands_rows.specs.Workers.{AreWorkers, hand_in, worker_of};
+ghost use Rattle.hands_rows.specs.Workers.{AreWorkers, hand_of_worker, worker_of};
 
 use crate::calls::workers_keep_their_laws;
 use crate::worker::Worker;
@@ -19,9 +20,9 @@ use weaver_locks::laws::new_machines_may_start;
 use weaver_locks::{Closed, Hand, Shared};
 
 fn new_gates(rt: &impl Abort, alloc: Global, gates: u32, shards: u32) -> Vec<Gate>
-    requires gates { gates ≤ 8 }
+    requires gates { gates ≤ most_gates }
     requires some_shard { 1 ≤ shards }
-    requires few_shards { shards ≤ 16 }
+    requires few_shards { shards ≤ most_shards }
     ensures count { vec_len result ≡ gates }
     ensures new { (k : ℕ) (g : GateView) → k < gates → IsNew k gates shards (slice_index_or result.items k g) }
 {
@@ -35,7 +36,7 @@ fn new_gates(rt: &impl Abort, alloc: Global, gates: u32, shards: u32) -> Vec<Gat
 
 fn new_shards(rt: &impl Abort, alloc: Global, gates: u32, shards: u32) -> Vec<Shard>
     requires some { 1 ≤ gates }
-    requires few { gates ≤ 8 }
+    requires few { gates ≤ most_gates }
     ensures count { vec_len result ≡ shards }
     ensures new { (k : ℕ) (s : ShardView) → k < shards → IsNewShard k gates (slice_index_or result.items k s) }
 {
@@ -70,7 +71,7 @@ fn workers_of(rt: &impl Abort, alloc: Global, hands: Vec<Hand>) -> Vec<Worker>
 }
 
 fn hands_in(rt: &impl Abort, alloc: Global, workers: Vec<Worker>) -> Vec<Hand>
-    ensures { result.items ≡ map hand_in workers.items }
+    ensures { result.items ≡ map hand_of_worker workers.items }
 {
     let mut hands = Vec::new(alloc);
     for worker in workers {
@@ -88,9 +89,9 @@ pub fn open(
     hands: u32,
 ) -> (Shared, Vec<Worker>)
     requires some_gate { 1 ≤ gates }
-    requires few_gates { gates ≤ 8 }
+    requires few_gates { gates ≤ most_gates }
     requires some_shard { 1 ≤ shards }
-    requires few_shards { shards ≤ 16 }
+    requires few_shards { shards ≤ most_shards }
     requires hands { 1 ≤ hands }
     ensures gates { gate_count result.0 ≡ gates }
     ensures shards { shard_count result.0 ≡ shards }

@@ -14,6 +14,7 @@ list_keeps item P none more zero words = none
 list_keeps item P none more (suc n) words =
     more n (drawn_list item n words).0 (drawn_list item n words).1 (list_keeps item P none more n words)
 
+-- a drawn list of n items has n items
 pub list_length : {A : Type 0} (item : List A → Words → A × Words) (n : ℕ) (words : Words) → length (drawn_list item n words).0 ≡ n
 list_length {A} item n words =
     list_keeps item (λ n items. length items ≡ n) refl (λ n before words h. omega (arith, length-append before ((item before words).0 ∷ []), h)) n words

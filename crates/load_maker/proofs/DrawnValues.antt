@@ -29,6 +29,7 @@ three f m g n h o made w p l q k r j =
     let left = j ∙ ap later after in
     λ i. made (p i) (second i) (third i) (left i)
 
+-- no items, with all words left, are a drawn list of 0 items
 pub no_items : {A : Type 0} (item : List A → Words → A × Words) (words : Words) {items : List A} → items ≡ [] → (items, words) ≡ drawn_list item 0 words
 unfolding drawn_list
 no_items item words e = ap (λ items. (items, words)) e

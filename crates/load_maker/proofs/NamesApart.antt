@@ -16,10 +16,11 @@ use Rattle.weave_data.specs.declared.name.Name.{Name}
 use Rattle.graph_ops.proofs.Vertices.{itself}
 use Rattle.graph_ops.specs.Mentions.{is_among, with_name}
 use Rattle.weave_script.specs.Limits.{with_names}
-use Rattle.load_maker.specs.Generated.{numbered}
+use Rattle.load_maker.specs.Generated.{numbered_name}
 use Rattle.load_maker.proofs.NumberedNames.{numbered_is_name}
 use Rattle.weave_data.proofs.Lists.{all-push}
 
+-- a small letter with a number drawn below m is a name, if m is from 1 to 10,000
 pub drawn_is_name : (letter m word : ℕ) → IsTrue (nat_le 97 letter && nat_le letter 122) → 0 < m → m ≤ 10000 → is_name (letter ∷ decimal (word % m)) ≡ true
 drawn_is_name letter m word small_letter some few =
     let small = mod-lt word some in
@@ -31,6 +32,7 @@ tail_of : List ℕ → List ℕ
 tail_of [] = []
 tail_of (b ∷ bs) = bs
 
+-- one letter with two different numbers, of at most 10,000, makes two different names
 pub numbers_apart : (letter m n : ℕ) → m < n → n ≤ 10000 → same_name (letter ∷ decimal m) (letter ∷ decimal n) ≡ false
 unfolding tail_of
 numbers_apart letter m n less few =
@@ -39,6 +41,7 @@ numbers_apart letter m n less few =
     let e : m ≡ n = decimal_injective m n (omega (arith, less, few)) (omega (arith, few)) (ap tail_of {x = letter ∷ decimal m} {y = letter ∷ decimal n} names) in
     omega (arith, e, less))
 
+-- distinct names stay distinct with one more that differs from each of them
 pub distinct-push : (names : List Name) (name : Name) → IsDistinct same_name names → AllByRecursion (λ other. same_name other name ≡ false) names → IsDistinct same_name (names ++ name ∷ [])
 unfolding IsDistinct
 distinct-push [] name h free = (tt, tt)
@@ -48,21 +51,22 @@ distinct-push (other ∷ names) name h free = (all-push (λ next. same_name othe
 
 -- a name of a vertex: one of 40
 pub IsVertexName : Name → Type 0
-IsVertexName name = (k : ℕ) × (k < 40) × (name ≡ numbered (codes "v") k)
+IsVertexName name = (k : ℕ) × (k < 40) × (name ≡ numbered_name (codes "v") k)
 
-pub drawn_is_vertex : (word : ℕ) → IsVertexName (numbered (codes "v") (word % 40))
+-- the letter v with a number drawn below 40 is the name of a vertex
+pub drawn_is_vertex : (word : ℕ) → IsVertexName (numbered_name (codes "v") (word % 40))
 unfolding IsVertexName
 drawn_is_vertex word = (word % 40, mod-lt word (omega arith), refl)
 
 names_below : ℕ → List Name
 names_below zero = []
-names_below (suc n) = numbered (codes "v") n ∷ names_below n
+names_below (suc n) = numbered_name (codes "v") n ∷ names_below n
 
-below_member : (n k : ℕ) → k < n → is_member same_name (names_below n) (numbered (codes "v") k) ≡ true
+below_member : (n k : ℕ) → k < n → is_member same_name (names_below n) (numbered_name (codes "v") k) ≡ true
 unfolding names_below
 below_member zero k h = absurd (omega (arith, h))
 below_member (suc n) k h = elim (cases_eq k n) [
-  | inl e ↦ or_left _ _ (ap (λ n. same_name (numbered (codes "v") k) (numbered (codes "v") n)) (sym e) ∙ itself (numbered (codes "v") k))
+  | inl e ↦ or_left _ _ (ap (λ n. same_name (numbered_name (codes "v") k) (numbered_name (codes "v") n)) (sym e) ∙ itself (numbered_name (codes "v") k))
   | inr e ↦ or_right _ _ (below_member n k (omega (arith, h, e)))
 ]
 
@@ -98,6 +102,7 @@ forty : length (names_below 40) ≡ 40
 unfolding names_below
 forty = refl
 
+-- names of vertices, each counted once, are at most 40
 pub few_vertices : (names : List Name) → AllByRecursion IsVertexName names → length (with_names [] names) ≤ 40
 unfolding IsDistinct
 few_vertices names h =

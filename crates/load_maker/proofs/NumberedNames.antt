@@ -1,4 +1,4 @@
--- A small letter and a number are a name, and no two numbers give one name.
+-- A small letter and a number are a name, and what is parsed of them is this name.
 -- Used by `numbered`, NamesApart and ValidScripts.
 use Rattle.std.proofs.Common.{◌≡◌, ◌+◌, take, Option, Some, None, cond, ℕ, ◌<◌, ◌^◌, true, ◌&&◌, List, [], ◌∷◌, ◌++◌, length, IsTrue, refl, ap, ◌∙◌, arith, lit<}
 use Rattle.std.specs.Prelude.{nat_le}
@@ -20,6 +20,7 @@ digits_are_letters (b ∷ word) h =
     let parts = and_parts _ _ h in
     and_from _ _ (digit_is_letter b parts.0) (digits_are_letters word parts.1)
 
+-- a small letter and a number of at most 32 bits are a name
 pub numbered_is_name : (letter n : ℕ) → IsTrue (nat_le 97 letter && nat_le letter 122) → n < 2 ^ 32 → is_name (letter ∷ decimal n) ≡ true
 numbered_is_name letter n small_letter small =
     let short = length-decimal-le 20 n (lit< tt) (omega (arith, small)) (omega (arith, small)) in

@@ -14,25 +14,26 @@ use Rattle.program_defs.specs.declared.script.Step.{Step}
 use Rattle.weave_script.specs.Limits.{vertices_of_op, vertices_of_program}
 use Rattle.weave_script.specs.Scripts.{IsName, IsOperation, IsProgram, IsStep}
 use Rattle.load_maker.specs.Words.{Words}
-use Rattle.load_maker.specs.Generated.{numbered, operation_of_form, operation_of, operations_of, program_of_form, program_of, step_of_form, step_of}
+use Rattle.load_maker.specs.Generated.{numbered_name, operation_of_form, operation_of, operations_of, program_of_form, drawn_program, step_of_form, drawn_step}
 use Rattle.load_maker.proofs.Drawing.{list_keeps}
 use Rattle.load_maker.proofs.NamesApart.{drawn_is_name, IsVertexName, drawn_is_vertex}
 use Rattle.weave_data.proofs.Lists.{all-push}
 
+-- what holds of two values holds of the one that a test chooses
 pub either : {A : Type 0} (P : A → Type 0) (b : Bool) (x y : A) → P x → P y → P (cond b x y)
 either P true x y h k = h
 either P false x y h k = k
 
-vertex_is_name : (word : ℕ) → IsName (numbered (codes "v") (word % 40))
+vertex_is_name : (word : ℕ) → IsName (numbered_name (codes "v") (word % 40))
 vertex_is_name word = drawn_is_name 118 40 word refl (omega arith) (omega arith)
 
-edge_is_name : (word : ℕ) → IsName (numbered (codes "e") (word % 6))
+edge_is_name : (word : ℕ) → IsName (numbered_name (codes "e") (word % 6))
 edge_is_name word = drawn_is_name 101 6 word refl (omega arith) (omega arith)
 
-key_is_name : (word : ℕ) → IsName (numbered (codes "k") (word % 4))
+key_is_name : (word : ℕ) → IsName (numbered_name (codes "k") (word % 4))
 key_is_name word = drawn_is_name 107 4 word refl (omega arith) (omega arith)
 
-value_is_name : (word : ℕ) → IsName (numbered (codes "x") (word % 10))
+value_is_name : (word : ℕ) → IsName (numbered_name (codes "x") (word % 10))
 value_is_name word = drawn_is_name 120 10 word refl (omega arith) (omega arith)
 
 -- ---- operations
@@ -69,11 +70,13 @@ op_gets : (gets : ℕ) (words : Words) → gets ≤ 1000 → gets + cond (is_get
 unfolding operation_of
 op_gets gets words few = form_gets gets _ _ _ few
 
+-- the fields of drawn operations are names, and their vertices are of the 40
 pub ops_valid : (gets n : ℕ) (words : Words) → AllByRecursion IsDrawnOp (operations_of gets n words).0
 ops_valid gets n words =
     list_keeps (λ ops words. operation_of (gets + count_by is_get ops) words) (λ n ops. AllByRecursion IsDrawnOp ops) tt
     (λ n before words h. all-push IsDrawnOp before _ h (op_valid (gets + count_by is_get before) words)) n words
 
+-- if at most 1,000 `get`s precede drawn operations, there are at most 1,000 with theirs
 pub ops_gets : (gets n : ℕ) (words : Words) → gets ≤ 1000 → gets + count_by is_get (operations_of gets n words).0 ≤ 1000
 ops_gets gets n words few =
     list_keeps (λ ops words. operation_of (gets + count_by is_get ops) words) (λ n ops. gets + count_by is_get ops ≤ 1000) (omega (arith, few))
@@ -98,8 +101,9 @@ program_form_valid v form words name vertex =
     (either P (form == 2) _ _ ((name, bound_small (words 0), tt), (vertex, tt))
     ((name, vertex_is_name (words 0), bound_small (words 1), tt), (vertex, (drawn_is_vertex (words 0), tt)))))
 
-pub program_valid : (words : Words) → IsDrawnProgram (program_of words).0
-unfolding program_of
+-- a drawn program is within its ranges, and its vertices are of the 40
+pub program_valid : (words : Words) → IsDrawnProgram (drawn_program words).0
+unfolding drawn_program
 program_valid words = program_form_valid _ _ _ (vertex_is_name (words 1)) (drawn_is_vertex (words 1))
 
 -- ---- steps
@@ -123,6 +127,7 @@ step_form_valid size form words some few =
     (either P (form == 8) _ _ (mod-lt (words 0) (omega arith), mod-lt (words 1) (omega arith))
     request)))))))
 
-pub step_valid : (size : ℕ) (words : Words) → 1 ≤ size → size ≤ 10000 → IsStep 3 4 size (step_of size words).0
-unfolding step_of
+-- a step drawn for 1 to 10,000 requests is a step of a script with so many, three gatekeepers and four shards
+pub step_valid : (size : ℕ) (words : Words) → 1 ≤ size → size ≤ 10000 → IsStep 3 4 size (drawn_step size words).0
+unfolding drawn_step
 step_valid size words some few = step_form_valid size _ _ some few

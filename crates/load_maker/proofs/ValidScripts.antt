@@ -15,10 +15,10 @@ use Rattle.program_defs.specs.declared.script.Work.{Work}
 use Rattle.program_defs.specs.declared.script.Work.TheVariants.{Change}
 use Rattle.program_defs.specs.Works.{is_look}
 use Rattle.graph_ops.specs.Operations.{is_get}
-use Rattle.weave_script.specs.Limits.{gets_of, gets_of_work, over_limit, counts_of, programs_of, vertices_of, vertices_of_op, vertices_of_work}
-use Rattle.weave_script.specs.Scripts.{IsOperation, IsRequest, IsScript, IsStep, IsWork, names_of}
+use Rattle.weave_script.specs.Limits.{count_gets, gets_of_work, over_limit, counts_of_script, count_programs, vertices_of, vertices_of_op, vertices_of_work}
+use Rattle.weave_script.specs.Scripts.{IsOperation, IsRequest, IsScript, IsStep, IsWork, request_names}
 use Rattle.load_maker.specs.Words.{Words, later, drawn_list}
-use Rattle.load_maker.specs.Generated.{numbered, operation_of, operations_of, request_numbered, request_of, script_from, step_of, work_of_kind}
+use Rattle.load_maker.specs.Generated.{numbered_name, operation_of, operations_of, request_numbered, drawn_request, script_from, drawn_step, work_of_kind}
 use Rattle.load_maker.proofs.Drawing.{list_keeps, list_length}
 use Rattle.load_maker.proofs.NamesApart.{IsVertexName, distinct-push, few_vertices, numbers_apart}
 use Rattle.load_maker.proofs.NumberedNames.{numbered_is_name}
@@ -83,47 +83,47 @@ request_programs : (number programs gets : ℕ) (words : Words) → programs ≤
 unfolding request_numbered
 request_programs number programs gets words few = work_programs programs gets (words 2 % 10) (later (later (later words))) few
 
-request_name : (number programs gets : ℕ) (words : Words) → (request_numbered number programs gets words).0.name ≡ numbered (codes "r") number
+request_name : (number programs gets : ℕ) (words : Words) → (request_numbered number programs gets words).0.name ≡ numbered_name (codes "r") number
 unfolding request_numbered
 request_name number programs gets words = refl
 
 -- the name that comes next differs from these
 abbrev IsFresh : ℕ → Name → Type 0
-IsFresh n name = (m : ℕ) → n ≤ m → m ≤ 10000 → same_name name (numbered (codes "r") m) ≡ false
+IsFresh n name = (m : ℕ) → n ≤ m → m ≤ 10000 → same_name name (numbered_name (codes "r") m) ≡ false
 
 -- what is kept from request to request
 record AreDrawn (n : ℕ) (requests : List Request) : Type 0 where
   count : length requests ≡ n
   valid : AllByRecursion (IsRequest 3) requests
   vertices : AllByRecursion (λ (r : Request). AllByRecursion IsVertexName (vertices_of_work r.work)) requests
-  gets : gets_of requests ≤ 1000
-  programs : programs_of requests ≤ 1000
+  gets : count_gets requests ≤ 1000
+  programs : count_programs requests ≤ 1000
   fresh : AllByRecursion (λ (r : Request). IsFresh n r.name) requests
-  apart : IsDistinct same_name (names_of requests)
+  apart : IsDistinct same_name (request_names requests)
 
-names_all : (P : Name → Type 0) (requests : List Request) → AllByRecursion (λ (r : Request). P r.name) requests → AllByRecursion P (names_of requests)
+names_all : (P : Name → Type 0) (requests : List Request) → AllByRecursion (λ (r : Request). P r.name) requests → AllByRecursion P (request_names requests)
 names_all P [] h = tt
 names_all P (r ∷ requests) h = (h.0, names_all P requests h.1)
 
-names_push : (requests : List Request) (r : Request) → names_of (requests ++ r ∷ []) ≡ names_of requests ++ r.name ∷ []
+names_push : (requests : List Request) (r : Request) → request_names (requests ++ r ∷ []) ≡ request_names requests ++ r.name ∷ []
 names_push [] r = refl
 names_push (first ∷ requests) r = ap (λ names. first.name ∷ names) (names_push requests r)
 
-one_more : (n : ℕ) (requests : List Request) (words : Words) → n ≤ 9999 → AreDrawn n requests → AreDrawn (suc n) (requests ++ (request_of requests words).0 ∷ [])
+one_more : (n : ℕ) (requests : List Request) (words : Words) → n ≤ 9999 → AreDrawn n requests → AreDrawn (suc n) (requests ++ (drawn_request requests words).0 ∷ [])
 one_more n requests words few h =
-    let request = (request_of requests words).0 in
-    let name : request.name ≡ numbered (codes "r") n = request_name (length requests) (programs_of requests) (gets_of requests) words ∙ ap (numbered (codes "r")) h.count in
+    let request = (drawn_request requests words).0 in
+    let name : request.name ≡ numbered_name (codes "r") n = request_name (length requests) (count_programs requests) (count_gets requests) words ∙ ap (numbered_name (codes "r")) h.count in
     record {
       count = omega (arith, length-append requests (request ∷ []), h.count);
-      valid = all-push (IsRequest 3) requests request h.valid (request_valid (length requests) (programs_of requests) (gets_of requests) words (omega (arith, few, h.count)));
-      vertices = all-push (λ (r : Request). AllByRecursion IsVertexName (vertices_of_work r.work)) requests request h.vertices (request_vertices (length requests) (programs_of requests) (gets_of requests) words);
-      gets = omega (arith, sum_by_push (λ (r : Request). gets_of_work r.work) requests request, request_gets (length requests) (programs_of requests) (gets_of requests) words h.gets);
-      programs = omega (arith, sum_by_push (λ (r : Request). cond (is_look r.work) 1 0) requests request, request_programs (length requests) (programs_of requests) (gets_of requests) words h.programs);
+      valid = all-push (IsRequest 3) requests request h.valid (request_valid (length requests) (count_programs requests) (count_gets requests) words (omega (arith, few, h.count)));
+      vertices = all-push (λ (r : Request). AllByRecursion IsVertexName (vertices_of_work r.work)) requests request h.vertices (request_vertices (length requests) (count_programs requests) (count_gets requests) words);
+      gets = omega (arith, sum_by_push (λ (r : Request). gets_of_work r.work) requests request, request_gets (length requests) (count_programs requests) (count_gets requests) words h.gets);
+      programs = omega (arith, sum_by_push (λ (r : Request). cond (is_look r.work) 1 0) requests request, request_programs (length requests) (count_programs requests) (count_gets requests) words h.programs);
       fresh = all-push (λ (r : Request). IsFresh (suc n) r.name) requests request
           (all-map (λ (r : Request). IsFresh n r.name) (λ (r : Request). IsFresh (suc n) r.name) (λ r fresh m past small. fresh m (omega (arith, past)) small) requests h.fresh)
-          (λ m past small. subst (λ name. same_name name (numbered (codes "r") m) ≡ false) (sym name) (numbers_apart 114 n m (omega (arith, past)) small));
+          (λ m past small. subst (λ name. same_name name (numbered_name (codes "r") m) ≡ false) (sym name) (numbers_apart 114 n m (omega (arith, past)) small));
       apart = subst (IsDistinct same_name) (sym (names_push requests request))
-          (distinct-push (names_of requests) request.name h.apart
+          (distinct-push (request_names requests) request.name h.apart
           (names_all (λ other. same_name other request.name ≡ false) requests
           (all-map (λ (r : Request). IsFresh n r.name) (λ (r : Request). same_name r.name request.name ≡ false)
           (λ r fresh. subst (λ name. same_name r.name name ≡ false) (sym name) (fresh n (omega arith) (omega (arith, few)))) requests h.fresh)));
@@ -133,9 +133,9 @@ no_requests : AreDrawn 0 []
 unfolding IsDistinct
 no_requests = record { count = refl; valid = tt; vertices = tt; gets = omega arith; programs = omega arith; fresh = tt; apart = tt }
 
-requests_valid : (n : ℕ) (words : Words) → n ≤ 10000 → AreDrawn n (drawn_list request_of n words).0
+requests_valid : (n : ℕ) (words : Words) → n ≤ 10000 → AreDrawn n (drawn_list drawn_request n words).0
 requests_valid n words =
-    list_keeps request_of (λ n requests. n ≤ 10000 → AreDrawn n requests) (λ few. no_requests)
+    list_keeps drawn_request (λ n requests. n ≤ 10000 → AreDrawn n requests) (λ few. no_requests)
     (λ n before words h few. one_more n before words (omega (arith, few)) (h (omega (arith, few)))) n words
 
 all_request_vertices : (requests : List Request) → AllByRecursion (λ (r : Request). AllByRecursion IsVertexName (vertices_of_work r.work)) requests
@@ -145,27 +145,28 @@ all_request_vertices (r ∷ requests) h = all-append IsVertexName (vertices_of_w
 
 -- ---- the script
 
-within : (n steps : ℕ) (requests : List Request) → n ≤ 10000 → AreDrawn n requests → steps ≤ 100000 → over_limit (counts_of 0 requests steps) ≡ None
+within : (n steps : ℕ) (requests : List Request) → n ≤ 10000 → AreDrawn n requests → steps ≤ 100000 → over_limit (counts_of_script 0 requests steps) ≡ None
 within n steps requests few h some =
     cond-false (nat_lt 10000 (length requests)) _ _ (le-ltb 10000 (length requests) (omega (arith, few, h.count)))
-    ∙ cond-false (nat_lt 1000 (programs_of requests)) _ _ (le-ltb 1000 (programs_of requests) h.programs)
-    ∙ cond-false (nat_lt 1000 (gets_of requests)) _ _ (le-ltb 1000 (gets_of requests) h.gets)
+    ∙ cond-false (nat_lt 1000 (count_programs requests)) _ _ (le-ltb 1000 (count_programs requests) h.programs)
+    ∙ cond-false (nat_lt 1000 (count_gets requests)) _ _ (le-ltb 1000 (count_gets requests) h.gets)
     ∙ cond-false (nat_lt 10000 (length (vertices_of requests))) _ _
     (le-ltb 10000 (length (vertices_of requests)) (omega (arith, few_vertices (flat_map (λ (r : Request). vertices_of_work r.work) requests) (all_request_vertices requests h.vertices))))
     ∙ cond-false (nat_lt 100000 steps) _ _ (le-ltb 100000 steps some)
 
-steps_valid : (size n : ℕ) (words : Words) → 1 ≤ size → size ≤ 10000 → AllByRecursion (IsStep 3 4 size) (drawn_list (λ _ words. step_of size words) n words).0
+steps_valid : (size n : ℕ) (words : Words) → 1 ≤ size → size ≤ 10000 → AllByRecursion (IsStep 3 4 size) (drawn_list (λ _ words. drawn_step size words) n words).0
 steps_valid size n words some few =
-    list_keeps (λ _ words. step_of size words) (λ n steps. AllByRecursion (IsStep 3 4 size) steps) tt
+    list_keeps (λ _ words. drawn_step size words) (λ n steps. AllByRecursion (IsStep 3 4 size) steps) tt
     (λ n before words h. all-push (IsStep 3 4 size) before _ h (step_valid size words some few)) n words
 
+-- a script of 1 to 10,000 requests that words give is valid
 pub script_valid : (size : ℕ) (words : Words) → 1 ≤ size → size ≤ 10000 → IsScript (script_from size words)
 unfolding script_from
 script_valid size words some few =
-    let requests = drawn_list request_of size words in
+    let requests = drawn_list drawn_request size words in
     let drawn = requests_valid size words few in
-    let steps = drawn_list (λ _ words. step_of size words) (4 * size) requests.1 in
-    let steps_len = list_length (λ _ words. step_of size words) (4 * size) requests.1 in
+    let steps = drawn_list (λ _ words. drawn_step size words) (4 * size) requests.1 in
+    let steps_len = list_length (λ _ words. drawn_step size words) (4 * size) requests.1 in
     record {
       gates = (omega arith, omega arith);
       shards = (omega arith, omega arith);

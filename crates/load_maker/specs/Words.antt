@@ -18,8 +18,8 @@ words_from generator zero = (pcg32 generator).0
 words_from generator (suc i) = words_from (pcg32 generator).1 i
 
 -- the words of the generator that is seeded with a number
-abbrev pub words_of : ℕ → Words
-words_of seed = words_from (pcg32_of_seed (pcg32_seed 16 seed))
+abbrev pub words_of_seed : ℕ → Words
+words_of_seed seed = words_from (pcg32_of_seed (pcg32_seed 16 seed))
 
 -- what is made of a number below n, which is the next word modulo n, and of the words after it
 abbrev pub draw : {A : Type 0} → ℕ → Words → (ℕ → Words → A) → A

@@ -1,5 +1,6 @@
 //! Makes a script.
 ghost use Rattle.std.specs.Prelude.{◌≡◌, ◌≤◌, IfOk};
+ghost use Rattle.weave_data.specs.Limits.{most_requests};
 ghost use Rattle.load_maker.specs.Generated.{script_of};
 ghost use Rattle.weave_script.specs.Scripts.{IsScript};
 
@@ -14,7 +15,7 @@ use weave_data::Items;
 /// The script of a seed, with `size` requests, 1 to 10,000, and four times as many steps.
 /// The one error is out of memory.
 pub fn make(alloc: Global, seed: u64, size: u32) -> Result<Script, AllocError>
-    requires { (1 ≤ size) × (size ≤ 10000) }
+    requires { (1 ≤ size) × (size ≤ most_requests) }
     ensures exact { IfOk result (λ script. script ≡ script_of seed size) }
     ensures valid { IfOk result (λ script. IsScript script) }
 {

@@ -12,7 +12,7 @@ use std::alloc::{AllocError, Global};
 use weave_data::Items;
 
 /// The most `get` operations of a script.
-const MOST_GETS: u32 = 1_000;
+const MOST_GETS: u32 = weave_data::MOST_GETS as u32;
 
 /// Operations of a transaction; `gets` counts the script's `get` operations.
 pub fn draw_ops(

@@ -1,6 +1,6 @@
 //! Node programs.
 ghost use Rattle.std.specs.Prelude.{◌≡◌};
-ghost use Rattle.load_maker.specs.Generated.{program_of};
+ghost use Rattle.load_maker.specs.Generated.{drawn_program};
 ghost use Rattle.load_maker.specs.Words.{words_from};
 
 use crate::draws::draw;
@@ -10,7 +10,7 @@ use rand_pcg::Lcg64Xsh32;
 
 /// A program without a filter.
 pub fn draw_program(words: &mut Lcg64Xsh32) -> Program
-    ensures { (result, words_from words.new) ≡ program_of (words_from words.old) }
+    ensures { (result, words_from words.new) ≡ drawn_program (words_from words.old) }
 {
     let form = draw(words, 4);
     let v = draw_vertex(words);

@@ -1,6 +1,6 @@
 //! Requests.
 ghost use Rattle.std.specs.Prelude.{◌≡◌, ◌+◌, cond, IfOk};
-ghost use Rattle.load_maker.specs.Generated.{request_numbered, request_of, work_of_kind};
+ghost use Rattle.load_maker.specs.Generated.{request_numbered, drawn_request, work_of_kind};
 ghost use Rattle.load_maker.specs.Words.{drawn_list, words_from};
 ghost use Rattle.program_defs.specs.Works.{is_look};
 ghost use Rattle.weave_script.specs.Limits.{gets_of_work};
@@ -15,7 +15,7 @@ use std::alloc::{AllocError, Global};
 use weave_data::Items;
 
 /// The most programs of a script.
-const MOST_PROGRAMS: u32 = 1_000;
+const MOST_PROGRAMS: u32 = weave_data::MOST_PROGRAMS as u32;
 
 /// What the limits on a script count of the requests so far.
 #[derive(Drop)]
@@ -31,7 +31,7 @@ pub fn draw_requests(
     size: u32,
 ) -> Result<Items<Request>, AllocError>
     ensures { IfOk result (λ requests. (requests, words_from words.new)
-        ≡ drawn_list request_of size (words_from words.old)) }
+        ≡ drawn_list drawn_request size (words_from words.old)) }
 {
     let mut requests = Vec::with_capacity(alloc, size as usize)?;
     let mut counts = Counts {

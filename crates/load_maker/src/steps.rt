@@ -1,6 +1,6 @@
 //! Atomic steps.
 ghost use Rattle.std.specs.Prelude.{◌≡◌, ◌≤◌, IfOk};
-ghost use Rattle.load_maker.specs.Generated.{step_of};
+ghost use Rattle.load_maker.specs.Generated.{drawn_step};
 ghost use Rattle.load_maker.specs.Words.{drawn_list, words_from};
 
 use crate::draws::draw;
@@ -18,7 +18,7 @@ pub fn draw_steps(
 ) -> Result<Items<Step>, AllocError>
     requires { 1 ≤ size }
     ensures { IfOk result (λ steps. (steps, words_from words.new)
-        ≡ drawn_list (λ _ words. step_of size words) count (words_from words.old)) }
+        ≡ drawn_list (λ _ words. drawn_step size words) count (words_from words.old)) }
 {
     let mut steps = Vec::with_capacity(alloc, count as usize)?;
     for _ in 0..count {
@@ -29,7 +29,7 @@ pub fn draw_steps(
 
 fn draw_step(words: &mut Lcg64Xsh32, size: u32) -> Step
     requires { 1 ≤ size }
-    ensures { (result, words_from words.new) ≡ step_of size (words_from words.old) }
+    ensures { (result, words_from words.new) ≡ drawn_step size (words_from words.old) }
 {
     match draw(words, 10) {
         0..=1 => Step::Begin {

@@ -10,14 +10,14 @@ use native.Mathlib.Decide.{ℕ_discrete}
 use Rattle.chronicle.specs.declared.chronicle.Chronicle.{Chronicle}
 use Rattle.chronicle.specs.declared.pass.Pass.{Pass}
 use Rattle.chronicle.specs.Locks.{Lock, lock_of}
-use Rattle.chronicle.specs.Passes.{IsReady, number_of, seen}
+use Rattle.chronicle.specs.Passes.{IsReady, number_of, seen_by_pass}
 use Rattle.lock_row.specs.Hands.{IsNewPass, AreFirst}
 use Rattle.lock_row.proofs.Lists.{last}
 
 module _ {E : Type 0} where
   -- all passes of a lock that was opened
   pub first_all : (count : ℕ) (lock : Lock E) (ps : List (Pass E)) → map number_of ps ≡ range_with_len 0 count → All (IsReady lock) ps
-      → All (λ p. seen p ≡ lock.start) ps → AreFirst count lock ps
+      → All (λ p. seen_by_pass p ≡ lock.start) ps → AreFirst count lock ps
   first_all count lock ps numbers ready began =
       let long : length ps ≡ count = sym (length-map ps number_of) ∙ (ap (λ (l : List ℕ). length l) numbers ∙ length-range_with_len 0 count) in record {
         count_is = long;
@@ -45,7 +45,7 @@ module _ {E : Type 0} where
       )
 
 module _ {M E : Type 0} (locks : List (Chronicle M E)) where
-  -- in the first i locks one pass less
+  -- of each of the first i locks, just the first `count` passes are there
   abbrev pub LeftSoFar : ℕ → List (Vec (Pass E) Global) → ℕ → Type 0
   LeftSoFar count passes i = (k : ℕ) (c : Chronicle M E) (ps : Vec (Pass E) Global) → k < i
       → AreFirst count (lock_of (get_or locks k c)) (get_or passes k ps).items
@@ -54,6 +54,7 @@ module _ {M E : Type 0} (locks : List (Chronicle M E)) where
   abbrev pub DealtSoFar : ℕ → List (Pass E) → ℕ → Type 0
   DealtSoFar number hand i = (k : ℕ) (c : Chronicle M E) (p : Pass E) → k < i → IsNewPass number (lock_of (get_or locks k c)) (get_or hand k p)
 
+  -- once the next lock too has only its first passes left, all locks up to it have
   pub left_more : (count : ℕ) (passes : List (Vec (Pass E) Global)) (i : ℕ) (qs : Vec (Pass E) Global) → i < length passes → LeftSoFar count passes i
       → ((c : Chronicle M E) → AreFirst count (lock_of (get_or locks i c)) qs.items) → LeftSoFar count (set passes i qs) (i + 1)
   left_more count passes i qs low so_far one k c ps below = dite (ℕ_discrete k i)
@@ -62,6 +63,7 @@ module _ {M E : Type 0} (locks : List (Chronicle M E)) where
       (λ ne. subst (λ (x : Vec (Pass E) Global). AreFirst count (lock_of (get_or locks k c)) x.items) (sym (get_or-set_other passes i k qs ps ne))
       (so_far k c ps (omega (arith, ne, below))))
 
+  -- once the hand gets the pass of the next lock, it has those of all locks up to it
   pub dealt_more : (number : ℕ) (hand : List (Pass E)) (i : ℕ) (p : Pass E) → length hand ≡ i → DealtSoFar number hand i
       → ((c : Chronicle M E) → IsNewPass number (lock_of (get_or locks i c)) p) → DealtSoFar number (hand ++ p ∷ []) (i + 1)
   dealt_more number hand i p long so_far one k c d below = dite (ℕ_discrete k i)

@@ -51,6 +51,7 @@ module _ {A : Type 0} where
   rest_left (z ∷ zs) zero x ys e = ap (drop 1) e
   rest_left (z ∷ zs) (suc k) x ys e = rest_left zs k x ys e
 
+  -- behind the first of what is left is what is left one place later
   pub next_left : (xs : List A) (k : ℕ) (x : A) (ys : List A) → x ∷ ys ≡ drop k xs → ys ≡ drop (k + 1) xs
   next_left xs k x ys e = let n : suc k ≡ k + 1 = omega arith in
       subst (λ (i : ℕ). ys ≡ drop i xs) n (rest_left xs k x ys e)

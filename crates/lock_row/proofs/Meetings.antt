@@ -10,7 +10,7 @@ use Rattle.chronicle.specs.declared.pass.Pass.{Pass}
 use Rattle.chronicle.specs.declared.note.Note.{Note}
 use Rattle.chronicle.specs.Locks.{Lock, lock_of, name_of}
 use Rattle.chronicle.specs.Logs.{Log}
-use Rattle.chronicle.specs.Passes.{IsReady, lock_noted, noted, seen}
+use Rattle.chronicle.specs.Passes.{IsReady, lock_noted, seen_by_note, seen_by_pass}
 use Rattle.lock_row.specs.Rows.{names_of, AreReady}
 use Rattle.lock_row.specs.Meetings.{HaveMet, CanMeet, AllMet}
 use Rattle.lock_row.proofs.Lists.{mapped_alike, one_of}
@@ -25,6 +25,7 @@ module _ {M E : Type 0} (locks : List (Chronicle M E)) (before : List (Pass E)) 
     pub pass : (p : Pass E) → get_or after except p ≡ get_or before except p
     pub note : (n : Note E) → get_or later except n ≡ get_or notes except n
 
+  -- before the first place nothing has met, and all is as it was
   pub met_none : (notes : List (Note E)) (except : ℕ) → MetSoFar before notes notes except 0
   met_none notes except = record {
     met = λ k c p n within other below. absurd
@@ -35,6 +36,7 @@ module _ {M E : Type 0} (locks : List (Chronicle M E)) (before : List (Pass E)) 
     note = λ n. refl;
   }
 
+  -- if all below the place that is left out have met, so have all below the next one, but for this
   pub met_past : (after : List (Pass E)) (notes later : List (Note E)) (except : ℕ) → MetSoFar after notes later except except
       → MetSoFar after notes later except (except + 1)
   met_past after notes later except so_far = record {
@@ -109,10 +111,10 @@ pub record Met {E : Type 0} (before after note later : Log E) : Type 0 where
 
 -- a pass and a note that have met have seen this
 pub met_of : {E : Type 0} (lock : Lock E) (p q : Pass E) (n m : Note E) → HaveMet lock p q n m
-    → Met (seen p) (seen q) (noted n) (noted m)
+    → Met (seen_by_pass p) (seen_by_pass q) (seen_by_note n) (seen_by_note m)
 met_of {E} lock p q n m h = record {
-  note_on = subst (λ (l : Log E). IsPrefix (noted n) l) (sym h.one) h.note_before;
-  pass_on = subst (λ (l : Log E). IsPrefix (seen p) l) (sym h.one) h.pass_before;
+  note_on = subst (λ (l : Log E). IsPrefix (seen_by_note n) l) (sym h.one) h.note_before;
+  pass_on = subst (λ (l : Log E). IsPrefix (seen_by_pass p) l) (sym h.one) h.pass_before;
   one = h.one;
   either = elim h.either [ inl is ↦ inl (h.one ∙ is) | inr is ↦ inr (h.one ∙ is) ];
 }

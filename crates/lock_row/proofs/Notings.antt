@@ -19,6 +19,7 @@ module _ {M E : Type 0} (locks : List (Chronicle M E)) (before : List (Pass E)) 
   NotedSoFar notes i = (k : ℕ) (c : Chronicle M E) (p : Pass E) (n : Note E) → k < i
       → HasNoted (lock_of (get_or locks k c)) (get_or before k p) (get_or notes k n)
 
+  -- once there is a note of the next lock that has seen what its pass has, there is one of each lock up to it
   pub noted_more : (notes : List (Note E)) (note : Note E) (i : ℕ) → length notes ≡ i → NotedSoFar notes i
       → ((c : Chronicle M E) (p : Pass E) → HasNoted (lock_of (get_or locks i c)) (get_or before i p) note)
       → NotedSoFar (notes ++ note ∷ []) (i + 1)
@@ -29,6 +30,7 @@ module _ {M E : Type 0} (locks : List (Chronicle M E)) (before : List (Pass E)) 
       subst (HasNoted (lock_of (get_or locks k c)) (get_or before k p))
       (sym (get_or_append_left notes (note ∷ []) n k (omega (arith, within, long)))) (so_far k c p n within))
 
+  -- if the passes have stayed as they were, and one of them stays once more, they all have
   pub stay_on : (after : List (Pass E)) (i : ℕ) (q : Pass E) → i < length after → AllStay locks before after
       → ((c : Chronicle M E) (p : Pass E) → Stays (lock_of (get_or locks i c)) (get_or after i p) q)
       → AllStay locks before (set after i q)

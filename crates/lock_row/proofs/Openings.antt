@@ -20,6 +20,7 @@ use Rattle.lock_row.specs.Hands.{AreFirst}
 use Rattle.lock_row.proofs.Lists.{last, mapped_alike}
 
 module _ {M E : Type 0} where
+  -- a row of unopened locks with their parts, and one more such lock with its own, are such a row
   pub unopened_more : (locks : List (Chronicle M E)) (parts : List (Unopened M E)) (lock : Chronicle M E) (part : Unopened M E)
       → length parts ≡ length locks → AreUnopened locks parts → IsUnopened (lock_of lock) part
       → AreUnopened (locks ++ lock ∷ []) (parts ++ part ∷ [])
@@ -33,6 +34,7 @@ module _ {M E : Type 0} where
         sym (get_or_append_left parts (part ∷ []) u k (omega (arith, long, within))) i,
       )) (so_far k c u within))
 
+  -- a row keeps its names if one lock is replaced by one of the same name
   pub same_names : (locks : List (Chronicle M E)) (k : ℕ) (lock : Chronicle M E) → k < length locks
       → ((c : Chronicle M E) → name_of (lock_of lock) ≡ name_of (lock_of (get_or locks k c)))
       → names_of (set locks k lock) ≡ names_of locks
@@ -55,6 +57,7 @@ module _ {M E B : Type 0} (frame_of : B → Frame) (log_of : B → Log E) (befor
   OpenedSoFar after passes vacants i = (k : ℕ) (c d : Chronicle M E) (b : B) (ps : Vec (Pass E) Global) (v : Vacant M E) → k < i
       → IsOpened (get_or before k c) (get_or after k d) (get_or machines k b) (get_or passes k ps) (get_or vacants k v)
 
+  -- if the first locks were opened, and the next one is with its passes and its empty place, all up to it are
   pub opened_more : (after : List (Chronicle M E)) (passes : List (Vec (Pass E) Global)) (vacants : List (Vacant M E)) (k : ℕ)
       (lock : Chronicle M E) (ps : Vec (Pass E) Global) (v : Vacant M E) → k < length after → length passes ≡ k
       → length vacants ≡ k → OpenedSoFar after passes vacants k
@@ -79,6 +82,7 @@ module _ {M E B : Type 0} (frame_of : B → Frame) (log_of : B → Log E) (befor
       )) (so_far j c d b qs w within))
 
 module _ {M E : Type 0} where
+  -- a row stays the same row if at one place the same lock is put, whatever is in it
   pub one_row_more : (before locks : List (Chronicle M E)) (i : ℕ) (lock : Chronicle M E) → i < length locks → AreOneRow before locks
       → ((c : Chronicle M E) → lock_of lock ≡ lock_of (get_or before i c)) → AreOneRow before (set locks i lock)
   one_row_more before locks i lock low so_far one k c within = dite (ℕ_discrete k i)
@@ -96,6 +100,7 @@ module _ {M E : Type 0} where
   abbrev pub FilledSoFar : List (Chronicle M E) → ℕ → Type 0
   FilledSoFar locks i = (k : ℕ) (c : Chronicle M E) → k < i → IsFilled (get_or locks k c)
 
+  -- if the first locks have their machines, and the next one has its own, all up to it have
   pub filled_more : (locks : List (Chronicle M E)) (i : ℕ) (lock : Chronicle M E) → i < length locks → FilledSoFar locks i → IsFilled lock
       → FilledSoFar (set locks i lock) (i + 1)
   filled_more locks i lock low so_far one k c below = dite (ℕ_discrete k i)

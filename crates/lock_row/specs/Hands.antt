@@ -4,14 +4,14 @@ use Rattle.std.specs.Global.{Global}
 use Rattle.chronicle.specs.declared.chronicle.Chronicle.{Chronicle}
 use Rattle.chronicle.specs.declared.pass.Pass.{Pass}
 use Rattle.chronicle.specs.Locks.{Lock, lock_of}
-use Rattle.chronicle.specs.Passes.{IsReady, number_of, seen}
+use Rattle.chronicle.specs.Passes.{IsReady, number_of, seen_by_pass}
 
 module _ {E : Type 0} where
   -- the lock's pass with this number, in no hold, which has seen the log at the start
   pub record IsNewPass (number : ℕ) (lock : Lock E) (p : Pass E) : Type 0 where
     pub ready : IsReady lock p
     pub number_is : number_of p ≡ number
-    pub seen_is : seen p ≡ lock.start
+    pub seen_is : seen_by_pass p ≡ lock.start
 
   -- the first `count` passes of the lock, in the order of their numbers
   pub record AreFirst (count : ℕ) (lock : Lock E) (passes : List (Pass E)) : Type 0 where

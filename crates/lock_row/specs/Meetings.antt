@@ -4,22 +4,22 @@ use mathlib.Core.List.{IsPrefix}
 use Rattle.chronicle.specs.declared.chronicle.Chronicle.{Chronicle}
 use Rattle.chronicle.specs.declared.pass.Pass.{Pass}
 use Rattle.chronicle.specs.declared.note.Note.{Note}
-use Rattle.chronicle.specs.Logs.{longer}
+use Rattle.chronicle.specs.Logs.{longer_of_logs}
 use Rattle.chronicle.specs.Locks.{Lock, lock_of}
-use Rattle.chronicle.specs.Passes.{IsReady, IsNote, number_of, seen, own, noted, lock_noted}
+use Rattle.chronicle.specs.Passes.{IsReady, IsNote, number_of, seen_by_pass, own_entries, seen_by_note, lock_noted}
 
 module _ {E : Type 0} where
   -- the pass p and the note n of a lock have met, and are now q and m: both have seen the longer list
   pub record HaveMet (lock : Lock E) (p q : Pass E) (n m : Note E) : Type 0 where
     pub ready : IsReady lock q
     pub number : number_of q ≡ number_of p
-    pub own_is : own q ≡ own p
+    pub own_is : own_entries q ≡ own_entries p
     pub lock_is : lock_noted m ≡ lock_noted n
-    pub pass_before : IsPrefix (seen p) (seen q)
-    pub note_before : IsPrefix (noted n) (seen q)
-    pub longer_is : seen q ≡ longer (seen p) (noted n)
-    pub either : (seen q ≡ seen p) ⊎ (seen q ≡ noted n)
-    pub one : noted m ≡ seen q
+    pub pass_before : IsPrefix (seen_by_pass p) (seen_by_pass q)
+    pub note_before : IsPrefix (seen_by_note n) (seen_by_pass q)
+    pub longer_is : seen_by_pass q ≡ longer_of_logs (seen_by_pass p) (seen_by_note n)
+    pub either : (seen_by_pass q ≡ seen_by_pass p) ⊎ (seen_by_pass q ≡ seen_by_note n)
+    pub one : seen_by_note m ≡ seen_by_pass q
 
 module _ {M E : Type 0} where
   -- at each place but one, the pass and the note are of the lock there, and the pass is in no hold

@@ -6,12 +6,14 @@ use Rattle.weaver_locks.specs.declared.shared.Shared.{Shared}
 use Rattle.weaver_locks.specs.Hands.{hand_number, IsHand}
 use Rattle.weaver_locks.proofs.Lists.{all-images, has-images, map_twice}
 use Rattle.locks_rows.specs.declared.worker.Player.{Player}
-use Rattle.locks_rows.specs.Workers.{ArePlayers, hand_in}
+use Rattle.locks_rows.specs.Workers.{ArePlayers, hand_of_player}
 
 module _ (shared : Shared) (players : List Player) (are : ArePlayers shared players) where
-  pub each-hand : All (IsHand shared) (map hand_in players)
-  each-hand = all-images (IsHand shared) hand_in players (λ k p low. (are k p low).is.worker.hand)
+  -- the hand of each player is a hand of these locks
+  pub each-hand : All (IsHand shared) (map hand_of_player players)
+  each-hand = all-images (IsHand shared) hand_of_player players (λ k p low. (are k p low).is.worker.hand)
 
-  pub all-hands : (n : ℕ) → n < length players → Contains (map hand_number (map hand_in players)) n
-  all-hands n low = subst (λ (l : List ℕ). Contains l n) (sym (map_twice hand_number hand_in players))
-      (has-images (λ (p : Player). hand_number (hand_in p)) players (λ k p there. (are k p there).number_is) n low)
+  -- each number below the number of players is that of a player's hand
+  pub all-hands : (n : ℕ) → n < length players → Contains (map hand_number (map hand_of_player players)) n
+  all-hands n low = subst (λ (l : List ℕ). Contains l n) (sym (map_twice hand_number hand_of_player players))
+      (has-images (λ (p : Player). hand_number (hand_of_player p)) players (λ k p there. (are k p there).number_is) n low)

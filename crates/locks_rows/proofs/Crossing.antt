@@ -27,6 +27,7 @@ worker_send_within = struct_send (shape worker.the_type) (
   ),
 )
 
+-- a player may be sent to another thread
 pub player_send : IsSend player.the_row
 player_send = recorded_send player.the_field.row _ _ player.the_type.to_one (struct_send (shape player.the_type) (
   worker_send_within,

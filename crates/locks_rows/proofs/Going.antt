@@ -7,7 +7,7 @@ use Rattle.vector_stamp.specs.declared.clock.Clock.{Clock}
 use Rattle.vector_stamp.specs.declared.clock.Stamp.{Stamp}
 use Rattle.weave_entries.specs.declared.gate_log.GateDeed.TheVariants.{BeganTx, BeganProgram, Heard, Finished}
 use Rattle.weave_entries.specs.declared.gate_log.GateEntry.{GateEntry}
-use Rattle.weave_entries.specs.GateReplay.{Begun, program_by, programs_of, running_of}
+use Rattle.weave_entries.specs.GateReplay.{BegunRequest, program_by, programs_of, running_of}
 use Rattle.weave_entries.specs.declared.oracle_log.OracleEntry.{OracleEntry}
 use Rattle.weave_entries.specs.declared.shard_log.ShardEntry.{ShardEntry}
 use Rattle.weave_entries.specs.declared.store_log.StoreEntry.{StoreEntry}
@@ -38,19 +38,22 @@ pub record WentOn (shared : Shared) (old new : Hand) (added : List GateEntry) : 
   pub made : MadeBut old new added
 
 module _ (laws : WorkersLaws) (shared : Shared) (old new : Hand) (added : List GateEntry) (on : WentOn shared old new added) where
+  -- a clock that is known by what the hand had seen is known by what it has seen now
   pub known-on : (clock : Clock) → IsKnown (seen_by old) clock → IsKnown (seen_by new) clock
   known-on clock known = laws.refers (length shared.gates.items) (length shared.shards.items) (seen_by old) (seen_by new)
       on.more.gates on.more.store on.more.shards on.is_new.legal.shard_logs [] 0 (Heard clock) known
 
+  -- a program that had read all that it reads, by what the hand had seen, has done so by what it has seen now
   pub ends-on : (r : ℕ) → EndsAsSeen (seen_by old) r → EndsAsSeen (seen_by new) r
   ends-on r ends = laws.refers (length shared.gates.items) (length shared.shards.items) (seen_by old) (seen_by new)
       on.more.gates on.more.store on.more.shards on.is_new.legal.shard_logs [] 0 (Finished r) ends
 
+  -- a program of the hand that was begun and not finished is so still, if no added entry finishes it
   pub visit-on : (home r : ℕ) (stamp : Stamp) → MayVisit old home r stamp
       → ((entry : GateEntry) → Contains added entry → entry.deed ≢ Finished r) → MayVisit new home r stamp
   visit-on home r stamp may none =
       let log = gate_log (seen_by old) home in
-      let b : Begun = record { author = hand_number old; request = r; stamp = stamp } in
+      let b : BegunRequest = record { author = hand_number old; request = r; stamp = stamp } in
       let there = has-on (programs_of log) (programs_of (gate_log (seen_by new) home))
       (flat-on (λ (e : GateEntry). program_by e.author e.deed) log (gate_log (seen_by new) home) (on.more.gates home)) b may.begun in
       record {
@@ -176,6 +179,7 @@ runs-now laws shared hand is home r stamp may = laws.runs (gate_log (seen_by han
 
 -- Holds
 
+-- after a hold of a gatekeeper the hand went on, with these entries at gatekeepers
 pub at-gate : (shared : Shared) (old new : Hand) (gate : ℕ) (before added : List GateEntry) → IsHand shared new
     → WasAtGate (length shared.shards.items) old new gate before added → WentOn shared old new added
 at-gate shared old new gate before added is was = record {
@@ -185,6 +189,7 @@ at-gate shared old new gate before added is was = record {
   made = made-there old new gate added was.made;
 }
 
+-- after a hold of the store the hand went on, without an entry at gatekeepers
 pub at-store : (shared : Shared) (old new : Hand) (before added : List StoreEntry) (settled asked : List OracleEntry) → IsHand shared new
     → WasAtStore old new before added settled asked → WentOn shared old new []
 at-store shared old new before added settled asked is was = record {
@@ -194,6 +199,7 @@ at-store shared old new before added settled asked is was = record {
   made = made-elsewhere old new (ap (λ (a : Account). a.gates) was.made);
 }
 
+-- after a hold of a shard the hand went on, without an entry at gatekeepers
 pub at-shard : (shared : Shared) (old new : Hand) (shard : ℕ) (before added : List ShardEntry) (asked : List OracleEntry) → IsHand shared new
     → WasAtShard (length shared.shards.items) old new shard before added asked → WentOn shared old new []
 at-shard shared old new shard before added asked is was = record {

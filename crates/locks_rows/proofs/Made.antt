@@ -7,7 +7,7 @@ use Rattle.weave_data.proofs.Members.{flat_has, has_filter, has_flat, has_none, 
 use Rattle.weave_entries.specs.declared.gate_log.GateDeed.{GateDeed}
 use Rattle.weave_entries.specs.declared.gate_log.GateDeed.TheVariants.{BeganTx, BeganProgram, Sent, Nop, Heard, Finished}
 use Rattle.weave_entries.specs.declared.gate_log.GateEntry.{GateEntry}
-use Rattle.weave_entries.specs.GateReplay.{Begun, begun_by}
+use Rattle.weave_entries.specs.GateReplay.{BegunRequest, begun_by}
 use Rattle.weave_account.specs.declared.account.Account.{Account}
 use Rattle.weave_account.specs.Account.{gate_log}
 use Rattle.weaver_locks.specs.declared.hand.Hand.{Hand}
@@ -35,11 +35,12 @@ set-more (xs ∷ xss) zero (suc k) ys x h = inl h
 set-more (xs ∷ xss) (suc place) zero ys x h = inl h
 set-more (xs ∷ xss) (suc place) (suc k) ys x h = set-more xss place k ys x h
 
--- in a hold of a gatekeeper, and in one of another lock
+-- if a hand made what it had made and some entries at one gatekeeper, it made no other entry at gatekeepers
 pub made-there : (old new : Hand) (gate : ℕ) (added : List GateEntry) → made_by new ≡ with_gate_entries gate added (made_by old) → MadeBut old new added
 made-there old new gate added made home entry h =
     set-more (made_by old).gates gate home added entry (subst (λ (a : Account). Contains (gate_log a home) entry) made h)
 
+-- if what a hand made at gatekeepers is what it had made, it made no entry there
 pub made-elsewhere : (old new : Hand) → (made_by new).gates ≡ (made_by old).gates → MadeBut old new []
 made-elsewhere old new made home entry h =
     inl (subst (λ (ls : List (List GateEntry)). Contains (get_or ls home []) entry) made h)
@@ -62,21 +63,26 @@ not-finished deed none r same =
     let one : finishes deed ≡ 1 = ap finishes same in
     omega (arith, one, none)
 
+-- the sending of a transaction begins and finishes nothing
 pub sent-quiet : (r : ℕ) (messages : _) → IsQuiet (Sent r messages)
 sent-quiet r messages = record { begins_none = λ author. refl; finishes_none = not-finished (Sent r messages) refl }
 
+-- an empty message begins and finishes nothing
 pub nop-quiet : (shard number : ℕ) (stamp : _) (low : _) → IsQuiet (Nop shard number stamp low)
 nop-quiet shard number stamp low = record {
   begins_none = λ author. refl;
   finishes_none = not-finished (Nop shard number stamp low) refl;
 }
 
+-- the hearing of a clock begins and finishes nothing
 pub heard-quiet : (clock : _) → IsQuiet (Heard clock)
 heard-quiet clock = record { begins_none = λ author. refl; finishes_none = not-finished (Heard clock) refl }
 
+-- a list without entries begins and finishes nothing
 pub none-quiet : Quiet []
 none-quiet entry h = absurd (has_none entry h)
 
+-- the entry of a call begins and finishes nothing, if so it is with the deed of each answer
 pub call-quiet : {A F : Type 0} (hand : Hand) (deed : A → GateDeed) (result : Result A F) → ((answer : A) → IsQuiet (deed answer))
     → Quiet (gate_entries_of hand deed result)
 call-quiet hand deed (Ok answer) quiet entry h =
@@ -86,13 +92,15 @@ call-quiet hand deed (Err fault) quiet entry h = absurd (has_none entry h)
 -- What was not begun
 
 abbrev pub BeginBelow : ℕ → List GateEntry → Type 0
-BeginBelow next added = (entry : GateEntry) (begun : Begun) → Contains added entry
+BeginBelow next added = (entry : GateEntry) (begun : BegunRequest) → Contains added entry
     → Contains (begun_by entry.author entry.deed) begun → begun.request < next
 
+-- entries that begin and finish nothing begin no request with a number from this one on
 pub quiet-below : (next : ℕ) (added : List GateEntry) → Quiet added → BeginBelow next added
 quiet-below next added quiet entry begun h there =
-    absurd (has_none begun (subst (λ (l : List Begun). Contains l begun) ((quiet entry h).begins_none entry.author) there))
+    absurd (has_none begun (subst (λ (l : List BegunRequest). Contains l begun) ((quiet entry h).begins_none entry.author) there))
 
+-- if no request from a number on was begun, and new begins are below a later one, none from the later one on was begun
 pub still-new : (old new : Hand) (added : List GateEntry) → MadeBut old new added → (before next : ℕ) → before ≤ next → BeginBelow next added
     → ((r : ℕ) → before ≤ r → HasNotBegun old r) → (r : ℕ) → next ≤ r → HasNotBegun new r
 still-new old new added made before next more below fresh r low home begun h =
@@ -103,18 +111,20 @@ still-new old new added made before next more below fresh r low home begun h =
       | inr one ↦ (λ same. let less = below by.0 begun one by.2 in omega (arith, less, low, same))
     ]
 
+-- the begin of a transaction begins no request with a number above its own
 pub tx-below : (hand : Hand) (r : ℕ) (stamp : _) → BeginBelow (suc r) (gate_entry_by hand (BeganTx r stamp) ∷ [])
 tx-below hand r stamp entry begun h there =
     let here = subst (λ (e : GateEntry). Contains (begun_by e.author e.deed) begun) (sym (only (gate_entry_by hand (BeganTx r stamp)) entry h)) there in
     let one = only (record { author = hand_number hand; request = r; stamp = stamp }) begun here in
-    let same : r ≡ begun.request = ap (λ (b : Begun). b.request) one in
+    let same : r ≡ begun.request = ap (λ (b : BegunRequest). b.request) one in
     omega (arith, same)
 
+-- the begin of a program begins no request with a number above its own
 pub program-below : (hand : Hand) (r : ℕ) (stamp : _) → BeginBelow (suc r) (gate_entry_by hand (BeganProgram r stamp) ∷ [])
 program-below hand r stamp entry begun h there =
     let here = subst (λ (e : GateEntry). Contains (begun_by e.author e.deed) begun) (sym (only (gate_entry_by hand (BeganProgram r stamp)) entry h)) there in
     let one = only (record { author = hand_number hand; request = r; stamp = stamp }) begun here in
-    let same : r ≡ begun.request = ap (λ (b : Begun). b.request) one in
+    let same : r ≡ begun.request = ap (λ (b : BegunRequest). b.request) one in
     omega (arith, same)
 
 -- one entry that is no finish
@@ -135,9 +145,11 @@ finish-below hand r next (Err fault) entry begun h there = absurd (has_none entr
 abbrev pub FinishBelow : ℕ → List GateEntry → Type 0
 FinishBelow next added = (entry : GateEntry) → Contains added entry → (r : ℕ) → next ≤ r → entry.deed ≢ Finished r
 
+-- entries that begin and finish nothing finish no program with a number from this one on
 pub quiet-unfinished : (next : ℕ) (added : List GateEntry) → Quiet added → FinishBelow next added
 quiet-unfinished next added quiet entry h r low = (quiet entry h).finishes_none r
 
+-- nor does an entry of a deed that is no finish
 pub begins-unfinished : (hand : Hand) (deed : GateDeed) → finishes deed ≡ 0 → (next : ℕ) → FinishBelow next (gate_entry_by hand deed ∷ [])
 begins-unfinished hand deed none next entry h r low = one-unfinished hand deed none r entry h
 
@@ -145,6 +157,7 @@ abbrev finished-by : GateDeed → ℕ
 finished-by (Finished r) = r
 finished-by _ = 0
 
+-- the finish of a program with a number below this one finishes none from this number on
 pub finish-unfinished : {A F : Type 0} (hand : Hand) (r next : ℕ) (result : Result A F) → r < next
     → FinishBelow next (gate_entries_of hand (λ (answer : A). Finished r) result)
 finish-unfinished hand r next (Ok answer) below entry h other low same =
@@ -152,6 +165,7 @@ finish-unfinished hand r next (Ok answer) below entry h other low same =
     omega (arith, one, below, low)
 finish-unfinished hand r next (Err fault) below entry h other low same = absurd (has_none entry h)
 
+-- if no program from a number on was finished, and new finishes are below a later one, none from that one on was
 pub still-unfinished : (old new : Hand) (added : List GateEntry) → MadeBut old new added → (before next : ℕ) → before ≤ next
     → FinishBelow next added → ((r : ℕ) → before ≤ r → HasNotFinished old r) → (r : ℕ) → next ≤ r → HasNotFinished new r
 still-unfinished old new added made before next more below fresh r low home entry h =

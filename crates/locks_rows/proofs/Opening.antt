@@ -4,7 +4,7 @@ use Rattle.std.proofs.Common.{eqb, filter, ◌≡◌, eqb, filter, ℕ, ◌<◌,
 use Rattle.std.proofs.lemmas.List.{get_or-map, length-map}
 use Rattle.weave_data.proofs.Members.{has_none}
 use Rattle.weave_entries.specs.declared.gate_log.GateEntry.{GateEntry}
-use Rattle.weave_entries.specs.GateReplay.{Begun, begun_in}
+use Rattle.weave_entries.specs.GateReplay.{BegunRequest, begun_in}
 use Rattle.weave_account.specs.declared.account.Account.{Account}
 use Rattle.weave_account.specs.Account.{gate_log}
 use Rattle.lock_row.proofs.Lists.{one_of}
@@ -36,12 +36,14 @@ module _ (shared : Shared) (hand : Hand) (is : IsHand shared hand)
     ended = nothing-there _;
   }
     where
-      none-begun : (home : ℕ) (begun : Begun) → Contains (begun_in (gate_log (made_by hand) home)) begun → ⊥
+      none-begun : (home : ℕ) (begun : BegunRequest) → Contains (begun_in (gate_log (made_by hand) home)) begun → ⊥
       none-begun home begun h = has_none begun (subst (λ (l : List GateEntry). Contains (begun_in l) begun) (made-none home) h)
 
+  -- the player of a hand that has seen no entry at gatekeepers is ready, with the hand's number
   pub new-player : (number : ℕ) → hand_number hand ≡ number → IsNumberedPlayer shared number (player_of hand)
   new-player number is_number = record { is = record { worker = new-worker; step = tt }; number_is = is_number }
 
+-- the players of hands with the numbers from 0 that have seen no entry at gatekeepers are ready
 pub new-players : (shared : Shared) (hands : List Hand) (count : ℕ) (account : Account) → length hands ≡ count
     → ((home : ℕ) → gate_log account home ≡ [])
     → ((k : ℕ) (h : Hand) → k < count → IsHand shared (get_or hands k h) × (hand_number (get_or hands k h) ≡ k) × (seen_by (get_or hands k h) ≡ account))

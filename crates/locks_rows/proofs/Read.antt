@@ -37,6 +37,7 @@ module _ (log : List ShardEntry) (by r : ℕ) (stamp : Stamp) (vertex : Name) wh
       has_map read-as (filter (λ (v : Visit). v.request == r) (visits_of log)) visit
       (has_filter (λ (v : Visit). v.request == r) (visits_of log) visit visited (eq-eqb r r refl))
 
+-- once a visit for a request was seen, the request has read all that a program reads which shows the vertex
 pub shown-ends : (seen : Account) (shard by r : ℕ) (stamp : Stamp) (vertex : Name) (updates : ℕ) (settled : _)
     → Contains (shard_log seen shard) (record { author = by; deed = Visited r stamp vertex updates settled }) → EndsAsSeen seen r
 shown-ends seen shard by r stamp vertex updates settled there =

@@ -18,6 +18,7 @@ Follows = (shared : Shared) (old new : Hand) (gate request : ℕ) (stamp : Stamp
     → IsHand shared old → IsHand shared new → IsInFlight old gate request stamp
     → JudgesIn old new request stamp ops (Ok verdict) → MaySend (seen_by new) (hand_number new) gate ops verdict
 
+-- if a transaction of the hand in flight was judged, it may be sent by its verdict
 pub may-send-if : (shared : Shared) (old new : Hand) (gate request : ℕ) (stamp : Stamp) (ops : List Op) (result : Result Verdict AllocError)
     → Follows → IsHand shared old → IsHand shared new → IsInFlight old gate request stamp → JudgesIn old new request stamp ops result
     → IfOk result (λ verdict. MaySend (seen_by new) (hand_number new) gate ops verdict)

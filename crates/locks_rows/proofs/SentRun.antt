@@ -23,22 +23,22 @@ use Rattle.weave_account.specs.Account.{gate_log, shard_log}
 use Rattle.weave_account.proofs.ExampleLists.{five, two}
 use Rattle.seen_logs.specs.Entries.{oracle_entries, store_entries, store_pairs}
 use Rattle.seen_logs.specs.Seen.{AreLegal, ShardRefersWithin}
-use Rattle.chronicle.specs.Passes.{noted}
+use Rattle.chronicle.specs.Passes.{seen_by_note}
 use Rattle.shard_node.specs.Shards.{ShardView}
 use Rattle.shard_lock.specs.declared.notes.ShardNotes.{ShardNotes}
-use Rattle.shard_lock.specs.Notes.{ShardIsKept, at_place, seen_of}
-use Rattle.locks_rows.specs.Dropping.{IsSentToShard, begin_entry, deleted, empty, empty_entry, judge_entry, judged_log, logs_noted, made, part_of, run, send_entry, sent_log, stamp_of_count, verdict_of, vertex}
+use Rattle.shard_lock.specs.Notes.{ShardIsKept, at_place, seen_of_shard}
+use Rattle.locks_rows.specs.Dropping.{IsSentToShard, begin_entry, deleted_message, empty, empty_entry, judge_entry, judged_log, logs_noted, made_message, part_of, dropping_run, send_entry, sent_log, stamp_of_count, verdict_of, vertex}
 
 -- what a shard without entries has seen
 abbrev new : Account
-new = record run { shards = [] ∷ [] }
+new = record dropping_run { shards = [] ∷ [] }
 
 -- The logs are legal
 
-gate-logs : (home : ℕ) → IsGateLog home 1 (gate_log run home)
+gate-logs : (home : ℕ) → IsGateLog home 1 (gate_log dropping_run home)
 gate-logs zero =
-    five (λ before (entry : GateEntry). FitsAs 0 1 before entry.author entry.deed) (begin_entry 0 1) (send_entry 0 1 made)
-    (begin_entry 1 2) (send_entry 1 2 deleted) empty_entry
+    five (λ before (entry : GateEntry). FitsAs 0 1 before entry.author entry.deed) (begin_entry 0 1) (send_entry 0 1 made_message)
+    (begin_entry 1 2) (send_entry 1 2 deleted_message) empty_entry
     (record { alone = refl; begun = record { last = None; eight = λ x at. cc; is = refl } })
     (record { stamp = stamp_of_count 1; flight = refl; ops = Create vertex ∷ []; verdict = verdict_of 1 0; counts = refl; messages_are = refl })
     (record { alone = refl; begun = record { last = None; eight = λ x at. cc; is = refl } })
@@ -46,13 +46,13 @@ gate-logs zero =
     (record { alone = refl; shard_is = omega arith; stamp_is = refl; number_is = refl; low_is = refl })
 gate-logs (suc home) = each_none _
 
-hears : (home : ℕ) → HearsNoMore home (gate_log run home)
+hears : (home : ℕ) → HearsNoMore home (gate_log dropping_run home)
 hears zero =
-    five (λ before (entry : GateEntry). HearsAs 0 before entry.deed) (begin_entry 0 1) (send_entry 0 1 made)
-    (begin_entry 1 2) (send_entry 1 2 deleted) empty_entry tt tt tt tt tt
+    five (λ before (entry : GateEntry). HearsAs 0 before entry.deed) (begin_entry 0 1) (send_entry 0 1 made_message)
+    (begin_entry 1 2) (send_entry 1 2 deleted_message) empty_entry tt tt tt tt tt
 hears (suc home) = each_none _
 
-store-log : IsStoreLog run.store
+store-log : IsStoreLog dropping_run.store
 store-log =
     two (λ before (entry : StoreEntry). FitsStore before entry.deed) (judge_entry 0 1 0 (Create vertex)) (judge_entry 1 2 1 (Delete vertex))
     (record { new = All-nil _; asked_are = refl; pairs = []; verdict_is = refl })
@@ -78,11 +78,11 @@ refers = each_none _
 
 -- a shard without entries keeps these notes
 pub keeps-notes : (shard : ShardView) (notes : ShardNotes) → shard ≡ record { number = 0; gates = 1; log = [] }
-    → logs_noted notes.gates.items ≡ sent_log ∷ [] → noted notes.store ≡ store_pairs judged_log → noted notes.oracle ≡ []
+    → logs_noted notes.gates.items ≡ sent_log ∷ [] → seen_by_note notes.store ≡ store_pairs judged_log → seen_by_note notes.oracle ≡ []
     → length notes.gates.items ≡ 1 → ShardIsKept shard 1 notes
 unfolding at_place
 keeps-notes shard notes is gates store oracle one =
-    let here : seen_of shard notes ≡ new = λ i. record {
+    let here : seen_of_shard shard notes ≡ new = λ i. record {
       gates = gates i;
       store = store_entries (store i);
       oracle = oracle_entries (oracle i);
@@ -106,7 +106,8 @@ takable before op small = (
   All-cons (λ (part : Part). part.before < 18446744073709551615) (part_of before op) [] small (All-nil _),
 )
 
-pub made-sent : IsSentToShard 1 made
+-- the message that makes the vertex was sent to the shard as the first one
+pub made-sent : IsSentToShard 1 made_message
 made-sent = record {
   from_one = omega arith;
   takable = record { apart = (takable 0 (Create vertex) (omega arith)).0; small = (takable 0 (Create vertex) (omega arith)).1 };
@@ -118,7 +119,7 @@ made-sent = record {
       log = begin_entry 0 1 ∷ [];
       begun = record { author = 0; request = 0; stamp = stamp_of_count 1 };
       stamp_is = refl;
-      addressed = record { shard = 0; number = 1; message = made };
+      addressed = record { shard = 0; number = 1; message = made_message };
       sent = has_head _ [];
       shard_is = refl;
       message_is = refl;
@@ -126,7 +127,8 @@ made-sent = record {
   };
 }
 
-pub deleted-sent : IsSentToShard 2 deleted
+-- the message that deletes the vertex was sent to the shard as the second one
+pub deleted-sent : IsSentToShard 2 deleted_message
 deleted-sent = record {
   from_one = omega arith;
   takable = record { apart = (takable 1 (Delete vertex) (omega arith)).0; small = (takable 1 (Delete vertex) (omega arith)).1 };
@@ -135,10 +137,10 @@ deleted-sent = record {
     made = inr (record {
       judged = judged_by 0 (judge_entry 1 2 1 (Delete vertex)).deed;
       is_judged = (1, omega arith, refl);
-      log = begin_entry 0 1 ∷ send_entry 0 1 made ∷ begin_entry 1 2 ∷ [];
+      log = begin_entry 0 1 ∷ send_entry 0 1 made_message ∷ begin_entry 1 2 ∷ [];
       begun = record { author = 0; request = 1; stamp = stamp_of_count 2 };
       stamp_is = refl;
-      addressed = record { shard = 0; number = 2; message = deleted };
+      addressed = record { shard = 0; number = 2; message = deleted_message };
       sent = has_head _ [];
       shard_is = refl;
       message_is = refl;
@@ -146,6 +148,7 @@ deleted-sent = record {
   };
 }
 
+-- the empty message was sent to the shard as the third one
 pub empty-sent : IsSentToShard 3 empty
 empty-sent = record {
   from_one = omega arith;

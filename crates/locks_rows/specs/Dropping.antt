@@ -1,5 +1,6 @@
 -- What a shard's notes have seen before it drops old versions: a vertex was made and then deleted at the one
 -- gatekeeper, which sent both to the one shard, and an empty message after them.
+-- For tests: no public contract cites this.
 use Rattle.std.specs.Prelude.{◌≡◌, ◌≤◌, ℕ, List, [], ◌∷◌, None, Some, map, codes}
 use Rattle.weave_data.specs.declared.name.Name.{Name}
 use Rattle.graph_ops.specs.declared.op.Op.{Op}
@@ -20,7 +21,7 @@ use Rattle.weave_account.specs.declared.account.Account.{Account}
 use Rattle.seen_logs.specs.Entries.{gate_entries, store_entries}
 use Rattle.seen_logs.specs.References.{ArrivesAsSeen}
 use Rattle.chronicle.specs.declared.note.Note.{Note}
-use Rattle.chronicle.specs.Passes.{noted}
+use Rattle.chronicle.specs.Passes.{seen_by_note}
 use Rattle.shard_lock.specs.Notes.{NotedShardView}
 
 -- the vertex
@@ -48,11 +49,11 @@ message_of request count before op = record {
 }
 
 -- the three messages
-abbrev pub made : Message
-made = message_of 0 1 0 (Create vertex)
+abbrev pub made_message : Message
+made_message = message_of 0 1 0 (Create vertex)
 
-abbrev pub deleted : Message
-deleted = message_of 1 2 1 (Delete vertex)
+abbrev pub deleted_message : Message
+deleted_message = message_of 1 2 1 (Delete vertex)
 
 abbrev pub empty : Message
 empty = record { request = None; stamp = stamp_of_count 3; low = clock_of_count 3; parts = [] }
@@ -70,7 +71,8 @@ abbrev pub empty_entry : GateEntry
 empty_entry = record { author = 0; deed = Nop 0 3 (stamp_of_count 3) (clock_of_count 3) }
 
 abbrev pub sent_log : List GateEntry
-sent_log = begin_entry 0 1 ∷ send_entry 0 1 made ∷ begin_entry 1 2 ∷ send_entry 1 2 deleted ∷ empty_entry ∷ []
+sent_log =
+    begin_entry 0 1 ∷ send_entry 0 1 made_message ∷ begin_entry 1 2 ∷ send_entry 1 2 deleted_message ∷ empty_entry ∷ []
 
 -- the verdict of a transaction, a commit with this number of the vertex that this many named before, and the store's
 -- entry of one with this count, which is its number too
@@ -87,18 +89,18 @@ abbrev pub judged_log : List StoreEntry
 judged_log = judge_entry 0 1 0 (Create vertex) ∷ judge_entry 1 2 1 (Delete vertex) ∷ []
 
 -- what was seen of all logs
-abbrev pub run : Account
-run = record { gates = sent_log ∷ []; store = judged_log; oracle = []; shards = []; sessions = [] }
+abbrev pub dropping_run : Account
+dropping_run = record { gates = sent_log ∷ []; store = judged_log; oracle = []; shards = []; sessions = [] }
 
 -- this is the message with this number that was sent to the shard
 pub record IsSentToShard (number : ℕ) (message : Message) : Type 0 where
   pub from_one : 1 ≤ number
   pub takable : IsTakable message
-  pub seen : ArrivesAsSeen run 1 0 0 number message
+  pub seen : ArrivesAsSeen dropping_run 1 0 0 number message
 
 -- what notes of gatekeepers' locks have seen
 abbrev pub logs_noted : List (Note GateDeed) → List (List GateEntry)
-logs_noted notes = map (λ (note : Note GateDeed). gate_entries (noted note)) notes
+logs_noted notes = map (λ (note : Note GateDeed). gate_entries (seen_by_note note)) notes
 
 -- the notes of the shard, which is the only one, have seen these logs
 pub record HasSeenRun (noted_shard : NotedShardView) : Type 0 where
@@ -106,4 +108,4 @@ pub record HasSeenRun (noted_shard : NotedShardView) : Type 0 where
   pub gates : noted_shard.shard.gates ≡ 1
   pub shards : noted_shard.shards ≡ 1
   pub gate_logs : logs_noted noted_shard.notes.gates.items ≡ sent_log ∷ []
-  pub store_log : store_entries (noted noted_shard.notes.store) ≡ judged_log
+  pub store_log : store_entries (seen_by_note noted_shard.notes.store) ≡ judged_log

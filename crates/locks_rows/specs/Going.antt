@@ -1,4 +1,4 @@
--- What a worker's calls rely on: laws of the crates below, in one record.
+-- What a worker's calls rely on: laws of the crates below, in one record. For tests: no public contract cites this.
 use Rattle.std.specs.Prelude.{◌≡◌, ◌≢◌, ℕ, List, [], slice_index_or, Contains}
 use Rattle.vector_stamp.specs.declared.clock.Stamp.{Stamp}
 use Rattle.weave_entries.specs.declared.gate_log.GateDeed.{GateDeed}

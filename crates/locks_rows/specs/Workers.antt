@@ -1,4 +1,4 @@
--- What a hand's next calls rely on, once its earlier calls have shown it.
+-- What a hand's next calls rely on, once its earlier calls have shown it. For tests: no public contract cites this.
 use Rattle.std.specs.Prelude.{◌≡◌, ◌≢◌, ◌≤◌, ◌<◌, ◌⊎◌, ℕ, List, length, slice_index_or, Contains, None, ⊤}
 use Rattle.std.specs.Option.{ForSome}
 use Rattle.vector_stamp.specs.declared.clock.Stamp.{Stamp}
@@ -78,8 +78,8 @@ player_of hand = record {
 }
 
 -- and back
-abbrev pub hand_in : Player → Hand
-hand_in player = player.worker.hand
+abbrev pub hand_of_player : Player → Hand
+hand_of_player player = player.worker.hand
 
 -- the hand made nothing at gatekeepers but these entries
 abbrev pub MadeBut : Hand → Hand → List GateEntry → Type 0

@@ -1,7 +1,7 @@
 //! A shard with notes drops old versions as it does without them.
 ghost use Rattle.std.specs.Prelude.{◌≡◌, [], ◌∷◌, Some};
-ghost use Rattle.chronicle.specs.Passes.{noted};
-ghost use Rattle.locks_rows.specs.Dropping.{clock_of_count, deleted, empty, made, message_of, stamp_of_count, vertex, HasSeenRun, IsSentToShard};
+ghost use Rattle.chronicle.specs.Passes.{seen_by_note};
+ghost use Rattle.locks_rows.specs.Dropping.{clock_of_count, deleted_message, empty, made_message, message_of, stamp_of_count, vertex, HasSeenRun, IsSentToShard};
 
 use crate::log_texts::text_of_shard;
 use chronicle::{Chronicle, Machine, Note};
@@ -69,7 +69,7 @@ impl Machine for Unasked {
 
 // A note of the lock of this machine.
 fn note_of<R: Abort, M: Machine + Drop>(rt: &R, alloc: Global, machine: &M) -> Note<M::Entry>
-    ensures { noted result ≡ M.log machine.now }
+    ensures { seen_by_note result ≡ M.log machine.now }
 {
     let opened = Chronicle::<M>::new(alloc, machine, 1);
     let (lock, mut passes, _place) = opened.expect(rt, "memory");
@@ -135,14 +135,14 @@ fn message(rt: &impl Abort, alloc: Global, request: u32, count: u64, before: u64
 }
 
 fn first_message(rt: &impl Abort, alloc: Global) -> Message
-    ensures { result ≡ made }
+    ensures { result ≡ made_message }
 {
     let op = Op::Create { v: the_vertex(rt) };
     message(rt, alloc, 0, 1, 0, op)
 }
 
 fn second_message(rt: &impl Abort, alloc: Global) -> Message
-    ensures { result ≡ deleted }
+    ensures { result ≡ deleted_message }
 {
     let op = Op::Delete { v: the_vertex(rt) };
     message(rt, alloc, 1, 2, 1, op)

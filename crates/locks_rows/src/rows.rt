@@ -1,5 +1,6 @@
 //! The calls of hands in turn, each with its answer, and the logs at the end.
 ghost use Rattle.std.specs.Prelude.{◌≤◌};
+ghost use Rattle.weave_data.specs.Limits.{most_shards};
 
 use crate::bench::{close, open, play_rows};
 use crate::log_texts::text_of_logs;
@@ -11,7 +12,7 @@ use std::sync::Wait;
 // Makes the calls on two gatekeepers and this many shards by two hands, and compares the logs.
 fn check_table<R: Wait + Abort>(rt: &R, alloc: Global, shards: u32, rows: &[Row], logs: &str)
     requires some_shard { 1 ≤ shards }
-    requires few_shards { shards ≤ 16 }
+    requires few_shards { shards ≤ most_shards }
 {
     let (shared, mut players) = open(rt, alloc, 2, shards, 2);
     play_rows(rt, alloc, &shared, &mut players, rows);

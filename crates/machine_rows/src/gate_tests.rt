@@ -1,4 +1,5 @@
 ghost use Rattle.std.specs.Prelude.{◌≡◌, ◌≤◌, ◌<◌, [], map, IfOk, OnOk};
+ghost use Rattle.weave_data.specs.Limits.{most_gates, most_shards};
 ghost use Rattle.graph_ops.specs.Mentions.{named_by};
 ghost use Rattle.weave_entries.specs.declared.verdict.Counted.{Counted};
 ghost use Rattle.weave_entries.specs.Sending.{IsCountsOf};
@@ -341,7 +342,7 @@ fn fetches_what_was_sent(rt: HostRuntime) -> Result<(), Fail> {
 
 // A stamp of a gatekeeper: its own count, and one count for all others.
 fn stamp_at(home: u32, epoch: u64, own: u64, others: u64) -> Stamp
-    requires { home < 8 }
+    requires { home < most_gates }
 {
     let mut counts = [others; 8];
     counts[home as usize] = own;
@@ -353,7 +354,7 @@ fn stamp_at(home: u32, epoch: u64, own: u64, others: u64) -> Stamp
 
 // At a new gatekeeper of this home a transaction and a program begin with the wanted stamp.
 fn begin_at(rt: &impl Abort, alloc: Global, home: u32, last: &Option<Stamp>, wanted: &Stamp)
-    requires { home < 8 }
+    requires { home < most_gates }
 {
     let mut gate = Gate::new(alloc, home, 8, 1).expect(rt, "no gatekeeper");
     let tx = gate.begin_tx(alloc, 1, 0, *last);
@@ -455,7 +456,7 @@ fn many_programs(rt: HostRuntime) {
 // Two empty messages to the last of that many shards.
 fn two_nops(rt: &impl Abort, alloc: Global, shards: u32)
     requires some { 1 ≤ shards }
-    requires few { shards ≤ 16 }
+    requires few { shards ≤ most_shards }
 {
     let mut gate = Gate::new(alloc, 7, 8, shards).expect(rt, "no gatekeeper");
     let last = shards - 1;

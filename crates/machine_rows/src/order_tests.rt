@@ -1,4 +1,5 @@
 ghost use Rattle.std.specs.Prelude.{◌<◌, Contains};
+ghost use Rattle.weave_data.specs.Limits.{most_gates};
 ghost use Rattle.vector_stamp.specs.declared.clock.Stamp.{Stamp};
 ghost use Rattle.vector_stamp.specs.Coherence.{AreCoherent};
 ghost use Rattle.order_graph.specs.Building.{ends_of};
@@ -20,7 +21,7 @@ fn stamp(home: u32, counts: [u64; 8]) -> Stamp {
 // The home of an event: the first and the last one are alone at their gatekeepers, and those between take turns at the
 // six others.
 fn home_of(place: usize, last: usize) -> usize
-    ensures { result < 8 }
+    ensures { result < most_gates }
 {
     if place == 0 {
         return 0;
@@ -115,7 +116,7 @@ fn chain_built_from_its_end(rt: HostRuntime) -> Result<(), Fail> {
 }
 
 fn push_three(rt: &impl Abort, events: &mut Vec<Stamp>, home: usize)
-    requires { home < 8 }
+    requires { home < most_gates }
 {
     for before in 0..3 {
         let mut counts = [0; 8];
@@ -144,7 +145,7 @@ fn at<'a>(rt: &impl Abort, events: &'a [Stamp], place: usize) -> &'a Stamp
 
 // The later events of pairs are of one gatekeeper: its last event twice, and then the one before it.
 fn put_at(rt: &impl Abort, alloc: Global, events: &[Stamp], home: usize)
-    requires home { home < 8 }
+    requires home { home < most_gates }
     requires coherent { AreCoherent events.now }
 {
     let a = at(rt, events, (home + 1) % 8 * 3);

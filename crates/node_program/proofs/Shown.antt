@@ -25,6 +25,7 @@ shown_is v (Some found) state reads is h =
     some_is : (a b : State) → Some a ≡ Some b → a ≡ b
     some_is a b e = cc
 
+-- after its read `show` has no next visit
 pub shown_over : (v : Name) (read : Option State) (state : State) (reads : List (Name × State)) → read ≡ Some state → HasShown v read reads → None ≡ next_visit reads (Show v)
 shown_over v None state reads is h = cc
 shown_over v (Some found) state reads is h = shown_next v (Some found) reads h

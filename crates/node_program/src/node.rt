@@ -1,6 +1,7 @@
 //! What a node program promises to those who feed it.
 ghost use Rattle.std.specs.Prelude.{◌≡◌, ◌≤◌, ◌∷◌, ℕ, List, Option, Some, IsSome, IfSome, IfOk, OnOk, length};
 ghost use Rattle.weave_data.specs.declared.name.Name.{Name};
+ghost use Rattle.weave_data.specs.Limits.{most_edges};
 ghost use Rattle.graph_ops.specs.Operations.{State};
 ghost use Rattle.program_defs.specs.declared.program.Program.{Program};
 ghost use Rattle.program_defs.specs.PlainAnswer.{IsPlainAnswer};
@@ -45,7 +46,7 @@ pub trait NodeProgram {
     fn see(&mut self, state: Option<Record>)
         requires next { IsSome (next self.old) }
         requires room { 1 ≤ spare self.old }
-        requires edges { IfSome state (λ found. length found.edges ≤ 1000) }
+        requires edges { IfSome state (λ found. length found.edges ≤ most_edges) }
         ensures program { program self.new ≡ program self.old }
         ensures reads { (v : Name) (reads : List (Name × State)) → next self.old ≡ Some v
             → has_read self.old reads → has_read self.new ((v, state) ∷ reads) };

@@ -9,11 +9,11 @@ use Rattle.vector_stamp.specs.Settling.{SettledEntry, entries_of_call}
 use Rattle.weave_entries.specs.declared.gate_log.GateEntry.{GateEntry}
 use Rattle.weave_entries.specs.declared.oracle_log.OracleDeed.{OracleDeed}
 use Rattle.weave_entries.specs.declared.oracle_log.OracleEntry.{OracleEntry}
-use Rattle.weave_entries.specs.OracleReplay.{oracle_entry, settled_entry}
+use Rattle.weave_entries.specs.OracleReplay.{oracle_entry_of, settled_entry}
 use Rattle.weave_entries.specs.OracleRules.{IsOracleLog}
 use Rattle.weave_account.specs.Account.{IsBegunStamp}
 use Rattle.chronicle.specs.Logs.{Log}
-use Rattle.oracle_lock.specs.Entries.{oracle_pair, oracle_pairs}
+use Rattle.seen_logs.specs.Entries.{oracle_pair, oracle_pairs}
 use Rattle.oracle_lock.specs.Seen.{of_gates, OracleIsKept}
 
 -- an entry of a call is of the events of the call
@@ -36,11 +36,11 @@ none-by number = All-nil (λ (e : ℕ × OracleDeed). e.0 ≡ number)
 
 -- and those of a call are of its author
 pub call-by : (number author : ℕ) (asked : List Stamp) (stamp : Stamp) (places : List ℕ) → author ≡ number
-    → AllBy number (oracle_pairs (map oracle_entry (entries_of_call author asked stamp places)))
+    → AllBy number (oracle_pairs (map oracle_entry_of (entries_of_call author asked stamp places)))
 call-by number author asked stamp [] same = none-by number
 call-by number author asked stamp (place ∷ places) same =
     All-cons (λ (e : ℕ × OracleDeed). e.0 ≡ number)
-    (oracle_pair (oracle_entry (record { author = author; earlier = asked; later = stamp; places = place ∷ places }))) [] same (none-by number)
+    (oracle_pair (oracle_entry_of (record { author = author; earlier = asked; later = stamp; places = place ∷ places }))) [] same (none-by number)
 
 -- whatever the oracle's log gains in a judge, if its events were begun, all that its entries refer to is still seen
 abbrev pub KeepsGained : ℕ → List (List GateEntry) → List OracleEntry → List OracleEntry → Type 0

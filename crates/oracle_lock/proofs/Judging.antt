@@ -5,7 +5,7 @@ use Rattle.std.specs.Prelude.{Result, Ok, Err, IfOk, OnErr}
 use Rattle.std.proofs.lemmas.List.{length-map}
 use Rattle.weave_data.proofs.Members.{has_none, has_head, has_read, has_tail}
 use Rattle.vector_stamp.specs.declared.clock.Stamp.{Stamp}
-use Rattle.vector_stamp.specs.Precedence.{Given}
+use Rattle.vector_stamp.specs.Precedence.{GivenPair}
 use Rattle.vector_stamp.specs.Settling.{SettledEntry, additions_from, places_of}
 use Rattle.weave_entries.specs.declared.gate_log.GateEntry.{GateEntry}
 use Rattle.weave_entries.specs.declared.oracle_log.OracleEntry.{OracleEntry}
@@ -17,12 +17,12 @@ use Rattle.weave_account.specs.Account.{IsBegunStamp}
 use Rattle.backing_store.specs.Commits.{entries_added}
 use Rattle.weave_entries.specs.declared.gate_log.GateDeed.{GateDeed}
 use Rattle.chronicle.specs.declared.note.Note.{Note}
-use Rattle.chronicle.specs.Passes.{noted}
-use Rattle.oracle_lock.specs.Entries.{gate_entries}
+use Rattle.chronicle.specs.Passes.{seen_by_note}
+use Rattle.seen_logs.specs.Entries.{gate_entries}
 use Rattle.oracle_lock.specs.Seen.{gates_noted, of_gates, OracleIsKept}
 use Rattle.oracle_lock.proofs.CallEntries.{call-events, KeepsGained}
 
-added-events : (verdict : Verdict) (author : ℕ) (pairs : List Given) (asked : List Stamp) (stamp : Stamp) (entry : SettledEntry) (event : Stamp)
+added-events : (verdict : Verdict) (author : ℕ) (pairs : List GivenPair) (asked : List Stamp) (stamp : Stamp) (entry : SettledEntry) (event : Stamp)
     → Contains (entries_added verdict author pairs asked stamp) entry → Contains (entry.later ∷ entry.earlier) event → Contains (stamp ∷ asked) event
 added-events (Committed number answers counts) author pairs asked stamp entry event h has =
     call-events author asked stamp (places_of (additions_from 0 pairs asked stamp)) entry event h has
@@ -42,10 +42,10 @@ asked-begun gates stamp asked kept among begun event h = elim (has_read stamp as
 -- at most eight notes have at most eight logs
 pub few-noted : (notes others : List (Note GateDeed)) → notes ≡ others → length others ≤ 8 → length (gates_noted notes) ≤ 8
 few-noted notes others same few =
-    let as_noted : Note GateDeed → List GateEntry = λ note. gate_entries (noted note) in
+    let as_noted : Note GateDeed → List GateEntry = λ note. gate_entries (seen_by_note note) in
     omega (arith, length-map notes as_noted, ap (λ (l : List (Note GateDeed)). length l) same, few)
 
-module _ (shards : ℕ) (gates : List (List GateEntry)) (before after : List OracleEntry) (author : ℕ) (pairs : List Given) (asked : List Stamp)
+module _ (shards : ℕ) (gates : List (List GateEntry)) (before after : List OracleEntry) (author : ℕ) (pairs : List GivenPair) (asked : List Stamp)
     (stamp : Stamp) where
   -- after a judgement all that the oracle's entries refer to is still seen
   pub judged-keeps : {E : Type 0} → KeepsGained shards gates before after

@@ -14,11 +14,11 @@ use Rattle.chronicle.specs.declared.pass.Pass.{Pass}
 use Rattle.chronicle.specs.declared.note.Note.{Note}
 use Rattle.chronicle.specs.Logs.{Log}
 use Rattle.chronicle.specs.Locks.{lock_of, name_of}
-use Rattle.chronicle.specs.Passes.{seen, noted, lock_noted}
+use Rattle.chronicle.specs.Passes.{seen_by_pass, seen_by_note, lock_noted}
 use Rattle.lock_row.specs.Rows.{names_of, AreReady}
 use Rattle.lock_row.specs.Meetings.{HaveMet, CanMeet, AllMet}
 use Rattle.lock_row.proofs.Lists.{mapped_alike, mapped_on, one_of}
-use Rattle.oracle_lock.specs.Entries.{gate_entry, gate_entries}
+use Rattle.seen_logs.specs.Entries.{gate_entry, gate_entries}
 use Rattle.oracle_lock.specs.Seen.{gates_noted, gates_seen, of_gates, AreGateLogs}
 
 -- what begins a lock's log begins it as entries
@@ -48,10 +48,10 @@ module _ {M : Type 0} (locks : List (Chronicle M GateDeed)) (before after : List
     (after_long : length after ≡ length locks) (notes_long : length notes ≡ length locks)
     (later_long : length later ≡ length locks) where
   abbrev as_noted : Note GateDeed → List GateEntry
-  as_noted note = gate_entries (noted note)
+  as_noted note = gate_entries (seen_by_note note)
 
   abbrev as_seen : Pass GateDeed → List GateEntry
-  as_seen pass = gate_entries (seen pass)
+  as_seen pass = gate_entries (seen_by_pass pass)
 
   apart : (k : ℕ) → k < length locks → k ≢ length locks
   apart k low e = absurd (omega (arith, low, e))
@@ -76,16 +76,16 @@ module _ {M : Type 0} (locks : List (Chronicle M GateDeed)) (before after : List
     here : HaveMet (lock_of (get_or locks k (one_of locks k low))) (get_or before k p) (get_or after k p) (get_or notes k n) (get_or later k n)
     here = met k (one_of locks k low) p n low (apart k low)
 
-    noted_is : get_or (gates_noted notes) k [] ≡ gate_entries (noted (get_or notes k n))
+    noted_is : get_or (gates_noted notes) k [] ≡ gate_entries (seen_by_note (get_or notes k n))
     noted_is = get_or-map as_noted notes k n [] (omega (arith, low, notes_long))
 
-    later_is : get_or (gates_noted later) k [] ≡ gate_entries (noted (get_or later k n))
+    later_is : get_or (gates_noted later) k [] ≡ gate_entries (seen_by_note (get_or later k n))
     later_is = get_or-map as_noted later k n [] (omega (arith, low, later_long))
 
-    seen_is : get_or (gates_seen before) k [] ≡ gate_entries (seen (get_or before k p))
+    seen_is : get_or (gates_seen before) k [] ≡ gate_entries (seen_by_pass (get_or before k p))
     seen_is = get_or-map as_seen before k p [] (omega (arith, low, before_long))
 
-    after_is : get_or (gates_seen after) k [] ≡ gate_entries (seen (get_or after k p))
+    after_is : get_or (gates_seen after) k [] ≡ gate_entries (seen_by_pass (get_or after k p))
     after_is = get_or-map as_seen after k p [] (omega (arith, low, after_long))
 
   none_past : {A : Type 0} (f : A → List GateEntry) (xs : List A) (k : ℕ) → length xs ≡ length locks → length locks ≤ k

@@ -9,14 +9,14 @@ use Rattle.weave_data.proofs.Images.{get-has}
 use Rattle.weave_data.proofs.Members.{cut_at, flat_has, has_cut, has_head, has_tail, map_has, filter_map_has}
 use Rattle.vector_stamp.specs.declared.clock.Stamp.{Stamp}
 use Rattle.vector_stamp.specs.Coherence.{AreCoherent}
-use Rattle.vector_stamp.specs.Precedence.{Given}
+use Rattle.vector_stamp.specs.Precedence.{GivenPair}
 use Rattle.vector_stamp.specs.Settling.{SettledEntry}
 use Rattle.order_graph.specs.Building.{ends_of}
 use Rattle.weave_entries.specs.declared.gate_log.GateEntry.{GateEntry}
 use Rattle.weave_entries.specs.declared.oracle_log.OracleEntry.{OracleEntry}
 use Rattle.weave_entries.specs.declared.oracle_log.OracleDeed.{OracleDeed}
 use Rattle.weave_entries.specs.declared.oracle_log.OracleDeed.TheVariants.{Settled}
-use Rattle.weave_entries.specs.OracleReplay.{oracle_entry, pairs_of_entry, pairs_of_log, settled_by, settled_entry}
+use Rattle.weave_entries.specs.OracleReplay.{oracle_entry_of, pairs_of_entry, pairs_of_log, settled_by, settled_entry}
 use Rattle.weave_entries.specs.OracleRules.{IsOracleLog}
 use Rattle.weave_entries.specs.GateRules.{IsGateLog}
 use Rattle.weave_entries.specs.ShardRules.{IsShardLog}
@@ -24,11 +24,10 @@ use Rattle.weave_account.specs.declared.account.Account.{Account}
 use Rattle.weave_account.specs.Account.{IsBegunStamp, begun_stamps, gate_log, shard_log}
 use Rattle.seen_logs.specs.References.{OracleRefersAs}
 use Rattle.seen_logs.specs.Seen.{GatesGoOn, OracleRefersWithin}
-use Rattle.oracle_lock.specs.Entries.{oracle_entries, oracle_pairs}
+use Rattle.seen_logs.specs.Entries.{oracle_entries, oracle_pairs, gate_entries}
 use Rattle.weave_entries.specs.declared.gate_log.GateDeed.{GateDeed}
 use Rattle.chronicle.specs.declared.note.Note.{Note}
-use Rattle.chronicle.specs.Passes.{lock_noted, noted}
-use Rattle.oracle_lock.specs.Entries.{gate_entries}
+use Rattle.chronicle.specs.Passes.{lock_noted, seen_by_note}
 use Rattle.oracle_lock.specs.Seen.{gates_noted, of_gates, oracle_seen, AreGateLogs, OracleIsKept}
 
 -- the entries come back from the pairs that the lock has
@@ -38,17 +37,17 @@ pairs_back (entry ∷ log) = ap (λ (l : List OracleEntry). entry ∷ l) (pairs_
 
 -- Pairs
 
-of-event : (earlier : List Stamp) (later : Stamp) (place : ℕ) (pair : Given) (o : Option Stamp) → slice_get earlier place ≡ o
+of-event : (earlier : List Stamp) (later : Stamp) (place : ℕ) (pair : GivenPair) (o : Option Stamp) → slice_get earlier place ≡ o
     → option_map (λ (event : Stamp). (event, later)) o ≡ Some pair → Contains earlier pair.0 × (later ≡ pair.1)
 of-event earlier later place pair None e is = cc
 of-event earlier later place pair (Some event) e is =
     let same : (event, later) ≡ pair = cc in (
-      subst (λ (s : Stamp). Contains earlier s) (ap (λ (g : Given). g.0) same) (get-has earlier place event e),
-      ap (λ (g : Given). g.1) same,
+      subst (λ (s : Stamp). Contains earlier s) (ap (λ (g : GivenPair). g.0) same) (get-has earlier place event e),
+      ap (λ (g : GivenPair). g.1) same,
     )
 
 -- a pair of an entry is of its events
-pair-of : (entry : SettledEntry) (pair : Given) → Contains (pairs_of_entry entry) pair → Contains entry.earlier pair.0 × (entry.later ≡ pair.1)
+pair-of : (entry : SettledEntry) (pair : GivenPair) → Contains (pairs_of_entry entry) pair → Contains entry.earlier pair.0 × (entry.later ≡ pair.1)
 pair-of entry pair h =
     let from = filter_map_has (λ (place : ℕ). option_map (λ (event : Stamp). (event, entry.later))
     (slice_get entry.earlier place)) entry.places pair h in
@@ -76,8 +75,8 @@ entry-begun gates log refers entry h event has =
     let cut = cut_at log entry h in
     told gates log entry.author entry.deed (refers cut.before entry cut.after cut.is) event has
 
-module _ (no_others : (pairs : List Given) (stamp : Stamp) → Contains (ends_of pairs) stamp
-    → (pair : Given) × Contains pairs pair × ((pair.0 ≡ stamp) ⊎ (pair.1 ≡ stamp))) where
+module _ (no_others : (pairs : List GivenPair) (stamp : Stamp) → Contains (ends_of pairs) stamp
+    → (pair : GivenPair) × Contains pairs pair × ((pair.0 ≡ stamp) ⊎ (pair.1 ≡ stamp))) where
   -- and so was each event that the pairs join
   pub known-begun : (gates : List (List GateEntry)) (log : List OracleEntry) → OracleRefersWithin (oracle_seen gates log) → (event : Stamp)
       → Contains (ends_of (pairs_of_log log)) event → IsBegunStamp (of_gates gates) event
@@ -113,18 +112,19 @@ module _ (no_others : (pairs : List Given) (stamp : Stamp) → Contains (ends_of
 
 -- The log goes on
 
-module _ (back : (entry : OracleEntry) → oracle_entry (settled_entry entry) ≡ entry) where
-  entries-back : (log : List OracleEntry) → map oracle_entry (map settled_entry log) ≡ log
+module _ (back : (entry : OracleEntry) → oracle_entry_of (settled_entry entry) ≡ entry) where
+  entries-back : (log : List OracleEntry) → map oracle_entry_of (map settled_entry log) ≡ log
   entries-back [] = refl
   entries-back (entry ∷ log) = λ i. back entry i ∷ entries-back log i
 
   -- what a judge's log says of the oracle's
   pub log-is : (before after : List OracleEntry) (entries : List SettledEntry)
-      → map settled_entry after ≡ map settled_entry before ++ entries → after ≡ before ++ map oracle_entry entries
-  log-is before after entries e = sym (entries-back after) ∙ (ap (λ (l : List SettledEntry). map oracle_entry l) e
-      ∙ (map-append oracle_entry (map settled_entry before) entries
-      ∙ ap (λ (l : List OracleEntry). l ++ map oracle_entry entries) (entries-back before)))
+      → map settled_entry after ≡ map settled_entry before ++ entries → after ≡ before ++ map oracle_entry_of entries
+  log-is before after entries e = sym (entries-back after) ∙ (ap (λ (l : List SettledEntry). map oracle_entry_of l) e
+      ∙ (map-append oracle_entry_of (map settled_entry before) entries
+      ∙ ap (λ (l : List OracleEntry). l ++ map oracle_entry_of entries) (entries-back before)))
 
+  -- all that the oracle's log refers to is seen with new entries too, if it is right and their events were begun
   pub log-keeps : (shards : ℕ) (gates : List (List GateEntry)) (before after : List OracleEntry) (entries : List SettledEntry)
       → OracleIsKept shards gates before → map settled_entry after ≡ map settled_entry before ++ entries → IsOracleLog after
       → ((entry : SettledEntry) (event : Stamp) → Contains entries entry → Contains (entry.later ∷ entry.earlier) event
@@ -132,7 +132,7 @@ module _ (back : (entry : OracleEntry) → oracle_entry (settled_entry entry) �
       → OracleIsKept shards gates after
   log-keeps shards gates before after entries kept e right begun = record {
     refers = λ front entry rest at. tell gates after entry.author entry.deed (λ event h. begun-in entry event h
-        (Contains-append_cases before (map oracle_entry entries) entry
+        (Contains-append_cases before (map oracle_entry_of entries) entry
         (subst (λ (l : List OracleEntry). Contains l entry) (sym at ∙ log-is before after entries e) (has_cut front entry rest))));
     legal = record {
       gate_logs = kept.legal.gate_logs;
@@ -144,10 +144,10 @@ module _ (back : (entry : OracleEntry) → oracle_entry (settled_entry entry) �
   }
     where
       begun-in : (entry : OracleEntry) (event : Stamp) → Contains (events_of (settled_entry entry)) event
-          → Contains before entry ⊎ Contains (map oracle_entry entries) entry → IsBegunStamp (of_gates gates) event
+          → Contains before entry ⊎ Contains (map oracle_entry_of entries) entry → IsBegunStamp (of_gates gates) event
       begun-in entry event h (inl old) = entry-begun gates before kept.refers entry old event h
       begun-in entry event h (inr new) =
-          let from = map_has oracle_entry entries entry new in
+          let from = map_has oracle_entry_of entries entry new in
           begun from.0 event from.1 (subst (λ (one : OracleEntry). Contains (events_of (settled_entry one)) event) (sym from.2) h)
 
 -- More is seen
@@ -166,7 +166,7 @@ module _ (its : ℕ) (notes later : List (Note GateDeed)) (before after : List (
   -- as many logs are noted as before
   pub as-many-noted : length (gates_noted later) ≡ length (gates_noted notes)
   as-many-noted =
-      let as_noted : Note GateDeed → List GateEntry = λ note. gate_entries (noted note) in
+      let as_noted : Note GateDeed → List GateEntry = λ note. gate_entries (seen_by_note note) in
       let many : length later ≡ length notes =
       sym (length-map later lock_noted) ∙
       (ap (λ (l : List (List ℕ)). length l) met.names ∙ length-map notes lock_noted) in

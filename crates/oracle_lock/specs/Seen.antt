@@ -9,15 +9,15 @@ use Rattle.weave_account.specs.Account.{gate_log}
 use Rattle.seen_logs.specs.Seen.{AreLegal, OracleRefersWithin}
 use Rattle.chronicle.specs.declared.pass.Pass.{Pass}
 use Rattle.chronicle.specs.declared.note.Note.{Note}
-use Rattle.chronicle.specs.Passes.{seen, noted}
-use Rattle.oracle_lock.specs.Entries.{gate_entries}
+use Rattle.chronicle.specs.Passes.{seen_by_pass, seen_by_note}
+use Rattle.seen_logs.specs.Entries.{gate_entries}
 
 -- what notes of gatekeepers' locks have seen, and what passes of them have seen: a log for each, by its number
 abbrev pub gates_noted : List (Note GateDeed) → List (List GateEntry)
-gates_noted notes = map (λ (note : Note GateDeed). gate_entries (noted note)) notes
+gates_noted notes = map (λ (note : Note GateDeed). gate_entries (seen_by_note note)) notes
 
 abbrev pub gates_seen : List (Pass GateDeed) → List (List GateEntry)
-gates_seen passes = map (λ (pass : Pass GateDeed). gate_entries (seen pass)) passes
+gates_seen passes = map (λ (pass : Pass GateDeed). gate_entries (seen_by_pass pass)) passes
 
 -- these logs of gatekeepers, and nothing of the other logs
 abbrev pub of_gates : List (List GateEntry) → Account

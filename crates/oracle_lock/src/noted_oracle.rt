@@ -1,4 +1,5 @@
 //! The oracle with its notes.
+ghost use Rattle.weave_data.specs.Limits.{most_gates};
 ghost use Rattle.oracle_lock.specs.Seen.{gates_noted, OracleIsKept};
 
 use crate::laws::{known_events_are_begun, settling_keeps};
@@ -44,7 +45,7 @@ impl Machine for NotedOracle {
 
     ghost use Rattle.std.specs.Prelude.{[], ◌∷◌, map};
     ghost use Rattle.chronicle.specs.Passes.{lock_noted};
-    ghost use Rattle.oracle_lock.specs.Entries.{oracle_pairs};
+    ghost use Rattle.seen_logs.specs.Entries.{oracle_pairs};
 
     ghost frame = { λ n. (n.shards ∷ []) ∷ map lock_noted n.gates };
 
@@ -55,7 +56,7 @@ impl NotedOracle {
     ghost use Rattle.std.specs.Prelude.{◌≡◌, ◌≢◌, ◌<◌, ◌≤◌, ◌^◌, [], ◌∷◌, ◌++◌, false, length, map, All, Contains, IfOk, OnErr};
     ghost use Rattle.vector_stamp.specs.declared.clock.Stamp.{Stamp};
     ghost use Rattle.vector_stamp.specs.Order.{id_of};
-    ghost use Rattle.weave_entries.specs.OracleReplay.{oracle_entry, pairs_of_log};
+    ghost use Rattle.weave_entries.specs.OracleReplay.{oracle_entry_of, pairs_of_log};
     ghost use Rattle.weave_entries.specs.StoreReplay.{commits_of};
     ghost use Rattle.backing_store.specs.Commits.{stamps_judged, stamps_kept, asked_at, is_judge_asked, verdict_at, judged_entry, pairs_added, entries_added};
     ghost use Rattle.weave_account.specs.Account.{IsBegunStamp};
@@ -158,7 +159,7 @@ impl NotedOracle {
         ops: &[Op],
     ) -> Result<Verdict, AllocError>
         requires few { length ops.now < 2 ^ 31 }
-        requires gates { length self.old.gates ≤ 8 }
+        requires gates { length self.old.gates ≤ most_gates }
         requires new { All (λ (judged : Stamp). id_of judged ≢ id_of stamp) (stamps_judged store.old) }
         requires begun { (event : Stamp) → Contains (stamp ∷ stamps_kept (commits_of store.old)) event
             → IsBegunStamp (of_gates (gates_noted self.old.gates)) event }
@@ -170,7 +171,7 @@ impl NotedOracle {
             ≡ store.old ++ judged_entry author request stamp ops.now store.old verdict ∷ []) }
         ensures pairs { IfOk result (λ verdict. pairs_of_log self.new.oracle ≡ pairs_of_log self.old.oracle
             ++ pairs_added verdict (pairs_of_log self.old.oracle) (asked_at store.old stamp ops.now) stamp) }
-        ensures logged { IfOk result (λ verdict. self.new.oracle ≡ self.old.oracle ++ map oracle_entry
+        ensures logged { IfOk result (λ verdict. self.new.oracle ≡ self.old.oracle ++ map oracle_entry_of
             (entries_added verdict author (pairs_of_log self.old.oracle) (asked_at store.old stamp ops.now) stamp)) }
         ensures not_asked { is_judge_asked store.old stamp ops.now ≡ false → self.new.oracle ≡ self.old.oracle }
         ensures store { OnErr result (store.new ≡ store.old) }

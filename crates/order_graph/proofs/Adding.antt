@@ -8,11 +8,11 @@ use Rattle.std.proofs.lemmas.Option.{same_Some}
 use Rattle.vector_stamp.specs.declared.clock.Stamp.{Stamp}
 use Rattle.vector_stamp.specs.Order.{stamp_before, same_stamp, id_of}
 use Rattle.vector_stamp.specs.Coherence.{AreCoherent}
-use Rattle.vector_stamp.specs.Precedence.{Given, IsClosed, precedes}
+use Rattle.vector_stamp.specs.Precedence.{GivenPair, IsClosed, precedes}
 use Rattle.order_graph.specs.declared.chain.Event.{Event}
 use Rattle.order_graph.specs.Building.{ends_of, MayAdd}
-use Rattle.order_graph.specs.Frontiers.{at_or_before, latest_of, empty_frontier, joined, covers, IsFrontier, StampOrderLaws}
-use Rattle.order_graph.specs.Chains.{EventChainView, no_chain, events_of, IsRisingChain, IsPut, IsLedOn, leads_to, joined_event, raised, raised_chain, AreChains}
+use Rattle.order_graph.specs.Frontiers.{at_or_before, latest_of, empty_frontier, joined_frontiers, is_up_to_frontier, IsFrontier, StampOrderLaws}
+use Rattle.order_graph.specs.Chains.{EventChainView, no_chain, events_of, IsRisingChain, IsPut, IsLedOn, leads_to, joined_event, raised_event, raised_chain, AreChains}
 use Rattle.weave_data.proofs.Members.{has_none, has_read, has_head, has_tail, has_map, map_has}
 use Rattle.order_graph.proofs.Stamps.{ends-append}
 use Rattle.order_graph.proofs.Orders.{AreApart, at_itself, at_from, at_cases, not_at}
@@ -21,15 +21,16 @@ use Rattle.order_graph.proofs.Frontiers.{at_precedes, none_there}
 use Rattle.order_graph.proofs.Raising.{raised_not_led, raised_led_by_both, raised_led}
 
 -- a is b, or precedes it
-abbrev pub Leads : List Given → Stamp → Stamp → Type 0
+abbrev pub Leads : List GivenPair → Stamp → Stamp → Type 0
 Leads pairs a b = (a ≡ b) ⊎ IsTrue (precedes pairs a b)
 
 -- a pair at the end or at the head
 abbrev pub AtTheEnd : Type 0
-AtTheEnd = (pairs : List Given) (pair : Given) (a b : Stamp) → precedes (pairs ++ pair ∷ []) a b ≡ precedes (pair ∷ pairs) a b
+AtTheEnd = (pairs : List GivenPair) (pair : GivenPair) (a b : Stamp) → precedes (pairs ++ pair ∷ []) a b ≡ precedes (pair ∷ pairs) a b
 
 -- what leads to an event
-module _ (laws : StampOrderLaws) (pairs : List Given) (closed : IsClosed pairs (precedes pairs)) where
+module _ (laws : StampOrderLaws) (pairs : List GivenPair) (closed : IsClosed pairs (precedes pairs)) where
+  -- what leads to an event, as a frontier of it shows, is the event or precedes it
   pub led_read : (event : Event) → IsFrontier pairs event.stamp event.frontier.latest → (stamp : Stamp) → IsTrue (leads_to stamp event) → Leads pairs stamp event.stamp
   led_read event exact stamp h =
       elim (or_cases (at_or_before stamp event.stamp) _ h) [
@@ -39,6 +40,7 @@ module _ (laws : StampOrderLaws) (pairs : List Given) (closed : IsClosed pairs (
             inr (at_precedes laws pairs closed stamp some.1 event.stamp some.3 (exact.precede some.0 some.1 some.2).2)
       ]
 
+  -- and what is the event or precedes it leads to it, as any frontier of it shows
   pub led_write : (event : Event) → IsFrontier pairs event.stamp event.frontier.latest → (stamp : Stamp) → Leads pairs stamp event.stamp → IsTrue (leads_to stamp event)
   led_write event exact stamp (inl same) = or_left _ _ (subst (λ x. IsTrue (at_or_before stamp x)) same (at_itself laws stamp))
   led_write event exact stamp (inr h) =
@@ -47,6 +49,7 @@ module _ (laws : StampOrderLaws) (pairs : List Given) (closed : IsClosed pairs (
         | inr by ↦ or_right (at_or_before stamp event.stamp) _ by
       ]
 
+  -- along the chain of any gatekeeper, what leads to an event leads to those after it
   pub chains_lead_on : (stamps : List Stamp) (chains : List EventChainView) → AreChains pairs stamps chains → (stamp : Stamp) (gate : ℕ) → IsLedOn stamp (events_of chains gate)
   chains_lead_on stamps chains are stamp gate i j d le below h =
       elim (cases_eq i j) [
@@ -64,10 +67,10 @@ module _ (laws : StampOrderLaws) (pairs : List Given) (closed : IsClosed pairs (
       ]
 
 -- a frontier of an event, with the event itself
-pub record IsFrontierWith (pairs : List Given) (event : Stamp) (frontier : List (Option Stamp)) : Type 0 where
+pub record IsFrontierWith (pairs : List GivenPair) (event : Stamp) (frontier : List (Option Stamp)) : Type 0 where
   pub eight : length frontier ≡ 8
   pub lead : (gate : ℕ) (latest : Stamp) → latest_of frontier gate ≡ Some latest → (latest.home ≡ gate) × Contains (event ∷ ends_of pairs) latest × Leads pairs latest event
-  pub all : (stamp : Stamp) → Leads pairs stamp event → IsTrue (covers frontier stamp)
+  pub all : (stamp : Stamp) → Leads pairs stamp event → IsTrue (is_up_to_frontier frontier stamp)
 
 -- the frontier of one event alone
 abbrev alone : Stamp → List (Option Stamp)
@@ -83,10 +86,11 @@ alone_is stamp home gate latest is =
       | inr there ↦ absurd (none_there gate latest (sym (get_or-set_other empty_frontier stamp.home gate (Some stamp) None there) ∙ is))
     ]
 
-alone_covers : (laws : StampOrderLaws) (event : Stamp) → event.home < 8 → (stamp : Stamp) → IsTrue (at_or_before stamp event) → IsTrue (covers (alone event) stamp)
+alone_covers : (laws : StampOrderLaws) (event : Stamp) → event.home < 8 → (stamp : Stamp) → IsTrue (at_or_before stamp event) → IsTrue (is_up_to_frontier (alone event) stamp)
 alone_covers laws event home stamp h = covers_at (alone event) stamp event.home event (get_or-set_same empty_frontier event.home (Some event) None home) h
 
-pub with_itself : (laws : StampOrderLaws) (apart : AreApart) (pairs : List Given) (event : Stamp) → AreCoherent (event ∷ ends_of pairs) → (frontier : List (Option Stamp)) → IsFrontier pairs event frontier → IsFrontierWith pairs event (joined frontier (alone event))
+-- a frontier of an event, joined with the event alone, is one with the event itself, if all stamps are coherent
+pub with_itself : (laws : StampOrderLaws) (apart : AreApart) (pairs : List GivenPair) (event : Stamp) → AreCoherent (event ∷ ends_of pairs) → (frontier : List (Option Stamp)) → IsFrontier pairs event frontier → IsFrontierWith pairs event (joined_frontiers frontier (alone event))
 with_itself laws apart pairs event coherent frontier exact =
     record {
       eight = length-joined frontier (alone event) exact.eight (length-alone event);
@@ -106,10 +110,10 @@ with_itself laws apart pairs event coherent frontier exact =
     own_alone : AreOwn (event ∷ ends_of pairs) (alone event)
     own_alone gate latest is = let h = alone_is event home gate latest is in (subst (λ (x : Stamp). x.home ≡ gate) h.1 h.0, subst (Contains (event ∷ ends_of pairs)) h.1 (has_head event (ends_of pairs)))
 
-    by_itself : (stamp : Stamp) → IsTrue (at_or_before stamp event) → IsTrue (covers (joined frontier (alone event)) stamp)
+    by_itself : (stamp : Stamp) → IsTrue (at_or_before stamp event) → IsTrue (is_up_to_frontier (joined_frontiers frontier (alone event)) stamp)
     by_itself stamp h = covered_right laws apart (event ∷ ends_of pairs) coherent frontier (alone event) exact.eight (length-alone event) own own_alone stamp (alone_covers laws event home stamp h)
 
-    covers_all : (stamp : Stamp) → Leads pairs stamp event → IsTrue (covers (joined frontier (alone event)) stamp)
+    covers_all : (stamp : Stamp) → Leads pairs stamp event → IsTrue (is_up_to_frontier (joined_frontiers frontier (alone event)) stamp)
     covers_all stamp (inl same) = by_itself stamp (subst (λ x. IsTrue (at_or_before stamp x)) same (at_itself laws stamp))
     covers_all stamp (inr h) =
         elim (or_cases (stamp_before stamp event) _ (exact.all stamp h)) [
@@ -118,8 +122,8 @@ with_itself laws apart pairs event coherent frontier exact =
         ]
 
 -- the pair of a and b
-module _ (laws : StampOrderLaws) (apart : AreApart) (at_the_end : AtTheEnd) (pairs : List Given) (closed : IsClosed pairs (precedes pairs)) (a b : Stamp) (may : MayAdd pairs a b) where
-  abbrev more : List Given
+module _ (laws : StampOrderLaws) (apart : AreApart) (at_the_end : AtTheEnd) (pairs : List GivenPair) (closed : IsClosed pairs (precedes pairs)) (a b : Stamp) (may : MayAdd pairs a b) where
+  abbrev more : List GivenPair
   more = pairs ++ (a, b) ∷ []
 
   abbrev stamps : List Stamp
@@ -208,7 +212,7 @@ module _ (laws : StampOrderLaws) (apart : AreApart) (at_the_end : AtTheEnd) (pai
   -- raised over a frontier of the earlier event, with itself
   module _ (frontier : List (Option Stamp)) (with_a : IsFrontierWith pairs a frontier) where
     abbrev up : Event → Event
-    up = raised a b frontier
+    up = raised_event a b frontier
 
     to_stamps : (stamp : Stamp) → Contains (ends_of pairs) stamp → Contains stamps stamp
     to_stamps stamp h = has_tail a (b ∷ ends_of pairs) stamp (has_tail b (ends_of pairs) stamp h)
@@ -256,7 +260,7 @@ module _ (laws : StampOrderLaws) (apart : AreApart) (at_the_end : AtTheEnd) (pai
             ];
           }
 
-      led_exact : leads_to b event ≡ true → IsFrontier more event.stamp (joined event.frontier.latest frontier)
+      led_exact : leads_to b event ≡ true → IsFrontier more event.stamp (joined_frontiers event.frontier.latest frontier)
       led_exact led =
           record {
             eight = length-joined event.frontier.latest frontier exact.eight with_a.eight;
@@ -323,6 +327,7 @@ module _ (laws : StampOrderLaws) (apart : AreApart) (at_the_end : AtTheEnd) (pai
       abbrev HasLater : Stamp → Type 0
       HasLater later = (gate : ℕ) × (event : Event) × Contains (events_of raised_chains gate) event × (event.stamp ≡ later)
 
+      -- with the later event in its chain, the chains raised like this are right for the pairs with this one added
       pub raised_keeps : (there : Event) → Contains (events_of chains b.home) there → there.stamp ≡ b → AreChains more (ends_of more) raised_chains
       raised_keeps there has_there is_b =
           record {
@@ -338,7 +343,7 @@ module _ (laws : StampOrderLaws) (apart : AreApart) (at_the_end : AtTheEnd) (pai
                 subst (λ (e : Event). IsFrontier more e.stamp e.frontier.latest) old.2 (subst (λ (s : Stamp). IsFrontier more s (up old.0).frontier.latest) (sym (stamp_stays gate old.0 old.1)) (raised_exact old.0 (are.exact gate old.0 old.1)).1);
             found = λ earlier later has. elim (Contains-push_cases pairs (a, b) (earlier, later) has) [
               | inl old ↦ still_found later (are.found earlier later old)
-              | inr new ↦ still_found later (b.home, there, has_there, is_b ∙ ap (λ (p : Given). p.1) new)
+              | inr new ↦ still_found later (b.home, there, has_there, is_b ∙ ap (λ (p : GivenPair). p.1) new)
             ];
           }
         where
@@ -349,7 +354,7 @@ module _ (laws : StampOrderLaws) (apart : AreApart) (at_the_end : AtTheEnd) (pai
           still_found later (gate, event, has, is) = (gate, up event, has_raised gate event has, stamp_stays gate event has ∙ is)
 
 -- chains with the same events
-pub same_chains : (pairs : List Given) (known : List Stamp) (chains next : List EventChainView) → length next ≡ length chains → ((gate : ℕ) → events_of next gate ≡ events_of chains gate) → AreChains pairs known chains → AreChains pairs known next
+pub same_chains : (pairs : List GivenPair) (known : List Stamp) (chains next : List EventChainView) → length next ≡ length chains → ((gate : ℕ) → events_of next gate ≡ events_of chains gate) → AreChains pairs known chains → AreChains pairs known next
 same_chains pairs known chains next long same are =
     record {
       eight = long ∙ are.eight;
@@ -366,7 +371,7 @@ same_chains pairs known chains next long same are =
     old gate event has = subst (λ (es : List Event). Contains es event) (same gate) has
 
 -- chains without events
-pub no_events : (pairs : List Given) → pairs ≡ [] → (stamps : List Stamp) (chains : List EventChainView) → length chains ≡ 8 → ((gate : ℕ) → events_of chains gate ≡ []) → AreChains pairs stamps chains
+pub no_events : (pairs : List GivenPair) → pairs ≡ [] → (stamps : List Stamp) (chains : List EventChainView) → length chains ≡ 8 → ((gate : ℕ) → events_of chains gate ≡ []) → AreChains pairs stamps chains
 no_events pairs none stamps chains eight empty =
     record {
       eight = eight;
@@ -374,7 +379,7 @@ no_events pairs none stamps chains eight empty =
       homes = λ gate event has. absurd (nothing gate event has);
       known = λ gate event has. absurd (nothing gate event has);
       exact = λ gate event has. absurd (nothing gate event has);
-      found = λ earlier later has. absurd (has_none (earlier, later) (subst (λ (ps : List Given). Contains ps (earlier, later)) none has));
+      found = λ earlier later has. absurd (has_none (earlier, later) (subst (λ (ps : List GivenPair). Contains ps (earlier, later)) none has));
     }
   where
     nothing : (gate : ℕ) (event : Event) → Contains (events_of chains gate) event → ⊥

@@ -26,14 +26,17 @@ module _ (laws : StampOrderLaws) where
         | inr other ↦ at_from laws (slice_index_or events i d).stamp (slice_index_or events j d).stamp (rising i j d (omega (arith, other)) within)
       ]
 
+  -- of a rising chain the events that are at or before a stamp are the first ones
   pub first_are_before : (events : List Event) → IsRisingChain events → (stamp : Stamp) → IsPartitionedBy (λ (event : Event). at_or_before event.stamp stamp) events
   first_are_before events rising stamp i j d le within h =
       at-trans laws (slice_index_or events i d).stamp (slice_index_or events j d).stamp stamp (rising_at events rising i j d le within) h
 
+  -- if the search answers place 0, no event of the chain is at or before the stamp
   pub latest_none : (events : List Event) (stamp : Stamp) (number : ℕ) → IsUntil events stamp number → number ≡ 0 → IsLatestAt events stamp None
   latest_none events stamp number until none event (k, within, here) h =
       both_ways _ (subst (λ (x : Event). at_or_before x.stamp stamp ≡ false) here (until.1 k event (omega arith) within)) h
 
+  -- if it answers a later place of a rising chain, the event below that place is the latest at or before the stamp
   pub latest_some : (events : List Event) → IsRisingChain events → (stamp : Stamp) (number : ℕ) (latest d : Event) → IsUntil events stamp number → 0 < number → number ≤ length events → latest ≡ slice_index_or events (number - 1) d → IsLatestAt events stamp (Some latest)
   latest_some events rising stamp number latest d until some within is =
       let below : number - 1 < length events = omega arith in (
@@ -49,6 +52,7 @@ module _ (laws : StampOrderLaws) where
 
   -- an event put into its place
   module _ (events : List Event) (rising : IsRisingChain events) (event : Event) where
+    -- a rising chain that has an event with the same stamp is, as it is, the chain with the event put in
     pub put_there : (latest : Event) → Contains events latest → latest.stamp ≡ event.stamp → IsPut events event events
     put_there latest has same =
         record { stay = λ other h. h; no_others = λ other h. inl h; there = (latest, has, same); rising = rising }
@@ -118,6 +122,7 @@ module _ (laws : StampOrderLaws) where
             ]
           ]
 
+      -- an event whose stamp isn't there yet, inserted at the place that the search answers, is put into its place
       pub put_in : IsPut events event (insert events number event)
       put_in =
           let long = length-insert events number event within in

@@ -9,7 +9,7 @@ use Rattle.std.proofs.lemmas.Slice.Zip.{length-zip, get_or-zip}
 use Rattle.vector_stamp.specs.declared.clock.Stamp.{Stamp}
 use Rattle.vector_stamp.specs.Order.{stamp_before}
 use Rattle.vector_stamp.specs.Coherence.{AreCoherent}
-use Rattle.order_graph.specs.Frontiers.{at_or_before, later_of, latest_of, joined, reaches, covers, StampOrderLaws}
+use Rattle.order_graph.specs.Frontiers.{at_or_before, later_of, latest_of, joined_frontiers, is_up_to_event, is_up_to_frontier, StampOrderLaws}
 use Rattle.order_graph.proofs.Orders.{AreApart, at_from, at-trans, not_at}
 
 -- each event is of its gatekeeper, and one of these stamps
@@ -22,22 +22,26 @@ pub record IsJoinedBelow (gate : ℕ) (old other new : List (Option Stamp)) : Ty
   pub each : (k : ℕ) → k < gate → latest_of new k ≡ later_of (latest_of old k) (latest_of other k)
   pub rest : (k : ℕ) → gate ≤ k → latest_of new k ≡ latest_of old k
 
-pub length-joined : (xs ys : List (Option Stamp)) → length xs ≡ 8 → length ys ≡ 8 → length (joined xs ys) ≡ 8
+-- two frontiers of eight gatekeepers, joined, are of eight
+pub length-joined : (xs ys : List (Option Stamp)) → length xs ≡ 8 → length ys ≡ 8 → length (joined_frontiers xs ys) ≡ 8
 length-joined xs ys e f = simp (length-map, length-zip, e, f)
 
-pub joined_within : (xs ys : List (Option Stamp)) (k : ℕ) → length xs ≡ 8 → length ys ≡ 8 → k < 8 → latest_of (joined xs ys) k ≡ later_of (latest_of xs k) (latest_of ys k)
+-- of each of the eight gatekeepers the joined frontier has the later one of the two events
+pub joined_within : (xs ys : List (Option Stamp)) (k : ℕ) → length xs ≡ 8 → length ys ≡ 8 → k < 8 → latest_of (joined_frontiers xs ys) k ≡ later_of (latest_of xs k) (latest_of ys k)
 joined_within xs ys k e f below =
     get_or-map (λ (pair : Option Stamp × Option Stamp). later_of pair.0 pair.1) (zip xs ys) k (None, None) None (omega (arith, length-zip xs ys))
     ∙ ap (λ (pair : Option Stamp × Option Stamp). later_of pair.0 pair.1) (get_or-zip xs ys k (None, None) (omega arith) (omega arith))
 
-pub joined_at : (xs ys : List (Option Stamp)) (k : ℕ) → length xs ≡ 8 → length ys ≡ 8 → latest_of (joined xs ys) k ≡ later_of (latest_of xs k) (latest_of ys k)
+-- the same of any number, also past the eighth gatekeeper
+pub joined_at : (xs ys : List (Option Stamp)) (k : ℕ) → length xs ≡ 8 → length ys ≡ 8 → latest_of (joined_frontiers xs ys) k ≡ later_of (latest_of xs k) (latest_of ys k)
 joined_at xs ys k e f =
     elim (cases_lt k 8) [
       | inl below ↦ joined_within xs ys k e f below
       | inr past ↦
-          rw (get_or_past (joined xs ys) k None (let long = length-joined xs ys e f in omega arith), get_or_past xs k None (omega arith), get_or_past ys k None (omega arith)) refl
+          rw (get_or_past (joined_frontiers xs ys) k None (let long = length-joined xs ys e f in omega arith), get_or_past xs k None (omega arith), get_or_past ys k None (omega arith)) refl
     ]
 
+-- joined below a gatekeeper, and then with the later event put in at it, a frontier is joined below the next one
 pub joined_more : (old other new : List (Option Stamp)) (gate : ℕ) (next : Option Stamp) → gate < 8 → next ≡ later_of (latest_of new gate) (latest_of other gate) → IsJoinedBelow gate old other new → IsJoinedBelow (gate + 1) old other (slice_set new gate next)
 joined_more old other new gate next below is so_far =
     record {
@@ -49,23 +53,25 @@ joined_more old other new gate next below is so_far =
       rest = λ k after. get_or-set_other new gate k next None (λ same. omega (arith, same)) ∙ so_far.rest k (omega arith);
     }
 
-pub joined_all : (old other new : List (Option Stamp)) (gate : ℕ) → length old ≡ 8 → length other ≡ 8 → 8 ≤ gate → IsJoinedBelow gate old other new → new ≡ joined old other
+-- a frontier that is joined below all eight gatekeepers is the join of the two
+pub joined_all : (old other new : List (Option Stamp)) (gate : ℕ) → length old ≡ 8 → length other ≡ 8 → 8 ≤ gate → IsJoinedBelow gate old other new → new ≡ joined_frontiers old other
 joined_all old other new gate e f all so_far =
-    same_lists new (joined old other) (so_far.eight ∙ sym (length-joined old other e f)) (λ k d within.
+    same_lists new (joined_frontiers old other) (so_far.eight ∙ sym (length-joined old other e f)) (λ k d within.
     let below : k < 8 = omega (arith, so_far.eight) in
-    get_or_default new k d None within ∙ so_far.each k (omega arith) ∙ sym (joined_within old other k e f below) ∙ get_or_default (joined old other) k None d (omega (arith, length-joined old other e f)))
+    get_or_default new k d None within ∙ so_far.each k (omega arith) ∙ sym (joined_within old other k e f below) ∙ get_or_default (joined_frontiers old other) k None d (omega (arith, length-joined old other e f)))
 
 -- what a frontier covers
-pub covers_at : (frontier : List (Option Stamp)) (stamp : Stamp) (gate : ℕ) (latest : Stamp) → latest_of frontier gate ≡ Some latest → IsTrue (at_or_before stamp latest) → IsTrue (covers frontier stamp)
+pub covers_at : (frontier : List (Option Stamp)) (stamp : Stamp) (gate : ℕ) (latest : Stamp) → latest_of frontier gate ≡ Some latest → IsTrue (at_or_before stamp latest) → IsTrue (is_up_to_frontier frontier stamp)
 covers_at [] stamp gate latest is h = absurd (none-some latest is)
-covers_at (one ∷ others) stamp zero latest is h = or_left (reaches stamp one) _ (subst (λ o. IsTrue (reaches stamp o)) (sym is) h)
-covers_at (one ∷ others) stamp (suc gate) latest is h = or_right (reaches stamp one) _ (covers_at others stamp gate latest is h)
+covers_at (one ∷ others) stamp zero latest is h = or_left (is_up_to_event stamp one) _ (subst (λ o. IsTrue (is_up_to_event stamp o)) (sym is) h)
+covers_at (one ∷ others) stamp (suc gate) latest is h = or_right (is_up_to_event stamp one) _ (covers_at others stamp gate latest is h)
 
 -- an event by which a stamp is covered
 abbrev pub CoveredBy : List (Option Stamp) → Stamp → Type 0
 CoveredBy frontier stamp = (gate : ℕ) × (latest : Stamp) × (latest_of frontier gate ≡ Some latest) × IsTrue (at_or_before stamp latest)
 
-pub covered : (frontier : List (Option Stamp)) (stamp : Stamp) → IsTrue (covers frontier stamp) → CoveredBy frontier stamp
+-- what a frontier covers is at or before the event of some gatekeeper in it
+pub covered : (frontier : List (Option Stamp)) (stamp : Stamp) → IsTrue (is_up_to_frontier frontier stamp) → CoveredBy frontier stamp
 covered [] stamp h = absurd (cc)
 covered (None ∷ others) stamp h = let rest = covered others stamp h in (suc rest.0, rest.1, rest.2, rest.3)
 covered (Some one ∷ others) stamp h =
@@ -111,18 +117,21 @@ module _ (laws : StampOrderLaws) where
 
   -- two frontiers, each event of its gatekeeper and of coherent stamps
   module _ (apart : AreApart) (stamps : List Stamp) (all : AreCoherent stamps) (xs ys : List (Option Stamp)) (eight : length xs ≡ 8) (eight' : length ys ≡ 8) where
-    pub joined_reads : (gate : ℕ) (latest : Stamp) → latest_of (joined xs ys) gate ≡ Some latest → (latest_of xs gate ≡ Some latest) ⊎ (latest_of ys gate ≡ Some latest)
+    -- an event of the joined frontier is one of the first or of the second
+    pub joined_reads : (gate : ℕ) (latest : Stamp) → latest_of (joined_frontiers xs ys) gate ≡ Some latest → (latest_of xs gate ≡ Some latest) ⊎ (latest_of ys gate ≡ Some latest)
     joined_reads gate latest is = later_is (latest_of xs gate) (latest_of ys gate) latest (sym (joined_at xs ys gate eight eight') ∙ is)
 
-    reached_joined : (gate : ℕ) (stamp : Stamp) → Reached (later_of (latest_of xs gate) (latest_of ys gate)) stamp → IsTrue (covers (joined xs ys) stamp)
-    reached_joined gate stamp (other, is, h) = covers_at (joined xs ys) stamp gate other (joined_at xs ys gate eight eight' ∙ is) h
+    reached_joined : (gate : ℕ) (stamp : Stamp) → Reached (later_of (latest_of xs gate) (latest_of ys gate)) stamp → IsTrue (is_up_to_frontier (joined_frontiers xs ys) stamp)
+    reached_joined gate stamp (other, is, h) = covers_at (joined_frontiers xs ys) stamp gate other (joined_at xs ys gate eight eight' ∙ is) h
 
-    pub covered_left : (stamp : Stamp) → IsTrue (covers xs stamp) → IsTrue (covers (joined xs ys) stamp)
+    -- what the first frontier covers, the joined one covers
+    pub covered_left : (stamp : Stamp) → IsTrue (is_up_to_frontier xs stamp) → IsTrue (is_up_to_frontier (joined_frontiers xs ys) stamp)
     covered_left stamp h =
         let by : CoveredBy xs stamp = covered xs stamp h in
         reached_joined by.0 stamp (later_left (latest_of xs by.0) (latest_of ys by.0) stamp by.1 by.2 by.3)
 
-    pub covered_right : AreOwn stamps xs → AreOwn stamps ys → (stamp : Stamp) → IsTrue (covers ys stamp) → IsTrue (covers (joined xs ys) stamp)
+    -- and what the second one covers, if the events of both are of their gatekeepers and among the coherent stamps
+    pub covered_right : AreOwn stamps xs → AreOwn stamps ys → (stamp : Stamp) → IsTrue (is_up_to_frontier ys stamp) → IsTrue (is_up_to_frontier (joined_frontiers xs ys) stamp)
     covered_right own own' stamp h =
         let by : CoveredBy ys stamp = covered ys stamp h in
         reached_joined by.0 stamp (later_right (latest_of xs by.0) (latest_of ys by.0) stamp by.1 (λ x y is is' not_before.

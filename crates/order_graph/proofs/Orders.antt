@@ -12,15 +12,19 @@ abbrev pub AreApart : Type 0
 AreApart = (stamps : List Stamp) (a b : Stamp) → AreCoherent stamps → Contains stamps a → Contains stamps b → (a ≡ b → ⊥) → IsTrue (are_apart a b)
 
 module _ (laws : StampOrderLaws) where
+  -- each stamp is at or before itself
   pub at_itself : (a : Stamp) → IsTrue (at_or_before a a)
   at_itself a = or_left _ _ (laws.same_itself a)
 
+  -- a stamp that is before another is at or before it
   pub at_from : (a b : Stamp) → IsTrue (stamp_before a b) → IsTrue (at_or_before a b)
   at_from a b h = or_right (same_stamp a b) _ h
 
+  -- a stamp that is at or before another equals it or is before it
   pub at_cases : (a b : Stamp) → IsTrue (at_or_before a b) → (a ≡ b) ⊎ IsTrue (stamp_before a b)
   at_cases a b h = elim (or_cases (same_stamp a b) _ h) [ inl same ↦ inl (laws.same_is a b same) | inr before ↦ inr before ]
 
+  -- a stamp at or before one that is before a third is before the third
   pub at_then : (a b c : Stamp) → IsTrue (at_or_before a b) → IsTrue (stamp_before b c) → IsTrue (stamp_before a c)
   at_then a b c g h =
       elim (at_cases a b g) [
@@ -28,6 +32,7 @@ module _ (laws : StampOrderLaws) where
         | inr before ↦ laws.before-trans a b c before h
       ]
 
+  -- a stamp before one that is at or before a third is before the third
   pub then_at : (a b c : Stamp) → IsTrue (stamp_before a b) → IsTrue (at_or_before b c) → IsTrue (stamp_before a c)
   then_at a b c g h =
       elim (at_cases b c h) [
@@ -35,6 +40,7 @@ module _ (laws : StampOrderLaws) where
         | inr before ↦ laws.before-trans a b c g before
       ]
 
+  -- a stamp at or before one that is at or before a third is at or before the third
   pub at-trans : (a b c : Stamp) → IsTrue (at_or_before a b) → IsTrue (at_or_before b c) → IsTrue (at_or_before a c)
   at-trans a b c g h =
       elim (at_cases b c h) [
@@ -42,7 +48,7 @@ module _ (laws : StampOrderLaws) where
         | inr before ↦ at_from a c (at_then a b c g before)
       ]
 
-  -- of two coherent stamps of one gatekeeper, that are not in this order
+  -- of two coherent stamps of one gatekeeper, if the first is not at or before the second, the second is before it
   pub not_at : AreApart → (stamps : List Stamp) → AreCoherent stamps → (a b : Stamp) → Contains stamps a → Contains stamps b → a.home ≡ b.home → at_or_before a b ≡ false → IsTrue (stamp_before b a)
   not_at apart stamps all a b in_a in_b home fails =
       let two : IsTrue (are_apart a b) = apart stamps a b all in_a in_b (λ same. both_ways _ fails (subst (λ x. IsTrue (at_or_before a x)) same (at_itself a))) in

@@ -4,7 +4,7 @@ use Rattle.std.proofs.Common.{◌≡◌, List, [], ◌∷◌, ◌++◌, Contains
 use Rattle.std.proofs.lemmas.List.Elements.{Contains-append_cases}
 use Rattle.vector_stamp.specs.declared.clock.Stamp.{Stamp}
 use Rattle.vector_stamp.specs.Coherence.{AreCoherent}
-use Rattle.vector_stamp.specs.Precedence.{Given, JoinsEvents}
+use Rattle.vector_stamp.specs.Precedence.{GivenPair, JoinsEvents}
 use Rattle.order_graph.specs.Building.{ends_of}
 use Rattle.weave_data.proofs.Members.{has_read, has_head, has_tail, has_none}
 
@@ -12,25 +12,27 @@ use Rattle.weave_data.proofs.Members.{has_read, has_head, has_tail, has_none}
 abbrev pub PartsAreCoherent : Type 0
 PartsAreCoherent = (stamps others : List Stamp) → AreCoherent others → ((stamp : Stamp) → Contains stamps stamp → Contains others stamp) → AreCoherent stamps
 
-pub ends-append : (pairs others : List Given) → ends_of (pairs ++ others) ≡ ends_of pairs ++ ends_of others
+-- the stamps of two lists of pairs, one after the other, are those of the first and then those of the second
+pub ends-append : (pairs others : List GivenPair) → ends_of (pairs ++ others) ≡ ends_of pairs ++ ends_of others
 ends-append [] others = refl
 ends-append (pair ∷ pairs) others = ap (λ (stamps : List Stamp). pair.0 ∷ pair.1 ∷ stamps) (ends-append pairs others)
 
-pub ends_joined : (pairs : List Given) → JoinsEvents (ends_of pairs) pairs
+-- both stamps of each pair are among the stamps of the pairs
+pub ends_joined : (pairs : List GivenPair) → JoinsEvents (ends_of pairs) pairs
 ends_joined [] a b h = absurd (has_none (a, b) h)
 ends_joined (pair ∷ pairs) a b h =
     elim (has_read pair pairs (a, b) h) [
-      | inl here ↦ subst (λ (p : Given). Contains (pair.0 ∷ pair.1 ∷ ends_of pairs) p.0 × Contains (pair.0 ∷ pair.1 ∷ ends_of pairs) p.1) here (has_head pair.0 (pair.1 ∷ ends_of pairs), has_tail pair.0 (pair.1 ∷ ends_of pairs) pair.1 (has_head pair.1 (ends_of pairs)))
+      | inl here ↦ subst (λ (p : GivenPair). Contains (pair.0 ∷ pair.1 ∷ ends_of pairs) p.0 × Contains (pair.0 ∷ pair.1 ∷ ends_of pairs) p.1) here (has_head pair.0 (pair.1 ∷ ends_of pairs), has_tail pair.0 (pair.1 ∷ ends_of pairs) pair.1 (has_head pair.1 (ends_of pairs)))
       | inr there ↦
           let rest = ends_joined pairs a b there in
           (two_more pair a rest.0, two_more pair b rest.1)
     ]
   where
-    two_more : (pair : Given) (x : Stamp) → Contains (ends_of pairs) x → Contains (pair.0 ∷ pair.1 ∷ ends_of pairs) x
+    two_more : (pair : GivenPair) (x : Stamp) → Contains (ends_of pairs) x → Contains (pair.0 ∷ pair.1 ∷ ends_of pairs) x
     two_more pair x has = has_tail pair.0 (pair.1 ∷ ends_of pairs) x (has_tail pair.1 (ends_of pairs) x has)
 
 -- a stamp of a pair is one of its two
-pub ends_read : (pairs : List Given) (stamp : Stamp) → Contains (ends_of pairs) stamp → (pair : Given) × Contains pairs pair × ((pair.0 ≡ stamp) ⊎ (pair.1 ≡ stamp))
+pub ends_read : (pairs : List GivenPair) (stamp : Stamp) → Contains (ends_of pairs) stamp → (pair : GivenPair) × Contains pairs pair × ((pair.0 ≡ stamp) ⊎ (pair.1 ≡ stamp))
 ends_read [] stamp h = absurd (has_none stamp h)
 ends_read (pair ∷ pairs) stamp h =
     elim (has_read pair.0 (pair.1 ∷ ends_of pairs) stamp h) [
@@ -42,7 +44,7 @@ ends_read (pair ∷ pairs) stamp h =
     ]
 
 -- two stamps and those of the pairs, if all are among others
-pub two_and_ends : PartsAreCoherent → (a b : Stamp) (pairs : List Given) (others : List Stamp) → AreCoherent others → Contains others a → Contains others b → ((stamp : Stamp) → Contains (ends_of pairs) stamp → Contains others stamp) → AreCoherent (a ∷ b ∷ ends_of pairs)
+pub two_and_ends : PartsAreCoherent → (a b : Stamp) (pairs : List GivenPair) (others : List Stamp) → AreCoherent others → Contains others a → Contains others b → ((stamp : Stamp) → Contains (ends_of pairs) stamp → Contains others stamp) → AreCoherent (a ∷ b ∷ ends_of pairs)
 two_and_ends part a b pairs others all in_a in_b among =
     part (a ∷ b ∷ ends_of pairs) others all there
   where
@@ -56,8 +58,8 @@ two_and_ends part a b pairs others all in_a in_b among =
           ]
         ]
 
--- this still holds with a pair of such stamps
-pub ends_among-push : (a b : Stamp) (pairs : List Given) (others : List Stamp) → Contains others a → Contains others b → ((stamp : Stamp) → Contains (ends_of pairs) stamp → Contains others stamp) → (stamp : Stamp) → Contains (ends_of (pairs ++ (a, b) ∷ [])) stamp → Contains others stamp
+-- if the stamps of pairs are among others, so are those with one more pair, whose two stamps are among the others too
+pub ends_among-push : (a b : Stamp) (pairs : List GivenPair) (others : List Stamp) → Contains others a → Contains others b → ((stamp : Stamp) → Contains (ends_of pairs) stamp → Contains others stamp) → (stamp : Stamp) → Contains (ends_of (pairs ++ (a, b) ∷ [])) stamp → Contains others stamp
 ends_among-push a b pairs others in_a in_b among stamp h =
     elim (Contains-append_cases (ends_of pairs) (a ∷ b ∷ []) stamp (subst (λ (stamps : List Stamp). Contains stamps stamp) (ends-append pairs ((a, b) ∷ [])) h)) [
       | inl before ↦ among stamp before

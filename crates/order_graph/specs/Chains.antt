@@ -1,10 +1,11 @@
 -- The chains of the graph: of each gatekeeper the later events of pairs. No public contract cites it.
 use Rattle.std.specs.Prelude.{◌≡◌, ℕ, ◌<◌, ◌≤◌, Bool, ◌||◌, ◌&&◌, not, List, [], map, length, slice_index_or, Option, Some, None, IsTrue, Contains, ◌⊎◌, if◌then◌else◌}
+use Rattle.weave_data.specs.Limits.{most_gates}
 use Rattle.vector_stamp.specs.declared.clock.Stamp.{Stamp}
 use Rattle.vector_stamp.specs.Order.{stamp_before}
-use Rattle.vector_stamp.specs.Precedence.{Given}
+use Rattle.vector_stamp.specs.Precedence.{GivenPair}
 use Rattle.order_graph.specs.declared.chain.Event.{Event}
-use Rattle.order_graph.specs.Frontiers.{at_or_before, covers, joined, IsFrontier}
+use Rattle.order_graph.specs.Frontiers.{at_or_before, is_up_to_frontier, joined_frontiers, IsFrontier}
 
 -- the events of one gatekeeper, and for how many more there is memory
 pub record EventChainView : Type 0 where
@@ -45,15 +46,16 @@ pub record IsPut (old : List Event) (event : Event) (new : List Event) : Type 0 
 
 -- the stamp is the event's or precedes the event, as its frontier shows
 abbrev pub leads_to : Stamp → Event → Bool
-leads_to stamp event = at_or_before stamp event.stamp || covers event.frontier.latest stamp
+leads_to stamp event = at_or_before stamp event.stamp || is_up_to_frontier event.frontier.latest stamp
 
 -- the event with the events of one more frontier before it
 abbrev pub joined_event : List (Option Stamp) → Event → Event
-joined_event latest event = record event { frontier = record { latest = joined event.frontier.latest latest } }
+joined_event latest event =
+    record event { frontier = record { latest = joined_frontiers event.frontier.latest latest } }
 
 -- the same, if a later stamp leads to it and an earlier one does not yet
-abbrev pub raised : Stamp → Stamp → List (Option Stamp) → Event → Event
-raised earlier later latest event =
+abbrev pub raised_event : Stamp → Stamp → List (Option Stamp) → Event → Event
+raised_event earlier later latest event =
     if leads_to later event && not (leads_to earlier event)
     then joined_event latest event
     else event
@@ -65,8 +67,8 @@ IsLedOn stamp events = (i j : ℕ) (d : Event) → i ≤ j → j < length events
 
 -- Chains of eight gatekeepers hold the later events of the pairs: each in its gatekeeper's chain, whose stamps rise,
 -- with a frontier of it. Their stamps are among these.
-pub record AreChains (pairs : List Given) (stamps : List Stamp) (chains : List EventChainView) : Type 0 where
-  pub eight : length chains ≡ 8
+pub record AreChains (pairs : List GivenPair) (stamps : List Stamp) (chains : List EventChainView) : Type 0 where
+  pub eight : length chains ≡ most_gates
   pub rising : (gate : ℕ) → IsRisingChain (events_of chains gate)
   pub homes : (gate : ℕ) (event : Event) → Contains (events_of chains gate) event → event.stamp.home ≡ gate
   pub known : (gate : ℕ) (event : Event) → Contains (events_of chains gate) event → Contains stamps event.stamp
@@ -77,8 +79,8 @@ pub record AreChains (pairs : List Given) (stamps : List Stamp) (chains : List E
 
 -- each event of a chain raised
 abbrev pub raised_chain : Stamp → Stamp → List (Option Stamp) → EventChainView → EventChainView
-raised_chain earlier later latest chain = record chain { events = map (raised earlier later latest) chain.events }
+raised_chain earlier later latest chain = record chain { events = map (raised_event earlier later latest) chain.events }
 
 -- each of the eight chains has memory for that many more events
 abbrev pub HasRoom : ℕ → List EventChainView → Type 0
-HasRoom spare chains = (gate : ℕ) → gate < 8 → spare ≤ room_of chains gate
+HasRoom spare chains = (gate : ℕ) → gate < most_gates → spare ≤ room_of chains gate

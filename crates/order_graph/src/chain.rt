@@ -4,7 +4,7 @@ ghost use Rattle.std.specs.List.Sorted.{IsPartitionPoint};
 ghost use Rattle.vector_stamp.specs.Order.{stamp_before};
 ghost use Rattle.order_graph.specs.declared.chain.Event.{Event};
 ghost use Rattle.order_graph.specs.Frontiers.{at_or_before};
-ghost use Rattle.order_graph.specs.Chains.{IsRisingChain, IsLatestAt, IsLedOn, IsPut, leads_to, raised, raised_chain};
+ghost use Rattle.order_graph.specs.Chains.{IsRisingChain, IsLatestAt, IsLedOn, IsPut, leads_to, raised_event, raised_chain};
 
 use crate::frontier::{Frontier, is_at_or_before, stamps_keep_the_laws};
 use std::alloc::{AllocError, Global};
@@ -131,7 +131,7 @@ fn first_led(events: &[Event], stamp: &Stamp) -> usize
 fn raise_events(events: &mut [Event], earlier: &Stamp, later: &Stamp, frontier: &Frontier)
     requires earlier { IsLedOn earlier.now events.old }
     requires later { IsLedOn later.now events.old }
-    ensures { events.new ≡ map (raised earlier.now later.now frontier.now.latest) events.old }
+    ensures { events.new ≡ map (raised_event earlier.now later.now frontier.now.latest) events.old }
 {
     let from = first_led(events, later);
     for place in from..events.len() {

@@ -1,9 +1,10 @@
 //! For an event, of each gatekeeper an event that precedes it.
 ghost use Rattle.std.specs.Prelude.{◌≡◌, ◌<◌, Some, length, slice_set};
-ghost use Rattle.order_graph.specs.Frontiers.{StampOrderLaws, at_or_before, later_of, empty_frontier, joined, reaches, covers};
+ghost use Rattle.weave_data.specs.Limits.{most_gates};
+ghost use Rattle.order_graph.specs.Frontiers.{StampOrderLaws, at_or_before, later_of, empty_frontier, joined_frontiers, is_up_to_event, is_up_to_frontier};
 
-use vector_stamp::Stamp;
 use vector_stamp::laws::{equality_is_decided, stamps_are_ordered};
+use vector_stamp::{COUNTS, Stamp};
 
 // What proofs take as a premise.
 pub(crate) fn stamps_keep_the_laws()
@@ -16,7 +17,7 @@ pub(crate) fn stamps_keep_the_laws()
 /// For each of eight gatekeepers one of its events, or none.
 #[derive(Clone, Copy)]
 pub(crate) struct Frontier {
-    pub(crate) latest: [Option<Stamp>; 8],
+    pub(crate) latest: [Option<Stamp>; COUNTS],
 }
 
 impl Frontier {
@@ -24,12 +25,14 @@ impl Frontier {
     pub(crate) fn empty() -> Frontier
         ensures { result.latest ≡ empty_frontier }
     {
-        Frontier { latest: [None; 8] }
+        Frontier {
+            latest: [None; COUNTS],
+        }
     }
 
     /// This event alone.
     pub(crate) fn of(stamp: &Stamp) -> Frontier
-        requires { stamp.now.home < 8 }
+        requires { stamp.now.home < most_gates }
         ensures { result.latest ≡ slice_set empty_frontier stamp.now.home (Some stamp.now) }
     {
         let mut frontier = Frontier::empty();
@@ -39,14 +42,14 @@ impl Frontier {
 
     /// Whether the stamp is, or is before, one of the events.
     pub(crate) fn covers(&self, stamp: &Stamp) -> bool
-        ensures { result ≡ covers self.now.latest stamp.now }
+        ensures { result ≡ is_up_to_frontier self.now.latest stamp.now }
     {
         self.latest.iter().any(|latest| reaches(stamp, latest))
     }
 
     /// Takes the later of the two events of each gatekeeper.
     pub(crate) fn join(&mut self, other: &Frontier)
-        ensures { self.new.latest ≡ joined self.old.latest other.now.latest }
+        ensures { self.new.latest ≡ joined_frontiers self.old.latest other.now.latest }
     {
         for gate in 0..8 {
             self.latest[gate] = later_of(self.latest[gate], other.latest[gate]);
@@ -65,7 +68,7 @@ fn later_of(a: Option<Stamp>, b: Option<Stamp>) -> Option<Stamp>
 }
 
 fn reaches(stamp: &Stamp, latest: &Option<Stamp>) -> bool
-    ensures { result ≡ reaches stamp.now latest.now }
+    ensures { result ≡ is_up_to_event stamp.now latest.now }
 {
     match latest {
         Some(latest) => is_at_or_before(stamp, latest),

@@ -1,8 +1,9 @@
 //! The pairs, and for each of their later events a frontier.
 ghost use Rattle.std.specs.Prelude.{◌≡◌, ◌≢◌, ◌<◌, ◌≤◌, ◌+◌, ◌||◌, ℕ, [], ◌∷◌, ◌++◌, List, map, length, Contains, IsTrue, IfOk, IsOk, OnOk, OnErr};
+ghost use Rattle.weave_data.specs.Limits.{most_gates};
 ghost use Rattle.vector_stamp.specs.Order.{stamp_before};
 ghost use Rattle.vector_stamp.specs.Coherence.{AreCoherent};
-ghost use Rattle.vector_stamp.specs.Precedence.{Given, precedes, IsAcyclic};
+ghost use Rattle.vector_stamp.specs.Precedence.{GivenPair, precedes, IsAcyclic};
 ghost use Rattle.order_graph.specs.declared.chain.Event.{Event};
 ghost use Rattle.order_graph.specs.Building.{ends_of, MayAdd};
 ghost use Rattle.order_graph.specs.Frontiers.{at_or_before, IsFrontier};
@@ -12,11 +13,11 @@ use crate::chain::{Chain, Event};
 use crate::frontier::{Frontier, stamps_keep_the_laws};
 use std::alloc::{AllocError, Global};
 use std::marker::Model;
-use vector_stamp::Stamp;
 use vector_stamp::laws::{
     coherence_is_decided, more_pairs_more_precedence, no_cycle_arises,
     parts_and_unions_are_coherent, precedence_is_decided,
 };
+use vector_stamp::{COUNTS, Stamp};
 
 /// Pairs of an earlier and a later event, seen by contracts as their list, in the order in which they were added, and
 /// the number of pairs for which there is memory.
@@ -26,7 +27,7 @@ use vector_stamp::laws::{
 #[derive(Drop)]
 pub struct OrderGraph {
     pairs: Vec<(Stamp, Stamp)>,
-    chains: [Chain; 8],
+    chains: [Chain; COUNTS],
     spare: usize,
 }
 
@@ -128,8 +129,8 @@ impl OrderGraph {
 }
 
 // A frontier of any event.
-fn frontier_of(chains: &[Chain; 8], event: &Stamp) -> Frontier
-    ensures { (pairs : List Given) → AreChains pairs (ends_of pairs) chains.now
+fn frontier_of(chains: &[Chain; COUNTS], event: &Stamp) -> Frontier
+    ensures { (pairs : List GivenPair) → AreChains pairs (ends_of pairs) chains.now
         → AreCoherent (event.now ∷ ends_of pairs)
         → IsFrontier pairs event.now result.latest }
 {
@@ -145,8 +146,8 @@ fn frontier_of(chains: &[Chain; 8], event: &Stamp) -> Frontier
     frontier
 }
 
-fn no_chains(alloc: Global) -> [Chain; 8]
-    ensures eight { length result ≡ 8 }
+fn no_chains(alloc: Global) -> [Chain; COUNTS]
+    ensures eight { length result ≡ most_gates }
     ensures empty { (gate : ℕ) → events_of result gate ≡ [] }
 {
     [
@@ -161,7 +162,7 @@ fn no_chains(alloc: Global) -> [Chain; 8]
     ]
 }
 
-fn reserve_all(chains: &mut [Chain; 8], events: usize) -> Result<(), AllocError>
+fn reserve_all(chains: &mut [Chain; COUNTS], events: usize) -> Result<(), AllocError>
     ensures eight { length chains.new ≡ length chains.old }
     ensures room { OnOk result ((gate : ℕ) → gate < length chains.old → events ≤ room_of chains.new gate) }
     ensures never_less { (gate : ℕ) → room_of chains.old gate ≤ room_of chains.new gate }
@@ -174,8 +175,8 @@ fn reserve_all(chains: &mut [Chain; 8], events: usize) -> Result<(), AllocError>
 }
 
 // Puts the event into the chain of its gatekeeper.
-fn put_event(chains: &mut [Chain; 8], event: Event) -> Result<(), AllocError>
-    requires home { event.stamp.home < 8 }
+fn put_event(chains: &mut [Chain; COUNTS], event: Event) -> Result<(), AllocError>
+    requires home { event.stamp.home < most_gates }
     requires rising { IsRisingChain (events_of chains.old event.stamp.home) }
     requires in_turn { (other : Event) → Contains (events_of chains.old event.stamp.home) other
         → IsTrue (at_or_before other.stamp event.stamp || stamp_before event.stamp other.stamp) }
@@ -192,7 +193,7 @@ fn put_event(chains: &mut [Chain; 8], event: Event) -> Result<(), AllocError>
     chains[home].put(event)
 }
 
-fn raise_all(chains: &mut [Chain; 8], earlier: &Stamp, later: &Stamp, frontier: &Frontier)
+fn raise_all(chains: &mut [Chain; COUNTS], earlier: &Stamp, later: &Stamp, frontier: &Frontier)
     requires earlier { (gate : ℕ) → IsLedOn earlier.now (events_of chains.old gate) }
     requires later { (gate : ℕ) → IsLedOn later.now (events_of chains.old gate) }
     ensures { chains.new ≡ map (raised_chain earlier.now later.now frontier.now.latest) chains.old }

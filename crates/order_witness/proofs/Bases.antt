@@ -5,6 +5,7 @@ use Rattle.std.specs.Prelude.{slice_get}
 use Rattle.std.proofs.lemmas.Bool.{cases_eq, ne_eqb, eq-eqb}
 use Rattle.report_rules.specs.Lookups.{is_some_and}
 
+-- or with false leaves a truth value as it is
 pub or_false : (a : Bool) → (a || false) ≡ a
 or_false true = refl
 or_false false = refl
@@ -44,6 +45,7 @@ adds false true y b p h = ap (λ z. y || z) (sym (and_true b p h))
     and_true false p h = refl
 adds false false y b p h = refl
 
+-- what fails its test adds nothing
 pub adds_none : (x a y b p : Bool) → p ≡ false → (x || (a && y)) ≡ (x || (a && (y || (b && p))))
 adds_none true a y b p h = refl
 adds_none false true y true p h = sym (ap (λ z. y || z) h ∙ or_false y)

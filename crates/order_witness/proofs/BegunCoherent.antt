@@ -19,7 +19,7 @@ use Rattle.report_rules.specs.RightReport.{replies_clause}
 use Rattle.report_rules.specs.Lookups.{is_none_or, stamp_at, given_by}
 use Rattle.order_graph.specs.Building.{ends_of, EndsRead}
 use Rattle.order_graph.proofs.Stamps.{PartsAreCoherent}
-use Rattle.order_witness.specs.Paired.{begun_stamps}
+use Rattle.order_witness.specs.PairPrecedence.{stamps_of_replies}
 use Rattle.order_witness.proofs.BegunLaws.{given_joined}
 use Rattle.order_witness.proofs.Replying.{apart_so}
 use Rattle.order_witness.proofs.RisingSteps.{reply_there}
@@ -35,11 +35,13 @@ module _ {A B : Type 0} (f : A → Option B) where
   still_there None rest y h = h
   still_there (Some z) rest y h = has_tail z rest y h
 
+  -- what a filter makes of an element at some place is among what it leaves
   pub left_at : (xs : List A) (n : ℕ) (x : A) (y : B) → slice_get xs n ≡ Some x → f x ≡ Some y → Contains (filter_map f xs) y
   left_at [] n x y at is = absurd (cc)
   left_at (z ∷ xs) zero x y at is = put_front (f z) (filter_map f xs) y (ap f (let e : z ≡ x = cc in e) ∙ is)
   left_at (z ∷ xs) (suc n) x y at is = still_there (f z) (filter_map f xs) y (left_at xs n x y at is)
 
+  -- and all that it leaves is made of an element at some place
   pub left_read : (xs : List A) (y : B) → Contains (filter_map f xs) y → (n : ℕ) × (x : A) × (slice_get xs n ≡ Some x) × (f x ≡ Some y)
   left_read [] y h = absurd (has_none y h)
   left_read (z ∷ xs) y h = of_one (f z) refl (left_read xs y) h
@@ -101,12 +103,13 @@ same_count s t same h =
     ]
 
 module _ (report : Report) where
-  pub begun_at : (r : ℕ) (s : Stamp) → stamp_at report r ≡ Some s → Contains (begun_stamps report) s
+  -- the stamp of a begun request is among the stamps of the replies
+  pub begun_at : (r : ℕ) (s : Stamp) → stamp_at report r ≡ Some s → Contains (stamps_of_replies report) s
   begun_at r s at =
       let reply = reply_there report.replies r s at in
       left_at (λ (one : Reply). one.stamp) report.replies r reply.0 s reply.1 reply.2
 
-  begun_read : (s : Stamp) → Contains (begun_stamps report) s → (r : ℕ) × (stamp_at report r ≡ Some s)
+  begun_read : (s : Stamp) → Contains (stamps_of_replies report) s → (r : ℕ) × (stamp_at report r ≡ Some s)
   begun_read s h =
       let found = left_read (λ (one : Reply). one.stamp) report.replies s h in
       (found.0, ap (option_and_then (λ (one : Reply). one.stamp)) found.2 ∙ found.3)
@@ -140,7 +143,8 @@ module _ (report : Report) where
     one_stamp_of : (a b : ℕ) (s t : Stamp) → stamp_at report a ≡ Some s → stamp_at report b ≡ Some t → a ≡ b → s ≡ t
     one_stamp_of a b s t at_a at_b same = let e : Some s ≡ Some t = sym at_a ∙ ap (stamp_at report) same ∙ at_b in cc
 
-    pub are_coherent : IsTrue (list_all (λ (reply : Reply). is_none_or (λ stamp. nat_lt stamp.home 8) reply.stamp) report.replies) → AreCoherent (begun_stamps report)
+    -- if the clause on replies holds and each home is below 8, the stamps of the begun requests are coherent
+    pub are_coherent : IsTrue (list_all (λ (reply : Reply). is_none_or (λ stamp. nat_lt stamp.home 8) reply.stamp) report.replies) → AreCoherent (stamps_of_replies report)
     are_coherent below = record {
       homes = λ a in_a. homes_below report.replies below a in_a;
       one_of_id = λ a b in_a in_b same.
@@ -167,23 +171,23 @@ module _ (report : Report) where
 
 module _ (report : Report) where
   -- the stamps of given pairs are those of begun requests
-  pub ends_begun : EndsRead → (pairs : List Pair) (stamp : Stamp) → Contains (ends_of (filter_map (λ (pair : Pair). given_by (stamp_at report pair.earlier) (stamp_at report pair.later)) pairs)) stamp → Contains (begun_stamps report) stamp
+  pub ends_begun : EndsRead → (pairs : List Pair) (stamp : Stamp) → Contains (ends_of (filter_map (λ (pair : Pair). given_by (stamp_at report pair.earlier) (stamp_at report pair.later)) pairs)) stamp → Contains (stamps_of_replies report) stamp
   ends_begun read pairs stamp h =
       let found = read (filter_map (λ (pair : Pair). given_by (stamp_at report pair.earlier) (stamp_at report pair.later)) pairs) stamp h in
       let ends = given_joined report pairs found.0.0 found.0.1 found.1 in
       elim found.2 [
-        | inl first ↦ subst (Contains (begun_stamps report)) first (begun_at report ends.earlier found.0.0 ends.earlier_is)
-        | inr second ↦ subst (Contains (begun_stamps report)) second (begun_at report ends.later found.0.1 ends.later_is)
+        | inl first ↦ subst (Contains (stamps_of_replies report)) first (begun_at report ends.earlier found.0.0 ends.earlier_is)
+        | inr second ↦ subst (Contains (stamps_of_replies report)) second (begun_at report ends.later found.0.1 ends.later_is)
       ]
 
   -- two begun requests with what is known
-  pub two_coherent_with : PartsAreCoherent → AreCoherent (begun_stamps report) → (a b : ℕ) (s t : Stamp) (known : List Stamp) → stamp_at report a ≡ Some s → stamp_at report b ≡ Some t → ((stamp : Stamp) → Contains known stamp → Contains (begun_stamps report) stamp) → AreCoherent (s ∷ t ∷ known)
+  pub two_coherent_with : PartsAreCoherent → AreCoherent (stamps_of_replies report) → (a b : ℕ) (s t : Stamp) (known : List Stamp) → stamp_at report a ≡ Some s → stamp_at report b ≡ Some t → ((stamp : Stamp) → Contains known stamp → Contains (stamps_of_replies report) stamp) → AreCoherent (s ∷ t ∷ known)
   two_coherent_with part all a b s t known at_a at_b among =
-      part (s ∷ t ∷ known) (begun_stamps report) all (λ stamp h.
+      part (s ∷ t ∷ known) (stamps_of_replies report) all (λ stamp h.
       elim (has_read s (t ∷ known) stamp h) [
-        | inl first ↦ subst (Contains (begun_stamps report)) first (begun_at report a s at_a)
+        | inl first ↦ subst (Contains (stamps_of_replies report)) first (begun_at report a s at_a)
         | inr more ↦ elim (has_read t known stamp more) [
-          | inl second ↦ subst (Contains (begun_stamps report)) second (begun_at report b t at_b)
+          | inl second ↦ subst (Contains (stamps_of_replies report)) second (begun_at report b t at_b)
           | inr rest ↦ among stamp rest
         ]
       ])

@@ -7,22 +7,22 @@ use Rattle.std.specs.Option.{option_and_then}
 use Rattle.std.proofs.lemmas.Bool.{and_parts, and_from, or_cases, or_left, or_right, eqb-true, eq-eqb}
 use Rattle.vector_stamp.specs.declared.clock.Stamp.{Stamp}
 use Rattle.vector_stamp.specs.Order.{stamp_before}
-use Rattle.vector_stamp.specs.Precedence.{Given, IsClosed, precedes}
+use Rattle.vector_stamp.specs.Precedence.{GivenPair, IsClosed, precedes}
 use Rattle.weave_data.proofs.Members.{has_read, has_head, has_tail}
 use Rattle.report_rules.specs.declared.report.Report.{Report}
 use Rattle.report_rules.specs.declared.report.Reply.{Reply}
 use Rattle.report_rules.specs.declared.report.Pair.{Pair}
 use Rattle.report_rules.specs.Lookups.{is_some_and, are_both, stamp_at, given_by, given_pairs}
 use Rattle.order_witness.specs.Closure.{Test, IsTransitive, HasAllOf, IsClosureOf}
-use Rattle.order_witness.specs.Begun.{request_precedes, StampsDiffer, is_before_reply, stamp_in, stamps_lead, joins, pairs_lead}
+use Rattle.order_witness.specs.Begun.{request_precedes, StampsDiffer, is_before_reply, stamp_in, stamps_lead, is_pair_between, pairs_lead}
 
 -- precedence has the order of stamps and the pairs, and is transitive
 abbrev pub AreClosed : Type 0
-AreClosed = (pairs : List Given) → IsClosed pairs (precedes pairs)
+AreClosed = (pairs : List GivenPair) → IsClosed pairs (precedes pairs)
 
 -- one more pair joins its ends and what leads to them
 abbrev pub OneMoreJoins : Type 0
-OneMoreJoins = (pair : Given) (pairs : List Given) (a b : Stamp) → IsTrue (precedes (pair ∷ pairs) a b)
+OneMoreJoins = (pair : GivenPair) (pairs : List GivenPair) (a b : Stamp) → IsTrue (precedes (pair ∷ pairs) a b)
     → IsTrue (precedes pairs a b) ⊎ (((a ≡ pair.0) ⊎ IsTrue (precedes pairs a pair.0)) × ((pair.1 ≡ b) ⊎ IsTrue (precedes pairs pair.1 b)))
 
 -- two stamps that are there, with a test that holds of them
@@ -33,11 +33,13 @@ pub record AreThere (test : Stamp → Stamp → Bool) (first second : Option Sta
   pub second_is : second ≡ Some y
   pub passes : IsTrue (test x y)
 
+-- if a test holds of two stamps that need not be there, both are there and pass it
 pub both_there : (test : Stamp → Stamp → Bool) (a b : Option Stamp) → IsTrue (are_both test a b) → AreThere test a b
 both_there test None b h = cc
 both_there test (Some x) None h = cc
 both_there test (Some x) (Some y) h = record { x = x; y = y; first_is = refl; second_is = refl; passes = h }
 
+-- and if both are there and pass it, the test holds of them
 pub there_both : (test : Stamp → Stamp → Bool) (a b : Option Stamp) (x y : Stamp) → a ≡ Some x → b ≡ Some y → IsTrue (test x y) → IsTrue (are_both test a b)
 there_both test a b x y is_a is_b h = ap (λ s. are_both test s b) is_a ∙ ap (λ s. are_both test (Some x) s) is_b ∙ h
 
@@ -65,18 +67,18 @@ module _ (report : Report) where
 
   -- The pairs
 
-  abbrev given_of : List Pair → List Given
+  abbrev given_of : List Pair → List GivenPair
   given_of pairs = filter_map (λ (pair : Pair). given_by (stamp_at report pair.earlier) (stamp_at report pair.later)) pairs
 
   some_is : (o : Option Stamp) → IsTrue (is_some o) → (x : Stamp) × (o ≡ Some x)
   some_is None h = cc
   some_is (Some x) h = (x, refl)
 
-  first_given : (rest : List Given) (a b : Option Stamp) (x y : Stamp) → a ≡ Some x → b ≡ Some y → Contains (cons_option (given_by a b) rest) (x, y)
+  first_given : (rest : List GivenPair) (a b : Option Stamp) (x y : Stamp) → a ≡ Some x → b ≡ Some y → Contains (cons_option (given_by a b) rest) (x, y)
   first_given rest a b x y is_a is_b =
       subst (λ s. Contains (cons_option (given_by s b) rest) (x, y)) (sym is_a) (subst (λ s. Contains (cons_option (given_by (Some x) s) rest) (x, y)) (sym is_b) (has_head (x, y) rest))
 
-  rest_given : (rest : List Given) (o : Option Given) (p : Given) → Contains rest p → Contains (cons_option o rest) p
+  rest_given : (rest : List GivenPair) (o : Option GivenPair) (p : GivenPair) → Contains rest p → Contains (cons_option o rest) p
   rest_given rest None p h = h
   rest_given rest (Some q) p h = has_tail q rest p h
 
@@ -84,7 +86,7 @@ module _ (report : Report) where
   pub joined_given : (pairs : List Pair) (a b : ℕ) → IsTrue (pairs_lead report.replies pairs a b) → AreThere (λ x y. true) (stamp_at report a) (stamp_at report b) × ((x y : Stamp) → stamp_at report a ≡ Some x → stamp_at report b ≡ Some y → Contains (given_of pairs) (x, y))
   joined_given [] a b h = cc
   joined_given (pair ∷ pairs) a b h =
-      elim (or_cases (joins report.replies a b pair) _ h) [
+      elim (or_cases (is_pair_between report.replies a b pair) _ h) [
         | inl here ↦
             let parts = and_parts (eqb a pair.earlier && eqb b pair.later) _ here in
             let ends = and_parts (eqb a pair.earlier) (eqb b pair.later) parts.0 in
@@ -115,7 +117,7 @@ module _ (report : Report) where
     later = h.later;
     earlier_is = h.earlier_is;
     later_is = h.later_is;
-    joined = or_right (joins report.replies h.earlier h.later pair) _ h.joined;
+    joined = or_right (is_pair_between report.replies h.earlier h.later pair) _ h.joined;
   }
 
   by_this : (pair : Pair) (pairs : List Pair) (x y : Stamp) → stamp_at report pair.earlier ≡ Some x → stamp_at report pair.later ≡ Some y → AreJoined (pair ∷ pairs) x y
@@ -132,7 +134,7 @@ module _ (report : Report) where
   read_given pair pairs x y (Some s) None is_a is_b later h = with_more pair pairs x y (later h)
   read_given pair pairs x y (Some s) (Some t) is_a is_b later h =
       elim (has_read (s, t) (given_of pairs) (x, y) h) [
-        | inl here ↦ by_this pair pairs x y (is_a ∙ ap (λ (g : Given). Some g.0) here) (is_b ∙ ap (λ (g : Given). Some g.1) here)
+        | inl here ↦ by_this pair pairs x y (is_a ∙ ap (λ (g : GivenPair). Some g.0) here) (is_b ∙ ap (λ (g : GivenPair). Some g.1) here)
         | inr rest ↦ with_more pair pairs x y (later rest)
       ]
 
@@ -164,12 +166,13 @@ module _ (report : Report) where
               there_both (precedes (given_pairs report)) _ _ there.x there.y there.first_is there.second_is ((all_closed (given_pairs report)).has_pairs there.x there.y (found.1 there.x there.y there.first_is there.second_is))
         ]
 
+    -- what leads to a request in the closure of the order of stamps and the pairs precedes it
     pub sound : HasAllOf (request_precedes report) closed
     sound a b h = closure.least (request_precedes report) (trans all_closed) has_base a b h
 
     module _ (one_more : OneMoreJoins) (differ : StampsDiffer report) where
       -- the stamps of a step by these pairs, and what leads there
-      abbrev AllLead : List Given → Type 0
+      abbrev AllLead : List GivenPair → Type 0
       AllLead ps = (a b : ℕ) (x y : Stamp) → stamp_at report a ≡ Some x → stamp_at report b ≡ Some y → IsTrue (precedes ps x y) → IsTrue (closed a b)
 
       by_stamps : AllLead []
@@ -177,21 +180,21 @@ module _ (report : Report) where
           closure.has_given a b (base a b ∙ or_left _ _ (stamps_as a b ∙ there_both stamp_before _ _ x y is_a is_b h))
 
       -- to a stamp, or it itself
-      to_end : (ps : List Given) → AllLead ps → (a e : ℕ) (x s : Stamp) → stamp_at report a ≡ Some x → stamp_at report e ≡ Some s → (x ≡ s) ⊎ IsTrue (precedes ps x s) → (b : ℕ) → IsTrue (closed e b) → IsTrue (closed a b)
+      to_end : (ps : List GivenPair) → AllLead ps → (a e : ℕ) (x s : Stamp) → stamp_at report a ≡ Some x → stamp_at report e ≡ Some s → (x ≡ s) ⊎ IsTrue (precedes ps x s) → (b : ℕ) → IsTrue (closed e b) → IsTrue (closed a b)
       to_end ps known a e x s is_a is_e h b on =
           elim h [
             | inl same ↦ subst (λ r. IsTrue (closed r b)) (differ e a s is_e (is_a ∙ ap Some same)) on
             | inr before ↦ closure.transitive a e b (known a e x s is_a is_e before) on
           ]
 
-      from_end : (ps : List Given) → AllLead ps → (l b : ℕ) (t y : Stamp) → stamp_at report l ≡ Some t → stamp_at report b ≡ Some y → (t ≡ y) ⊎ IsTrue (precedes ps t y) → (a : ℕ) → IsTrue (closed a l) → IsTrue (closed a b)
+      from_end : (ps : List GivenPair) → AllLead ps → (l b : ℕ) (t y : Stamp) → stamp_at report l ≡ Some t → stamp_at report b ≡ Some y → (t ≡ y) ⊎ IsTrue (precedes ps t y) → (a : ℕ) → IsTrue (closed a l) → IsTrue (closed a b)
       from_end ps known l b t y is_l is_b h a on =
           elim h [
             | inl same ↦ subst (λ r. IsTrue (closed a r)) (differ l b y (is_l ∙ ap Some same) is_b) on
             | inr after ↦ closure.transitive a l b on (known l b t y is_l is_b after)
           ]
 
-      all_lead : (ps : List Given) → ((x y : Stamp) → Contains ps (x, y) → AreJoined report.pairs x y) → AllLead ps
+      all_lead : (ps : List GivenPair) → ((x y : Stamp) → Contains ps (x, y) → AreJoined report.pairs x y) → AllLead ps
       all_lead [] joined a b x y is_a is_b h = by_stamps a b x y is_a is_b h
       all_lead (p ∷ ps) joined a b x y is_a is_b h =
           let known = all_lead ps (λ s t there. joined s t (has_tail p ps (s, t) there)) in

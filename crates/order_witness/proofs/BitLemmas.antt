@@ -26,6 +26,7 @@ or_test a b la lb =
       | inr other ↦ let none : a ≡ 0 = omega arith in elim (cases_eq b 1) [ inl one ↦ rw (none, one) refl | inr more ↦ let neither : b ≡ 0 = omega arith in rw (none, neither) refl ]
     ]
 
+-- if a number's word is the or of those of two sets, the set has the number exactly if one of the two has it
 pub of_or : (new old other : List ℕ) (n : ℕ) → get_or new (n / 64) 0 ≡ bit_or (get_or old (n / 64) 0) (get_or other (n / 64) 0) → has_bit new n ≡ (has_bit old n || has_bit other n)
 unfolding has_bit
 of_or new old other n is =

@@ -53,10 +53,12 @@ module _ (report : Report) (precedence : Test) (remaining : List ℕ) where
     more : take (i + 1) asked ≡ take i asked ++ r ∷ []
     more = take_more asked i 0 lt ∙ ap (λ x. take i asked ++ x ∷ []) is
 
+    -- if the request at the place is free, and better than the best of those before it, it is the best of all so far
     pub chosen : (best : Option ℕ) → IsBest report precedence remaining (take i asked) best → (is_better report best r && free r) ≡ true → IsBest report precedence remaining (take (i + 1) asked) (Some r)
     chosen best h it_is =
         let parts = and_parts (is_better report best r) (free r) it_is in
         subst (λ (xs : List ℕ). IsBest report precedence remaining xs (Some r)) (sym more) (chosen_one best (take i asked) r h parts.0 parts.1)
 
+    -- if it isn't both, the best of those before it stays the best
     pub kept : (best : Option ℕ) → IsBest report precedence remaining (take i asked) best → (is_better report best r && free r) ≡ false → IsBest report precedence remaining (take (i + 1) asked) best
     kept best h not_so = subst (λ (xs : List ℕ). IsBest report precedence remaining xs best) (sym more) (kept_one best (take i asked) r h not_so)

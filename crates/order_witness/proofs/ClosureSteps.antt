@@ -17,9 +17,11 @@ module _ (old new : Test) (k : ℕ) (step : IsStep old new k) where
   to_old a b h =
       elim (or_cases (old a b) (old a k && old k b) (sym (step a b) ∙ h)) [ inl before ↦ inl before | inr via ↦ inr (and_parts (old a k) (old k b) via) ]
 
+  -- what led to a number before the step leads to it after
   pub kept : (a b : ℕ) → IsTrue (old a b) → IsTrue (new a b)
   kept a b h = step a b ∙ or_left _ _ h
 
+  -- what led to the middle leads to all that the middle led to
   pub joined : (a b : ℕ) → IsTrue (old a k) → IsTrue (old k b) → IsTrue (new a b)
   joined a b g h = step a b ∙ or_right (old a b) _ (and_from _ _ g h)
 
@@ -37,6 +39,7 @@ module _ (old new : Test) (k : ℕ) (step : IsStep old new k) where
           | inr first ↦ elim (to_old m b h) [ inl mb ↦ joined a b first.0 (through k m b less first.1 mb) | inr via ↦ joined a b first.0 via.1 ]
         ]
 
+    -- if two steps by a number below the middle made one step, two by a number up to the middle now make one
     pub through_more : LeadThrough (k + 1) new
     through_more a m b less g h =
         elim (cases_eq m k) [
@@ -44,6 +47,7 @@ module _ (old new : Test) (k : ℕ) (step : IsStep old new k) where
           | inr other ↦ through_less a m b (omega (arith, other)) g h
         ]
 
+  -- a transitive relation that has all of the old one has all of the new one
   pub least_more : (other : Test) → IsTransitive other → HasAllOf other old → HasAllOf other new
   least_more other trans has a b h =
       elim (to_old a b h) [ inl before ↦ has a b before | inr via ↦ trans a k b (has a k via.0) (has k b via.1) ]

@@ -14,7 +14,7 @@ use Rattle.report_rules.specs.Lookups.{are_both, same_session, stamp_at, Request
 use Rattle.report_rules.specs.RightReport.{IsListedInOrder, replies_clause}
 use Rattle.report_rules.proofs.Precedence.{IsDecided}
 use Rattle.order_witness.specs.Begun.{is_request_before, request_precedes}
-use Rattle.order_witness.specs.Latest.{latest_of, is_after_last, precedes_one, IsPutLatest, IsCovered}
+use Rattle.order_witness.specs.Latest.{latest_request, is_after_last, precedes_one, IsPutLatest, IsCovered}
 use Rattle.order_witness.proofs.BegunLaws.{AreClosed, there_both, trans}
 use Rattle.order_witness.proofs.InTurn.{session_so}
 use Rattle.order_witness.proofs.Leading.{before_prec}
@@ -22,19 +22,19 @@ use Rattle.order_witness.proofs.Placing.{IsStrict, before_trans, one_stamp, some
 use Rattle.order_witness.proofs.Testing.{tested}
 
 module _ (strict : IsStrict) (report : Report) (r : ℕ) (latest next : List (Option ℕ)) (put : IsPutLatest report r latest next) where
-  new_last : latest_of next put.stamp.home ≡ Some r
-  new_last = ap (λ (ls : List (Option ℕ)). latest_of ls put.stamp.home) put.next_is ∙ get_or-set_same latest put.stamp.home (Some r) None put.home
+  new_last : latest_request next put.stamp.home ≡ Some r
+  new_last = ap (λ (ls : List (Option ℕ)). latest_request ls put.stamp.home) put.next_is ∙ get_or-set_same latest put.stamp.home (Some r) None put.home
 
-  old_last : (gate : ℕ) → (gate ≡ put.stamp.home → ⊥) → latest_of next gate ≡ latest_of latest gate
-  old_last gate other = ap (λ (ls : List (Option ℕ)). latest_of ls gate) put.next_is ∙ get_or-set_other latest put.stamp.home gate (Some r) None other
+  old_last : (gate : ℕ) → (gate ≡ put.stamp.home → ⊥) → latest_request next gate ≡ latest_request latest gate
+  old_last gate other = ap (λ (ls : List (Option ℕ)). latest_request ls gate) put.next_is ∙ get_or-set_other latest put.stamp.home gate (Some r) None other
 
-  after : (last : ℕ) → latest_of latest put.stamp.home ≡ Some last → IsTrue (is_request_before report last r)
+  after : (last : ℕ) → latest_request latest put.stamp.home ≡ Some last → IsTrue (is_request_before report last r)
   after last is = subst (λ (o : Option ℕ). IsTrue (is_after_last report o r)) is put.after
 
   -- a covered one of its gatekeeper has a stamp before its own
   of_its_home : (e : ℕ) (old : IsCovered report latest e) → old.stamp.home ≡ put.stamp.home → IsTrue (is_request_before report e r)
   of_its_home e old home =
-      let last : IsTrue (is_request_before report old.last r) = after old.last (ap (latest_of latest) (sym home) ∙ old.last_is) in
+      let last : IsTrue (is_request_before report old.last r) = after old.last (ap (latest_request latest) (sym home) ∙ old.last_is) in
       elim old.at_or_before [
         | inl same ↦ subst (λ n. IsTrue (is_request_before report n r)) (sym same) last
         | inr before ↦ before_trans strict report e old.last r before last
@@ -47,7 +47,7 @@ module _ (strict : IsStrict) (report : Report) (r : ℕ) (latest next : List (Op
           stamp = old.stamp;
           stamp_is = old.stamp_is;
           last = r;
-          last_is = ap (latest_of next) home ∙ new_last;
+          last_is = ap (latest_request next) home ∙ new_last;
           at_or_before = inr (of_its_home e old home);
         }
         | inr elsewhere ↦ record {
@@ -105,6 +105,7 @@ module _ (strict : IsStrict) (report : Report) (r : ℕ) (latest next : List (Op
         session_so script report holds r e put.stamp old.stamp put.stamp_is old.stamp_is (is_other e old)
         (λ h. none_tested e (covered_next e old) (by_stamps r e (there_both stamp_before (stamp_at report r) (stamp_at report e) put.stamp old.stamp put.stamp_is old.stamp_is h)))
 
+    -- if each request listed before is covered, this one is listed in order
     pub listed_so : (before : List ℕ) → AllByRecursion (IsCovered report latest) before → IsListedInOrder script report before r
     listed_so before covered = (
       (

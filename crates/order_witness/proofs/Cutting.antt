@@ -11,7 +11,7 @@ use Rattle.report_rules.specs.Lookups.{is_in}
 use Rattle.order_witness.specs.declared.heads.Run.{Run}
 use Rattle.order_witness.specs.Begun.{is_request_before}
 use Rattle.order_witness.specs.ByNumber.{list_at}
-use Rattle.order_witness.specs.Heads.{item, is_done, no_run, run_at, AreRising, IsReached, AreCut, IsFirstLeft, IsAdvanced, seen_by, AreSeenDone, AreWaiting}
+use Rattle.order_witness.specs.Heads.{item, is_done, no_run, run_at, AreRising, IsReached, AreCut, IsFirstLeft, IsAdvanced, seen_by_request, AreSeenDone, AreWaiting}
 use Rattle.order_witness.proofs.Placing.{IsStrict, before_trans}
 
 -- One run more
@@ -23,6 +23,7 @@ module _ (runs : List Run) (run : Run) where
   last_run : run_at (runs ++ run ∷ []) (length runs) ≡ run
   last_run = get_or-append_seam runs run [] no_run
 
+  -- a place that is reached stays so with one run more
   pub reached_more : (k : ℕ) → IsReached runs k → IsReached (runs ++ run ∷ []) k
   reached_more k h = record {
     i = h.i;
@@ -31,6 +32,7 @@ module _ (runs : List Run) (run : Run) where
     below = subst (λ (r : Run). k < r.end) (sym (first_runs h.i h.there)) h.below;
   }
 
+  -- a place from the start of the last run to its end is reached
   pub reached_last : (k : ℕ) → run.next ≤ k → k < run.end → IsReached (runs ++ run ∷ []) k
   reached_last k from below = record {
     i = length runs;
@@ -39,6 +41,7 @@ module _ (runs : List Run) (run : Run) where
     below = subst (λ (r : Run). k < r.end) (sym last_run) below;
   }
 
+  -- if the stamps of each run rise, and those of the run put at the end do, they all rise
   pub rising_more : (report : Report) (line : List ℕ) → AreRising report line runs → ((j k : ℕ) → run.next ≤ j → j < k → k < run.end → IsTrue (is_request_before report (item line j) (item line k))) → AreRising report line (runs ++ run ∷ [])
   rising_more report line so_far here i j k within from less below =
       elim (cases_lt i (length runs)) [
@@ -72,9 +75,11 @@ module _ (strict : IsStrict) (report : Report) (line : List ℕ) where
       in_turn = omega (arith, cut.in_turn);
     }
 
+    -- the stamps of each run rise, if the last one ends at this place
     pub cut_rising : AreRising report line (runs ++ (record { next = start; end = place }) ∷ [])
     cut_rising = rising_more runs (record { next = start; end = place }) report line cut.rising cut.current
 
+    -- and each place before this one is reached
     pub cut_reached : (k : ℕ) → k < place → IsReached (runs ++ (record { next = start; end = place }) ∷ []) k
     cut_reached k below =
         elim (cases_lt k start) [
@@ -96,6 +101,7 @@ module _ (report : Report) (line : List ℕ) (place start : ℕ) (runs : List Ru
   pub end_rising : length line ≤ place → AreRising report line (runs ++ (record { next = start; end = length line }) ∷ [])
   end_rising all = rising_more runs (record { next = start; end = length line }) report line cut.rising (λ j k from less below. cut.current j k from less (omega (arith, below, all)))
 
+  -- and each place of the line is reached
   pub end_reached : (k : ℕ) → k < length line → IsReached (runs ++ (record { next = start; end = length line }) ∷ []) k
   end_reached k below =
       elim (cases_lt k start) [
@@ -105,6 +111,7 @@ module _ (report : Report) (line : List ℕ) (place start : ℕ) (runs : List Ru
 
 -- The earlier ends of pairs that are seen
 
+-- a number in a list with one more at the end is in the list, or is that one
 pub in_last : (r y : ℕ) (xs : List ℕ) → IsTrue (is_in r (xs ++ y ∷ [])) → IsTrue (is_in r xs) ⊎ (r ≡ y)
 in_last r y [] h = elim (or_cases (nat_eq r y) _ h) [ inl here ↦ inr (eqb-true r y here) | inr later ↦ inl later ]
 in_last r y (x ∷ xs) h =
@@ -118,33 +125,35 @@ in_last r y (x ∷ xs) h =
     more false there = there
 
 module _ (befores : List (List ℕ)) (done : List Bool) (old new : List ℕ) (request : ℕ)
-    (others : (r : ℕ) → ¬ (r ≡ request) → seen_by new r ≡ seen_by old r)
-    (first : request < length old → IsFirstLeft (list_at befores request) done (seen_by old request) (length (list_at befores request)) (seen_by new request))
+    (others : (r : ℕ) → ¬ (r ≡ request) → seen_by_request new r ≡ seen_by_request old r)
+    (first : request < length old → IsFirstLeft (list_at befores request) done (seen_by_request old request) (length (list_at befores request)) (seen_by_request new request))
     (past : length old ≤ request → new ≡ old) where
+  -- if what was seen done is done, it is so when one request has looked on to the first that is left
   pub seen_on : AreSeenDone befores done old → AreSeenDone befores done new
   seen_on so_far r k below =
       elim (cases_eq r request) [
         | inr other ↦ so_far r k (subst (λ n. k < n) (others r other) below)
         | inl same ↦ elim (cases_lt request (length old)) [
-          | inr beyond ↦ so_far r k (subst (λ (xs : List ℕ). k < seen_by xs r) (past beyond) below)
+          | inr beyond ↦ so_far r k (subst (λ (xs : List ℕ). k < seen_by_request xs r) (past beyond) below)
           | inl within ↦
               subst (λ n. is_done done (item (list_at befores n) k) ≡ true) (sym same)
-              (elim (cases_lt k (seen_by old request)) [
+              (elim (cases_lt k (seen_by_request old request)) [
                 | inl before ↦ so_far request k before
-                | inr from ↦ (first within).passed k from (subst (λ n. k < seen_by new n) same below)
+                | inr from ↦ (first within).passed k from (subst (λ n. k < seen_by_request new n) same below)
               ])
         ]
       ]
 
-  pub left_on : (asked : List ℕ) (count : ℕ) → count ≡ length old → ((r : ℕ) → IsTrue (is_in r asked) → r < count → seen_by old r < length (list_at befores r) → is_done done (item (list_at befores r) (seen_by old r)) ≡ false)
-      → (r : ℕ) → IsTrue (is_in r (asked ++ request ∷ [])) → r < count → seen_by new r < length (list_at befores r) → is_done done (item (list_at befores r) (seen_by new r)) ≡ false
+  -- if each asked request sees next an earlier end that is left, or none, so does each of them and this one
+  pub left_on : (asked : List ℕ) (count : ℕ) → count ≡ length old → ((r : ℕ) → IsTrue (is_in r asked) → r < count → seen_by_request old r < length (list_at befores r) → is_done done (item (list_at befores r) (seen_by_request old r)) ≡ false)
+      → (r : ℕ) → IsTrue (is_in r (asked ++ request ∷ [])) → r < count → seen_by_request new r < length (list_at befores r) → is_done done (item (list_at befores r) (seen_by_request new r)) ≡ false
   left_on asked count size so_far r there within below =
       elim (cases_eq r request) [
         | inl same ↦
-            subst (λ n. is_done done (item (list_at befores n) (seen_by new n)) ≡ false) (sym same)
-            ((first (omega (arith, same, within, size))).is_left (subst (λ n. seen_by new n < length (list_at befores n)) same below))
+            subst (λ n. is_done done (item (list_at befores n) (seen_by_request new n)) ≡ false) (sym same)
+            ((first (omega (arith, same, within, size))).is_left (subst (λ n. seen_by_request new n < length (list_at befores n)) same below))
         | inr other ↦
-            let is : seen_by new r ≡ seen_by old r = others r other in
+            let is : seen_by_request new r ≡ seen_by_request old r = others r other in
             subst (λ n. is_done done (item (list_at befores r) n) ≡ false) (sym is)
             (so_far r (elim (in_last r request asked there) [ inl before ↦ before | inr last ↦ absurd (other last) ]) within (subst (λ n. n < length (list_at befores r)) is below))
       ]
@@ -160,11 +169,13 @@ module _ (report : Report) (line : List ℕ) (befores : List (List ℕ)) (runs t
         | inl passed ↦ absurd (both_ways _ is_left ((each i within).1.passed k from passed))
       ]
 
+  -- the first request of each run that went on, if it has one yet, is left
   pub at_left : (i : ℕ) → i < length then_runs → (run_at then_runs i).next < (run_at then_runs i).end → is_done done (item line (run_at then_runs i).next) ≡ false
   at_left i within some =
       let advanced = each i (omega (arith, within, size)) in
       advanced.1.is_left (omega (arith, some, advanced.0))
 
+  -- if what is now seen done is done, those left are in the runs that went on, and precede none that is done
   pub waiting_on : length then_seen ≡ length seen → AreSeenDone befores done then_seen → AreWaiting report line befores then_runs then_seen done
   waiting_on same then_seen_done = record {
     size = same ∙ waiting.size;

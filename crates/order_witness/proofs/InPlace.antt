@@ -40,6 +40,7 @@ pub record AreOfOne (o p : Option Request) : Type 0 where
   pub second : p ≡ Some y
   pub session : x.session ≡ y.session
 
+-- if the test says that two requests are of one session, both are there and of one session
 pub of_one : (o p : Option Request) → are_both (λ (x : Request) (y : Request). eqb x.session y.session) o p ≡ true → AreOfOne o p
 of_one None p h = cc
 of_one (Some x) None h = cc
@@ -78,6 +79,7 @@ module _ (script : Script) (replies : List Reply) (at_places : AreAtPlaces scrip
             or_right (not (same_session script earlier.request reply.request)) _ (subst (λ o. IsTrue (are_begun_in_turn o reply.stamp)) (stamp_is k earlier at_k) (subst (λ o. IsTrue (are_begun_in_turn (stamp_in replies k) o)) (stamp_is i reply at_i) so))
       ])
 
+  -- if replies have their places, stamps are apart and sessions take turns, each reply is in place
   pub replies_hold : AllHold (facts_in_turn (λ before (reply : Reply). IsTrue (is_reply_in_place script before reply)) replies)
   replies_hold =
       all_in_turn (λ before (reply : Reply). IsTrue (is_reply_in_place script before reply)) replies (λ i reply at.

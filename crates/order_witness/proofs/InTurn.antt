@@ -16,7 +16,7 @@ use Rattle.weave_data.specs.Facts.{AllHold, facts_after, facts_in_turn}
 use Rattle.weave_data.proofs.Lists.{append-step, list_all-from}
 use Rattle.report_rules.specs.Lookups.{is_none_or, are_both, AreBoth, stamp_at, same_session, request_at, given_pairs, RequestPrecedes}
 use Rattle.report_rules.specs.RightReport.{IsListedInOrder, order_clause, replies_clause, are_apart_where_begun, are_begun_in_turn}
-use Rattle.order_witness.specs.Begun.{joins, pairs_lead}
+use Rattle.order_witness.specs.Begun.{is_pair_between, pairs_lead}
 use Rattle.order_witness.specs.Places.{place_in, IsAtOrBefore, is_pair_in_turn, IsOrderInTurn}
 use Rattle.order_witness.proofs.BegunLaws.{given_joined}
 use Rattle.order_witness.proofs.Replying.{differ, is_numbered, stands_so, reply_of}
@@ -30,10 +30,12 @@ module _ {A : Type 0} (F : List A → A → Type 0) where
   facts_from before (x ∷ xs) each =
       (subst (λ b. F b x) (append-nil before) (each 0 x refl), facts_from (before ++ x ∷ []) xs (λ i y at. subst (λ b. F b y) (append-step before x (take i xs)) (each (suc i) y at)))
 
+  -- if the fact about each element and those before it holds, the facts hold in turn
   pub all_in_turn : (xs : List A) → ((i : ℕ) (x : A) → slice_get xs i ≡ Some x → F (take i xs) x) → AllHold (facts_in_turn F xs)
   all_in_turn xs each = facts_from [] xs each
 
 module _ {A : Type 0} (P : A → Type 0) where
+  -- what holds of each element before a place holds of the list up to that place
   pub all_front : (i : ℕ) (xs : List A) → ((k : ℕ) (x : A) → k < i → slice_get xs k ≡ Some x → P x) → AllByRecursion P (take i xs)
   all_front zero xs each = tt
   all_front (suc i) [] each = tt
@@ -54,6 +56,7 @@ session_turned (Some x) (Some y) = nat_eq_equiv.symm x.session y.session
 
 -- of two begun requests of a session, e is the earlier one if the stamps do not put r before it
 module _ (script : Script) (report : Report) (holds : AllHold (replies_clause script report)) where
+  -- if r's stamp isn't before e's, the two are of different sessions, or e is the earlier request
   pub session_so : (r e : ℕ) (s t : Stamp) → stamp_at report r ≡ Some s → stamp_at report e ≡ Some t → (r ≡ e → ⊥) → ¬ IsTrue (stamp_before s t) → IsTrue (not (same_session script e r) || ltb e r)
   session_so r e s t at_r at_e other unled =
       elim (cases_lt e r) [
@@ -176,7 +179,7 @@ module _ (strict : IsStrict) (script : Script) (report : Report) (holds : AllHol
   joined_places [] x y s t all h x_is y_is = absurd (cc)
   joined_places (pair ∷ pairs) x y s t all h x_is y_is =
       let tests = and_parts (is_pair_in_turn report turn.places pair) (list_all (is_pair_in_turn report turn.places) pairs) all in
-      elim (or_cases (joins report.replies x y pair) _ h) [
+      elim (or_cases (is_pair_between report.replies x y pair) _ h) [
         | inl here ↦
             let parts = and_parts (eqb x pair.earlier && eqb y pair.later) _ here in
             let ends = and_parts (eqb x pair.earlier) (eqb y pair.later) parts.0 in
@@ -231,6 +234,7 @@ module _ (strict : IsStrict) (script : Script) (report : Report) (holds : AllHol
       let here = at_place report.order i r at in
       ap place (sym here.1) ∙ turn.placed.listed i r (omega (arith, here.0, turn.all))
 
+  -- if the clause on replies holds and the order keeps that of stamps and pairs, the clause on the order holds
   pub order_holds : AllHold (order_clause script report)
   order_holds =
       all_in_turn (IsListedInOrder script report) report.order (λ i r at.

@@ -21,8 +21,8 @@ use Rattle.report_rules.proofs.Precedence.{IsDecided}
 use Rattle.order_witness.specs.declared.heads.Run.{Run}
 use Rattle.order_witness.specs.Begun.{is_request_before, request_precedes, pairs_lead}
 use Rattle.order_witness.specs.ByNumber.{list_at}
-use Rattle.order_witness.specs.Choices.{IsBest, begun_in, is_free, home_at}
-use Rattle.order_witness.specs.Heads.{item, is_done, left_of, run_at, heads_of, seen_by, is_ready, AreWaiting}
+use Rattle.order_witness.specs.Choices.{IsBest, requests_begun, is_free, home_at}
+use Rattle.order_witness.specs.Heads.{item, is_done, requests_left, run_at, heads_of, seen_by_request, is_ready, AreWaiting}
 use Rattle.order_witness.proofs.BegunLaws.{AreClosed, both_there, there_both, joined_given, given_joined, trans}
 use Rattle.order_witness.proofs.Placing.{IsStrict, before_trans}
 use Rattle.order_witness.proofs.Printing.{IsBegun, all_at, all_from, any_in, kept_in, all_begun}
@@ -77,38 +77,43 @@ none_any test (x ∷ xs) f = or_from _ _ (f x (or_left _ _ (eq-eqb x x refl))) (
 -- The requests that are left
 
 module _ (script : Script) (report : Report) (holds : AllHold (replies_clause script report)) where
-  begun_put : (replies : List Reply) (i : ℕ) (reply : Reply) (s : Stamp) → slice_get replies i ≡ Some reply → reply.stamp ≡ Some s → IsTrue (is_in reply.request (begun_in replies))
+  begun_put : (replies : List Reply) (i : ℕ) (reply : Reply) (s : Stamp) → slice_get replies i ≡ Some reply → reply.stamp ≡ Some s → IsTrue (is_in reply.request (requests_begun replies))
   begun_put [] i reply s at is = absurd (cc)
   begun_put (x ∷ xs) zero reply s at is =
       let same : x ≡ reply = cc in
-      subst (λ (y : Reply). IsTrue (is_in y.request (begun_in (x ∷ xs)))) same (of_stamp x.stamp (ap (λ (y : Reply). y.stamp) same ∙ is))
+      subst (λ (y : Reply). IsTrue (is_in y.request (requests_begun (x ∷ xs)))) same (of_stamp x.stamp (ap (λ (y : Reply). y.stamp) same ∙ is))
     where
-      of_stamp : (o : Option Stamp) → o ≡ Some s → IsTrue (is_in x.request (cons_option (option_map (λ (stamp : Stamp). x.request) o) (begun_in xs)))
+      of_stamp : (o : Option Stamp) → o ≡ Some s → IsTrue (is_in x.request (cons_option (option_map (λ (stamp : Stamp). x.request) o) (requests_begun xs)))
       of_stamp None e = absurd (cc)
       of_stamp (Some t) e = or_left _ _ (eq-eqb x.request x.request refl)
   begun_put (x ∷ xs) (suc i) reply s at is = of_stamp x.stamp (begun_put xs i reply s at is)
     where
-      of_stamp : (o : Option Stamp) → IsTrue (is_in reply.request (begun_in xs)) → IsTrue (is_in reply.request (cons_option (option_map (λ (stamp : Stamp). x.request) o) (begun_in xs)))
+      of_stamp : (o : Option Stamp) → IsTrue (is_in reply.request (requests_begun xs)) → IsTrue (is_in reply.request (cons_option (option_map (λ (stamp : Stamp). x.request) o) (requests_begun xs)))
       of_stamp None h = h
       of_stamp (Some t) h = or_right (nat_eq reply.request x.request) _ h
 
-  pub begun_there : (r : ℕ) → IsBegun report r → IsTrue (is_in r (begun_in report.replies))
+  -- if the clause on replies holds, a request that has a stamp is among the begun ones
+  pub begun_there : (r : ℕ) → IsBegun report r → IsTrue (is_in r (requests_begun report.replies))
   begun_there r begun =
       let reply = reply_of script report holds r begun.0 begun.1 in
-      subst (λ n. IsTrue (is_in n (begun_in report.replies))) (is_numbered script report holds r reply.0 reply.1) (begun_put report.replies r reply.0 begun.0 reply.1 reply.2)
+      subst (λ n. IsTrue (is_in n (requests_begun report.replies))) (is_numbered script report holds r reply.0 reply.1) (begun_put report.replies r reply.0 begun.0 reply.1 reply.2)
 
   module _ (done : List Bool) where
-    pub left_there : (r : ℕ) → IsBegun report r → is_done done r ≡ false → IsTrue (is_in r (left_of report done))
-    left_there r begun is_left = kept_in (λ x. not (is_done done x)) (begun_in report.replies) r (begun_there r begun) (not_from_false _ is_left)
+    -- a begun request that isn't done is among those left
+    pub left_there : (r : ℕ) → IsBegun report r → is_done done r ≡ false → IsTrue (is_in r (requests_left report done))
+    left_there r begun is_left = kept_in (λ x. not (is_done done x)) (requests_begun report.replies) r (begun_there r begun) (not_from_false _ is_left)
 
-    pub there_left : (r : ℕ) → IsTrue (is_in r (left_of report done)) → is_done done r ≡ false
-    there_left r h = not-true _ (in_filter (λ x. not (is_done done x)) (begun_in report.replies) r h).1
+    -- a request among those left isn't done
+    pub there_left : (r : ℕ) → IsTrue (is_in r (requests_left report done)) → is_done done r ≡ false
+    there_left r h = not-true _ (in_filter (λ x. not (is_done done x)) (requests_begun report.replies) r h).1
 
-    pub left_begun : (r : ℕ) → IsTrue (is_in r (left_of report done)) → IsBegun report r
-    left_begun r h = all_at (IsBegun report) (begun_in report.replies) r (all_begun script report holds) (in_filter (λ x. not (is_done done x)) (begun_in report.replies) r h).0
+    -- and is begun
+    pub left_begun : (r : ℕ) → IsTrue (is_in r (requests_left report done)) → IsBegun report r
+    left_begun r h = all_at (IsBegun report) (requests_begun report.replies) r (all_begun script report holds) (in_filter (λ x. not (is_done done x)) (requests_begun report.replies) r h).0
 
-    pub left_without : (r : ℕ) → r < length done → without_request r (left_of report done) ≡ left_of report (slice_set done r true)
-    left_without r within = filter_both (λ x. not (is_done done x)) (λ x. not (eqb x r)) (λ x. not (is_done (slice_set done r true) x)) same (begun_in report.replies)
+    -- those left, without a request, are those left once that one is done
+    pub left_without : (r : ℕ) → r < length done → without_request r (requests_left report done) ≡ requests_left report (slice_set done r true)
+    left_without r within = filter_both (λ x. not (is_done done x)) (λ x. not (eqb x r)) (λ x. not (is_done (slice_set done r true) x)) same (requests_begun report.replies)
       where
         yes_and : (b : Bool) → b ≡ (b && true)
         yes_and true = refl
@@ -131,6 +136,7 @@ module _ (line : List ℕ) where
     pub some : (run_at runs i).next < (run_at runs i).end
     pub is : item line (run_at runs i).next ≡ h
 
+  -- each number among the heads is the first request of some run
   pub heads_read : (runs : List Run) (h : ℕ) → IsTrue (is_in h (heads_of line runs)) → IsHeadOf runs h
   heads_read [] h g = cc
   heads_read (run ∷ runs) h g = of_test (ltb run.next run.end) refl (heads_read runs h) g
@@ -146,6 +152,7 @@ module _ (line : List ℕ) where
           ]
       of_test false is onward there = later (onward there)
 
+  -- the first request of each run that isn't at its end is among the heads
   pub heads_put : (runs : List Run) (i : ℕ) → i < length runs → (run_at runs i).next < (run_at runs i).end → IsTrue (is_in (item line (run_at runs i).next) (heads_of line runs))
   heads_put [] i within below = absurd (omega (arith, within))
   heads_put (run ∷ runs) zero within below =
@@ -205,11 +212,13 @@ module _ (report : Report) (strict : IsStrict) where
     abbrev prec : ℕ → ℕ → Bool
     prec = request_precedes report
 
+    -- a request whose stamp is before that of another precedes it
     pub before_prec : (a b : ℕ) → IsTrue (before a b) → IsTrue (prec a b)
     before_prec a b h =
         let there = both_there stamp_before (stamp_at report a) (stamp_at report b) h in
         there_both (precedes (given_pairs report)) (stamp_at report a) (stamp_at report b) there.x there.y there.first_is there.second_is ((all_closed (given_pairs report)).has_stamps there.x there.y there.passes)
 
+    -- the earlier end of a pair precedes the later one, if both are begun
     pub pair_prec : (a b : ℕ) → IsTrue (pairs_lead report.replies report.pairs a b) → IsTrue (prec a b)
     pair_prec a b h =
         let found = joined_given report report.pairs a b h in
@@ -226,6 +235,7 @@ module _ (report : Report) (strict : IsStrict) where
     prec_of : (a b : ℕ) (s t : Stamp) → stamp_at report a ≡ Some s → stamp_at report b ≡ Some t → Precedes (given_pairs report) s t → IsTrue (prec a b)
     prec_of a b s t at_a at_b h = there_both (precedes (given_pairs report)) (stamp_at report a) (stamp_at report b) s t at_a at_b ((decided (given_pairs report) s t).0 h)
 
+    -- what precedes a request is, or precedes, a begun one that leads to it by its stamp or by a pair
     pub step_to : (a b : ℕ) → IsTrue (prec a b) → Step a b
     step_to a b h =
         let there = both_there (precedes (given_pairs report)) (stamp_at report a) (stamp_at report b) h in
@@ -265,9 +275,9 @@ module _ (report : Report) (strict : IsStrict) where
     module _ (line : List ℕ) (befores : List (List ℕ)) (runs : List Run) (seen : List ℕ) (done : List Bool) (waiting : AreWaiting report line befores runs seen done)
         (firsts : List ℕ) (firsts_are : firsts ≡ heads_of line runs)
         (at_left : (i : ℕ) → i < length runs → (run_at runs i).next < (run_at runs i).end → is_done done (item line (run_at runs i).next) ≡ false)
-        (seen_left : (r : ℕ) → IsTrue (is_in r firsts) → r < length seen → seen_by seen r < length (list_at befores r) → is_done done (item (list_at befores r) (seen_by seen r)) ≡ false) where
+        (seen_left : (r : ℕ) → IsTrue (is_in r firsts) → r < length seen → seen_by_request seen r < length (list_at befores r) → is_done done (item (list_at befores r) (seen_by_request seen r)) ≡ false) where
       abbrev left : List ℕ
-      left = left_of report done
+      left = requests_left report done
 
       abbrev ready : List ℕ
       ready = filter (is_ready befores seen) firsts
@@ -322,7 +332,7 @@ module _ (report : Report) (strict : IsStrict) where
                   both_ways _ none (any_in (λ other. before other b) firsts head.h head.there (elim head.leads [ inl same ↦ subst (λ n. IsTrue (before n b)) (sym same) less | inr more ↦ before_trans strict report head.h step.y b more less ]))
               | inr pair ↦
                   let at = in_read step.y (list_at befores b) (waiting.ends step.y b (within b (waiting.begun b b_left)) ∙ pair) in
-                  let all : length (list_at befores b) ≤ seen_by seen b = leb-true _ _ is_ready_b in
+                  let all : length (list_at befores b) ≤ seen_by_request seen b = leb-true _ _ is_ready_b in
                   both_ways _ y_left (ap (is_done done) (sym at.2) ∙ waiting.seen_done b at.0 (omega (arith, at.1, all)))
             ]
           ])
@@ -343,18 +353,19 @@ module _ (report : Report) (strict : IsStrict) where
             | inr less ↦ absurd (both_ways _ (unled head.h (first_left head.h head.there)) (before_prec head.h r less))
           ] in
           let small : r < length report.replies = within r (waiting.begun r r_left) in
-          let all : length (list_at befores r) ≤ seen_by seen r = elim (cases_lt (seen_by seen r) (length (list_at befores r))) [
+          let all : length (list_at befores r) ≤ seen_by_request seen r = elim (cases_lt (seen_by_request seen r) (length (list_at befores r))) [
             | inr past ↦ past
             | inl below ↦
-                let e : ℕ = item (list_at befores r) (seen_by seen r) in
+                let e : ℕ = item (list_at befores r) (seen_by_request seen r) in
                 let e_left : is_done done e ≡ false = seen_left r is_first (omega (arith, small, waiting.size)) below in
-                absurd (both_ways _ (unled e e_left) (pair_prec e r (sym (waiting.ends e r small) ∙ item_in (list_at befores r) (seen_by seen r) below)))
+                absurd (both_ways _ (unled e e_left) (pair_prec e r (sym (waiting.ends e r small) ∙ item_in (list_at befores r) (seen_by_request seen r) below)))
           ] in
           record {
             is_ready = kept_in (is_ready befores seen) firsts r is_first (le-leb _ _ all);
             free = not_from_false _ (none_any (λ other. before other r) firsts (λ h h_there. false_from_ne_true _ (λ less. both_ways _ (unled h (first_left h h_there)) (before_prec h r less))));
           }
 
+      -- the best of the ready heads, compared by their stamps, is the best of all requests left, by precedence
       pub best_left : (best : Option ℕ) → IsBest report before firsts ready best → IsBest report prec left left best
       best_left None h =
           all_from (λ r. is_free prec left r ≡ false) left (λ r there. false_from_ne_true _ (λ free.

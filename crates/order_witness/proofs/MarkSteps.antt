@@ -15,9 +15,11 @@ use Rattle.report_rules.specs.Lookups.{request_at}
 use Rattle.report_rules.specs.Replay.{graph_of_commits, graph_after_commit, the_only, requests_numbered}
 use Rattle.order_witness.specs.Refusals.{IsRefusedOn, IsRefusedSo, Marks, IsMarkedOn, AreMarkedOn, refused_after, AreMarkedUpTo}
 
+-- if the number that is there is a and is b, these are equal
 pub one_number : (a b : ℕ) → Some a ≡ Some b → a ≡ b
 one_number a b e = cc
 
+-- a number that is there isn't missing
 pub nothing : (n : ℕ) → None ≡ Some n → ⊥
 nothing n e = cc
 

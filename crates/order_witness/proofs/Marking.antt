@@ -38,6 +38,7 @@ module _ (script : Script) (graph : PlainGraph) (after : ℕ) (replies : List Re
     set_at : (k : ℕ) (reply : Reply) → k ≡ p → slice_get replies k ≡ Some reply → IsSet new k reply
     set_at k reply same at = subst (λ n. IsSet new n reply) (sym same) (set_here reply (ap (slice_get replies) (sym same) ∙ at))
 
+    -- when the mark of one reply is set, each mark is still as at the start, or set
     pub either_next : AreKeptOrSet new
     either_next k reply at =
         elim (cases_eq k p) [
@@ -48,6 +49,7 @@ module _ (script : Script) (graph : PlainGraph) (after : ℕ) (replies : List Re
           ]
         ]
 
+    -- and the replies at the first places and at this one are marked
     pub marked_next : (places : List ℕ) (i : ℕ) → i < length places → get_or places i 0 ≡ p → AreMarkedAt (take i places) old → AreMarkedAt (take (i + 1) places) new
     marked_next places i lt is marked k reply at has =
         elim (cases_eq k p) [
@@ -60,6 +62,7 @@ module _ (script : Script) (graph : PlainGraph) (after : ℕ) (replies : List Re
               ]))
         ]
 
+  -- once the places of all that are refused after these commits are gone through, all replies are marked
   pub all_marked : (places : List ℕ) (n : ℕ) (now : List Bool) → length places ≤ n → HasRefused after replies places → AreMarkedAt (take n places) now → AreKeptOrSet now → AreMarkedOn script graph after replies start now
   all_marked places n now all has marked either place reply at =
       elim (either place reply at) [

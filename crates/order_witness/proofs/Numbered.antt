@@ -13,7 +13,7 @@ use Rattle.weave_data.proofs.Members.{has_head}
 use Rattle.report_rules.specs.declared.report.Reply.{Reply}
 use Rattle.report_rules.specs.declared.report.ReplyState.{ReplyState}
 use Rattle.report_rules.specs.declared.report.ReplyState.TheVariants.{Unbegun, Begun, Committed, Conflict, Refused, Finished}
-use Rattle.report_rules.specs.Lookups.{is_some_and, number_of}
+use Rattle.report_rules.specs.Lookups.{is_some_and, committed_number}
 use Rattle.report_rules.specs.Replay.{the_only}
 use Rattle.order_witness.specs.Begun.{numbers_in}
 use Rattle.order_witness.specs.ByNumber.{list_at, place_if_refused}
@@ -29,9 +29,11 @@ pub record AreEmptySoFar (count : ℕ) (lists : List (List ℕ)) : Type 0 where
   pub size : length lists ≡ count
   pub empty : (n : ℕ) → list_at lists n ≡ []
 
+-- without any list there are 0, all empty
 pub no_lists : AreEmptySoFar 0 []
 no_lists = record { size = refl; empty = λ n. get_or_past [] n [] (omega arith) }
 
+-- with one more empty list there is one more, and all are empty
 pub list_more : (count : ℕ) (lists : List (List ℕ)) (list : List ℕ) → AreEmptySoFar count lists → list ≡ [] → AreEmptySoFar (count + 1) (lists ++ list ∷ [])
 list_more count lists list so_far none = record {
   size = omega (arith, length-append lists (list ∷ []), so_far.size);
@@ -51,6 +53,7 @@ only_one [] d one = absurd (omega (arith, one))
 only_one (x ∷ []) d one = refl
 only_one (x ∷ y ∷ xs) d one = absurd (omega (arith, one))
 
+-- a list that hasn't exactly one element has no only one
 pub not_one : (xs : List ℕ) → (length xs ≡ 1 → ⊥) → the_only xs ≡ None
 not_one [] more = refl
 not_one (x ∷ []) more = absurd (more refl)
@@ -59,18 +62,18 @@ not_one (x ∷ y ∷ xs) more = refl
 -- there are no more commits than replies
 pub numbers_within : (replies : List Reply) → length (numbers_in replies) ≤ length replies
 numbers_within [] = omega arith
-numbers_within (reply ∷ replies) = of_one (number_of reply.state) (numbers_within replies)
+numbers_within (reply ∷ replies) = of_one (committed_number reply.state) (numbers_within replies)
   where
     of_one : (o : Option ℕ) → length (numbers_in replies) ≤ length replies → length (cons_option o (numbers_in replies)) ≤ suc (length replies)
     of_one None rest = omega (arith, rest)
     of_one (Some n) rest = omega (arith, rest)
 
--- the requests with a number, with one more reply
+-- one more reply adds its request, if it has the number, at the end of the requests with that number
 pub numbered_more : (n : ℕ) (replies : List Reply) (i : ℕ) (reply : Reply) → i < length replies → reply ≡ get_or replies i reply → numbered_in n (take (i + 1) replies) ≡ numbered_in n (take i replies) ++ numbered_in n (reply ∷ [])
 numbered_more n replies i reply lt is =
     ap (numbered_in n) (take_more replies i reply lt ∙ ap (λ (r : Reply). take i replies ++ r ∷ []) (sym is))
-    ∙ ap (map (λ (r : Reply). r.request)) (filter-append (λ (r : Reply). is_some_and (λ m. eqb m n) (number_of r.state)) (take i replies) (reply ∷ []))
-    ∙ map-append (λ (r : Reply). r.request) (filter (λ (r : Reply). is_some_and (λ m. eqb m n) (number_of r.state)) (take i replies)) (filter (λ (r : Reply). is_some_and (λ m. eqb m n) (number_of r.state)) (reply ∷ []))
+    ∙ ap (map (λ (r : Reply). r.request)) (filter-append (λ (r : Reply). is_some_and (λ m. eqb m n) (committed_number r.state)) (take i replies) (reply ∷ []))
+    ∙ map-append (λ (r : Reply). r.request) (filter (λ (r : Reply). is_some_and (λ m. eqb m n) (committed_number r.state)) (take i replies)) (filter (λ (r : Reply). is_some_and (λ m. eqb m n) (committed_number r.state)) (reply ∷ []))
 
 -- a reply that is refused after this number of commits has its place
 pub place_there : (n place : ℕ) (state : ReplyState) → refused_after state ≡ Some n → place_if_refused n place state ≡ place ∷ []
@@ -86,6 +89,7 @@ abbrev pub HaveRefusedTo : ℕ → List Reply → List (List ℕ) → Type 0
 HaveRefusedTo count replies lists =
     (n place : ℕ) (reply : Reply) → n < length lists → place < count → slice_get replies place ≡ Some reply → refused_after reply.state ≡ Some n → Contains (list_at lists n) place
 
+-- once the next reply, if it is refused, has its place in its list, the lists have the places of one reply more
 pub refused_more : (replies : List Reply) (i : ℕ) (item : Reply) (lists next : List (List ℕ)) → ((reply : Reply) → slice_get replies i ≡ Some reply → reply ≡ item) → length next ≡ length lists
     → ((n : ℕ) → n < length lists → list_at next n ≡ list_at lists n ++ place_if_refused n i item.state) → HaveRefusedTo i replies lists → HaveRefusedTo (i + 1) replies next
 refused_more replies i item lists next is_item same put so_far n place reply within below at refused =

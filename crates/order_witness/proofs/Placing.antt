@@ -16,12 +16,15 @@ pub record IsStrict : Type 0 where
   pub irreflexive : (a : Stamp) → ¬ IsTrue (stamp_before a a)
   pub transitive : (a b c : Stamp) → IsTrue (stamp_before a b) → IsTrue (stamp_before b c) → IsTrue (stamp_before a c)
 
+-- a stamp before one that is at or before a third is before the third
 pub before_at : IsStrict → (a b c : Stamp) → IsTrue (stamp_before a b) → IsAtOrBefore b c → IsTrue (stamp_before a c)
 before_at strict a b c g h = elim h [ inl same ↦ subst (λ x. IsTrue (stamp_before a x)) same g | inr more ↦ strict.transitive a b c g more ]
 
+-- a stamp at or before one that is before a third is before the third
 pub at_before : IsStrict → (a b c : Stamp) → IsAtOrBefore a b → IsTrue (stamp_before b c) → IsTrue (stamp_before a c)
 at_before strict a b c g h = elim g [ inl same ↦ subst (λ x. IsTrue (stamp_before x c)) (sym same) h | inr less ↦ strict.transitive a b c less h ]
 
+-- a stamp at or before one that is at or before a third is at or before the third
 pub at_at : IsStrict → (a b c : Stamp) → IsAtOrBefore a b → IsAtOrBefore b c → IsAtOrBefore a c
 at_at strict a b c g h = elim h [ inl same ↦ subst (λ x. IsAtOrBefore a x) same g | inr more ↦ inr (at_before strict a b c g more) ]
 
@@ -35,6 +38,7 @@ before_trans strict report a b c g h = of_options (stamp_at report a) (stamp_at 
     of_options (Some s) (Some t) None g h = cc
     of_options (Some s) (Some t) (Some u) g h = strict.transitive s t u g h
 
+-- if the stamp that is there is s and is t, these are equal
 pub one_stamp : (s t : Stamp) → Some s ≡ Some t → s ≡ t
 one_stamp s t e = cc
 
@@ -57,6 +61,7 @@ zeros zero r = refl
 zeros (suc n) zero = refl
 zeros (suc n) (suc r) = zeros n r
 
+-- if every place is 0, the first 0 requests of the order have their places
 pub placed_none : (report : Report) (n : ℕ) (places : List ℕ) (latest : List (Option Stamp)) → places ≡ replicate n 0 → ArePlaced report 0 places latest
 placed_none report n places latest is = record {
   within = λ r. omega (arith, none r);
@@ -154,6 +159,7 @@ module _ (strict : IsStrict) (report : Report) (count r : ℕ) (places next : Li
             ]
       ]
 
+  -- if the one that comes next is the next of the order, one more of its first requests have their places
   pub placed_next : ((d : ℕ) → slice_index_or report.order count d ≡ r) → ArePlaced report (count + 1) next then_latest
   placed_next here = record {
     within = λ x. elim (cases_eq x r) [

@@ -18,7 +18,7 @@ use Rattle.report_rules.specs.Lookups.{is_in, AreBoth, stamp_at, given_pairs, Re
 use Rattle.report_rules.proofs.Precedence.{IsDecided}
 use Rattle.order_witness.specs.Closure.{Test, IsTransitive}
 use Rattle.order_witness.specs.Begun.{request_precedes}
-use Rattle.order_witness.specs.Choices.{IsBest, begun_in, is_free, home_in, home_at}
+use Rattle.order_witness.specs.Choices.{IsBest, requests_begun, is_free, home_in, home_at}
 use Rattle.order_witness.proofs.BegunLaws.{AreClosed, trans}
 use Rattle.order_witness.proofs.BegunCoherent.{one_home}
 use Rattle.order_witness.proofs.Testing.{way, tested}
@@ -27,10 +27,12 @@ use Rattle.order_witness.proofs.Replying.{is_numbered}
 -- Lists of numbers
 
 module _ (P : ℕ → Type 0) where
+  -- what holds of all numbers of a list holds of each one in it
   pub all_at : (xs : List ℕ) (r : ℕ) → AllByRecursion P xs → IsTrue (is_in r xs) → P r
   all_at [] r h there = cc
   all_at (x ∷ xs) r h there = elim (or_cases (nat_eq r x) _ there) [ inl here ↦ subst P (sym (eqb-true r x here)) h.0 | inr later ↦ all_at xs r h.1 later ]
 
+  -- what holds of each number in a list holds of all of it
   pub all_from : (xs : List ℕ) → ((r : ℕ) → IsTrue (is_in r xs) → P r) → AllByRecursion P xs
   all_from [] f = tt
   all_from (x ∷ xs) f = (f x (or_left _ _ (eq-eqb x x refl)), all_from xs (λ r there. f r (or_right (nat_eq r x) _ there)))
@@ -83,10 +85,12 @@ module _ (report : Report) where
   AreTaken start [] remaining = remaining ≡ start
   AreTaken start (r ∷ taken) remaining = IsNext report start r × AreTaken (without_request r start) taken remaining
 
+  -- if requests are taken in turn, and one is the next of those that remain, it is taken and the others remain
   pub taken_more : (start taken remaining : List ℕ) (r : ℕ) → AreTaken start taken remaining → IsNext report remaining r → AreTaken start (taken ++ r ∷ []) (without_request r remaining)
   taken_more start [] remaining r h next = (subst (λ (xs : List ℕ). IsNext report xs r) h next, ap (without_request r) h)
   taken_more start (x ∷ taken) remaining r h next = (h.0, taken_more (without_request x start) taken remaining r h.1 next)
 
+  -- if requests are taken in turn and then none remains, all are taken
   pub all_taken : (start taken remaining : List ℕ) → AreTaken start taken remaining → remaining ≡ [] → TakesAll report start taken
   all_taken start [] remaining h none = sym h ∙ none
   all_taken start (r ∷ taken) remaining h none = (h.0, all_taken (without_request r start) taken remaining h.1 none)
@@ -95,13 +99,13 @@ module _ (report : Report) where
   begun_of r None rest f h = h
   begun_of r (Some stamp) rest f h = (f stamp refl, h)
 
-  begun_each : (replies : List Reply) → ((i : ℕ) (reply : Reply) (s : Stamp) → slice_get replies i ≡ Some reply → reply.stamp ≡ Some s → IsBegun reply.request) → AllByRecursion IsBegun (begun_in replies)
+  begun_each : (replies : List Reply) → ((i : ℕ) (reply : Reply) (s : Stamp) → slice_get replies i ≡ Some reply → reply.stamp ≡ Some s → IsBegun reply.request) → AllByRecursion IsBegun (requests_begun replies)
   begun_each [] f = tt
-  begun_each (reply ∷ replies) f = begun_of reply.request reply.stamp (begun_in replies) (λ s is. f 0 reply s refl is) (begun_each replies (λ i r s at is. f (suc i) r s at is))
+  begun_each (reply ∷ replies) f = begun_of reply.request reply.stamp (requests_begun replies) (λ s is. f 0 reply s refl is) (begun_each replies (λ i r s at is. f (suc i) r s at is))
 
 module _ (script : Script) (report : Report) (holds : AllHold (replies_clause script report)) where
   -- the begun requests have stamps
-  pub all_begun : AllByRecursion (IsBegun report) (begun_in report.replies)
+  pub all_begun : AllByRecursion (IsBegun report) (requests_begun report.replies)
   all_begun = begun_each report report.replies (λ i reply s at is. (s, ap (stamp_at report) (is_numbered script report holds i reply at) ∙ ap (option_and_then (λ (r : Reply). r.stamp)) at ∙ is))
 
   module _ (decided : IsDecided) (all_closed : AreClosed) (precedence : Test) (same : (a b : ℕ) → precedence a b ≡ request_precedes report a b) where
@@ -136,6 +140,7 @@ module _ (script : Script) (report : Report) (holds : AllHold (replies_clause sc
     lesser a b s t at_a at_b less =
         subst (λ o. AreBoth (λ (x : Stamp) (y : Stamp). x.home < y.home) o (stamp_at report b)) (sym at_a) (subst (λ o. AreBoth (λ (x : Stamp) (y : Stamp). x.home < y.home) (Some s) o) (sym at_b) less)
 
+    -- of begun requests that remain, the best one is the next to be taken
     pub is_next : (remaining : List ℕ) (best : ℕ) → AllByRecursion (IsBegun report) remaining → IsBest report precedence remaining remaining (Some best) → IsNext report remaining best
     is_next remaining best begun h = record {
       remains = h.0;
@@ -189,6 +194,7 @@ module _ (script : Script) (report : Report) (holds : AllHold (replies_clause sc
 -- What is taken in turn doesn't precede itself
 
 module _ (report : Report) where
+  -- if requests are taken in turn until none remains, none of them precedes itself
   pub taken_itself : (taken start : List ℕ) → TakesAll report start taken → (r : ℕ) → IsTrue (is_in r start) → ¬ RequestPrecedes report r r
   taken_itself [] start h r there before = absurd (let none : is_in r start ≡ false = ap (is_in r) h in both_ways _ none there)
   taken_itself (x ∷ taken) start h r there before =

@@ -27,6 +27,7 @@ module _ (script : Script) (report : Report) (r : ℕ) (mark : Bool) where
   within : (at : ℕ) → IsTrue (stands_among_commits script report r at) → at ≤ commits report
   within at h = leb-true at (commits report) (and_parts (nat_le at (commits report)) _ h).0
 
+  -- if the mark is right, a reply that passes the test of refusals is in place by the clause on them
   pub refusal_fact : (state : ReplyState) → IsRight state → IsTrue (is_refusal_in_place script report r state mark) → IsRefusalInPlace script report r state
   refusal_fact Unbegun right h = tt
   refusal_fact Begun right h = tt
@@ -37,6 +38,7 @@ module _ (script : Script) (report : Report) (r : ℕ) (mark : Bool) where
       (parts.0, mark_holds mark _ parts.1 (right at refl (within at parts.0)))
   refusal_fact (Finished answer) right h = tt
 
+  -- and one that is in place passes the test
   pub refusal_test : (state : ReplyState) → IsRight state → IsRefusalInPlace script report r state → IsTrue (is_refusal_in_place script report r state mark)
   refusal_test Unbegun right h = refl
   refusal_test Begun right h = refl

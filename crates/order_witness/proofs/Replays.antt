@@ -59,6 +59,7 @@ module _ (script : Script) (report : Report) where
     pub left : graph ≡ graph_through start order
 
   module _ (start : PlainGraph) (order : List ℕ) (i d : ℕ) (graph now : PlainGraph) (lt : i < length order) (so_far : AreReplayed start graph (take i order)) where
+    -- if the outcome of the next request is what its reply says, one request more is replayed
     pub one_more : (r : ℕ) → r ≡ get_or order i d → TellsOf (MatchesItsReply graph script report r) now (graph_after graph (request_at script r)) true → AreReplayed start now (take (i + 1) order)
     one_more r is told =
         let same : i + 1 ≡ suc i = omega arith in
@@ -67,6 +68,7 @@ module _ (script : Script) (report : Report) where
           left = told.1 ∙ ap (λ g. graph_after g (request_at script r)) so_far.left ∙ ap (λ x. graph_after (graph_through start (take i order)) (request_at script x)) is ∙ sym (next_through start order i d lt);
         })
 
+    -- and if it isn't, the replay breaks first at this place
     pub first_break : (r : ℕ) → r ≡ get_or order i d → TellsOf (MatchesItsReply graph script report r) now (graph_after graph (request_at script r)) false → BreaksFirstAt (replay_from start script report order) (i + 1)
     first_break r is told =
         let same : i + 1 ≡ suc i = omega arith in
@@ -82,6 +84,7 @@ module _ (script : Script) (report : Report) (r : ℕ) where
     false_from_ne_true _ (λ there. both_ways _ none (or_right (nat_eq r x) _ there)),
   )
 
+  -- the graph at a request's place is what those before it leave, if it isn't among them
   pub graph_here : (graph : PlainGraph) (before after : List ℕ) → is_in r before ≡ false → graph_before r graph script (before ++ r ∷ after) ≡ graph_through script report graph before
   graph_here graph [] after none = ap (λ b. cond b graph (graph_before r (graph_after graph (request_at script r)) script after)) (eq-eqb r r refl)
   graph_here graph (x ∷ before) after none =

@@ -39,6 +39,7 @@ get_front [] i (suc j) lt = refl
 get_front (x ∷ xs) zero (suc j) lt = refl
 get_front (x ∷ xs) (suc i) (suc j) lt = get_front xs i j (omega (arith, lt))
 
+-- the elements before a place are as many as its number, counted from 0
 pub length_front : {A : Type 0} (xs : List A) (i : ℕ) (x : A) → slice_get xs i ≡ Some x → length (take i xs) ≡ i
 length_front [] i x at = cc
 length_front (y ∷ xs) zero x at = refl

@@ -41,6 +41,7 @@ module _ (test : ℕ → ℕ → Bool) (transitive : (a b c : ℕ) → IsTrue (t
       let second : slice_index xs j ≡ get_or xs j d = get_or_default xs j 0 d below in
       subst (λ b. IsTrue (test (get_or xs i d) b)) second (subst (λ a. IsTrue (test a (slice_index xs j))) first both)
 
+  -- if by a transitive test each of a list comes before the next, of two different ones one comes before the other
   pub two_of : (a b : ℕ) → Contains xs a → Contains xs b → a ≢ b → IsTrue (test a b) ⊎ IsTrue (test b a)
   two_of a b has_a has_b other =
       elim (pairs_cases (λ x y. IsTrue (test x y)) xs all_pairs a b has_a has_b) [ inl same ↦ absurd (other same) | inr either ↦ either ]
@@ -53,7 +54,7 @@ in_turn_more test xs next so_far here k below =
       | inr last ↦ here k (omega (arith, below, last))
     ]
 
--- the neighbours at a place, by the place of the second one
+-- if the elements before and at a place pass the test, so do those at and after the place before it
 pub neighbours_at : (test : ℕ → ℕ → Bool) (xs : List ℕ) (next k : ℕ) → k + 1 ≡ next → IsTrue (test (slice_index xs (next - 1)) (slice_index xs next)) → IsTrue (test (slice_index xs k) (slice_index xs (k + 1)))
 neighbours_at test xs next k last h =
     let first : next - 1 ≡ k = omega (arith, last) in
@@ -138,6 +139,7 @@ module _ (strict : IsStrict) (replies : List Reply) where
   with_stamps : (a b : ℕ) (s t : Stamp) → stamp_in replies a ≡ Some s → stamp_in replies b ≡ Some t → IsTrue (request_comes_before replies a b) → IsTrue (comes_before s t)
   with_stamps a b s t at_a at_b h = subst (λ o. IsTrue (are_both comes_before (Some s) o)) at_b (subst (λ o. IsTrue (are_both comes_before o (stamp_in replies b))) at_a h)
 
+  -- if each of some requests comes before the next, and all begun ones are among them, their stamps are apart
   pub stamps_apart : (places : List ℕ) → ((place : ℕ) (stamp : Stamp) → stamp_in replies place ≡ Some stamp → Contains places place)
       → AreInTurnTo (request_comes_before replies) places (length places) → AreStampsApart replies
   stamps_apart places there in_turn a b s t other at_a at_b =
@@ -146,7 +148,7 @@ module _ (strict : IsStrict) (replies : List Reply) where
         | inr second ↦ apart_second s t (with_stamps b a t s at_b at_a second)
       ]
 
--- the places that are left of what is sorted
+-- each place of the entries is still among the places after sorting
 pub places_moved : (entries sorted : List (ℕ × ℕ × ℕ × ℕ)) (places : List ℕ) → IsPermutation entries sorted → places ≡ map (λ (one : ℕ × ℕ × ℕ × ℕ). one.3) sorted
     → (place : ℕ) → Contains (map (λ (one : ℕ × ℕ × ℕ × ℕ). one.3) entries) place → Contains places place
 places_moved entries sorted places moved is place has =
@@ -200,6 +202,7 @@ module _ (strict : IsStrict) (script : Script) (replies : List Reply) where
   with_requests : (a b : ℕ) (x y : Request) → request_at script a ≡ Some x → request_at script b ≡ Some y → IsTrue (session_comes_before script replies a b) → IsTrue (session_test a b x y)
   with_requests a b x y at_a at_b h = subst (λ o. IsTrue (are_both (session_test a b) (Some x) o)) at_b (subst (λ o. IsTrue (are_both (session_test a b) o (request_at script b))) at_a h)
 
+  -- if the sorted requests, with all that have replies, each come before the next, those of a session begin in turn
   pub sessions_take_turns : (entries sorted : List (ℕ × ℕ)) (places : List ℕ) → ((place : ℕ) (request : Request) → place < length replies → request_at script place ≡ Some request → Contains (map (λ (one : ℕ × ℕ). one.1) entries) place)
       → IsPermutation entries sorted → places ≡ map (λ (one : ℕ × ℕ). one.1) sorted → AreInTurnTo (session_comes_before script replies) places (length places) → DoSessionsTakeTurns script replies
   sessions_take_turns entries sorted places has moved is in_turn a b x y less below at_a at_b same =
@@ -241,6 +244,7 @@ pub stamp_place : (place : ℕ) (o : Option Stamp) (stamp : Stamp) → o ≡ Som
 stamp_place place None stamp is = absurd (cc)
 stamp_place place (Some s) stamp is = refl
 
+-- what the sort of sessions sees of a request has its place, too
 pub session_place : (place : ℕ) (o : Option Request) (request : Request) → o ≡ Some request → map (λ (one : ℕ × ℕ). one.1) (session_entry place o) ≡ place ∷ []
 session_place place None request is = absurd (cc)
 session_place place (Some s) request is = refl

@@ -4,15 +4,15 @@ use Rattle.std.proofs.Common.{◌≡◌, ℕ, ◌<◌, ◌≤◌, false, IsTrue,
 use Rattle.std.proofs.lemmas.Bool.{cases_lt, cases_eq, both_ways}
 use Rattle.std.proofs.lemmas.List.{get_or_past, get_or_append_left, length-append}
 use Rattle.std.proofs.Math.Seq.{get_or-append_seam}
-use Rattle.order_witness.specs.Bits.{has_bit, leads, row_of, HaveWords}
+use Rattle.order_witness.specs.Bits.{has_bit, rows_lead, row_of, HaveWords}
 use Rattle.order_witness.proofs.BitLemmas.{past}
 
 -- past the last row nothing leads anywhere
-pub past_rows : (rows : List (List ℕ)) (a b : ℕ) → length rows ≤ a → leads rows a b ≡ false
+pub past_rows : (rows : List (List ℕ)) (a b : ℕ) → length rows ≤ a → rows_lead rows a b ≡ false
 past_rows rows a b beyond = ap (λ (row : List ℕ). has_bit row b) (get_or_past rows a [] beyond) ∙ past [] b refl
 
 -- a number that leads somewhere has a row
-pub has_row : (rows : List (List ℕ)) (a b : ℕ) → IsTrue (leads rows a b) → a < length rows
+pub has_row : (rows : List (List ℕ)) (a b : ℕ) → IsTrue (rows_lead rows a b) → a < length rows
 has_row rows a b h = elim (cases_lt a (length rows)) [ inl within ↦ within | inr beyond ↦ absurd (both_ways _ (past_rows rows a b beyond) h) ]
 
 module _ (rows : List (List ℕ)) (row : List ℕ) where
@@ -27,6 +27,7 @@ module _ (rows : List (List ℕ)) (row : List ℕ) where
   last_row : (a : ℕ) → a ≡ length rows → row_of (rows ++ row ∷ []) a ≡ row
   last_row a last = subst (λ x. row_of (rows ++ row ∷ []) x ≡ row) (sym last) (get_or-append_seam rows row [] [])
 
+  -- if each row has this number of words and one more row does, they all do
   pub words_more : (words : ℕ) → HaveWords words rows → length row ≡ words → HaveWords words (rows ++ row ∷ [])
   words_more words have is a below =
       elim (which a) [
@@ -34,7 +35,8 @@ module _ (rows : List (List ℕ)) (row : List ℕ) where
         | inr more ↦ elim more [ inl last ↦ ap length (last_row a last) ∙ is | inr beyond ↦ absurd (omega (arith, below, beyond)) ]
       ]
 
-  pub empty_more : ((a b : ℕ) → leads rows a b ≡ false) → ((n : ℕ) → has_bit row n ≡ false) → (a b : ℕ) → leads (rows ++ row ∷ []) a b ≡ false
+  -- if rows lead nowhere and one more row has no number, they lead nowhere with it
+  pub empty_more : ((a b : ℕ) → rows_lead rows a b ≡ false) → ((n : ℕ) → has_bit row n ≡ false) → (a b : ℕ) → rows_lead (rows ++ row ∷ []) a b ≡ false
   empty_more none empty a b =
       elim (which a) [
         | inl within ↦ ap (λ (r : List ℕ). has_bit r b) (get_or_append_left rows (row ∷ []) [] a within) ∙ none a b
@@ -42,5 +44,5 @@ module _ (rows : List (List ℕ)) (row : List ℕ) where
       ]
 
 -- rows without end that lead nowhere
-pub no_rows : (a b : ℕ) → leads [] a b ≡ false
+pub no_rows : (a b : ℕ) → rows_lead [] a b ≡ false
 no_rows a b = past_rows [] a b (omega arith)

@@ -38,6 +38,7 @@ module _ {A : Type 0} (test : A → A → Bool) (tells : Tells test) where
   list_itself [] = refl
   list_itself (x ∷ xs) = and_from _ _ (tells.itself x) (list_itself xs)
 
+  -- a test that tells whether values are equal, made place by place, tells whether lists of them are equal
   pub lists_tell : Tells (pointwise test)
   lists_tell = record { one = one_list; itself = list_itself }
 
@@ -85,6 +86,7 @@ module _ {A : Type 0} (test : A → A → Bool) (tells : Tells test) where
       name_itself : (x : Name) → IsTrue (same_name x x)
       name_itself x = (eq_by_cmp_equiv nat_list_cmp_total).refl x
 
+-- the comparison of names tells whether they are equal
 pub names_tell : Tells same_name
 names_tell = record { one = one_name; itself = λ x. (eq_by_cmp_equiv nat_list_cmp_total).refl x }
 
@@ -108,6 +110,7 @@ records_tell = record {
   itself = λ a. and_from _ _ (maps_tell.itself a.props) ((lists_tell _ (named_tell same_edge edges_tell)).itself a.edges);
 }
 
+-- the same of the answers of `get`s
 pub gots_tell : Tells same_got
 gots_tell = record {
   one = λ a b h.
@@ -165,6 +168,7 @@ outcome_itself (Reached a) = truth_itself a
 outcome_itself (Found a) = (lists_tell same_name names_tell).itself a
 outcome_itself (Walk a) = walks_tell.itself a
 
+-- the same of the answers of programs
 pub outcomes_tell : Tells same_outcome
 outcomes_tell = record { one = outcome_one; itself = outcome_itself }
 

@@ -20,8 +20,8 @@ use Rattle.report_rules.proofs.Precedence.{IsDecided}
 use Rattle.order_witness.specs.declared.heads.Run.{Run}
 use Rattle.order_witness.specs.Begun.{request_precedes, stamp_in, NonePrecedesItself}
 use Rattle.order_witness.specs.ByNumber.{list_at}
-use Rattle.order_witness.specs.Choices.{IsBest, begun_in}
-use Rattle.order_witness.specs.Heads.{item, is_done, left_of, AreRising, IsReached, listed_in, seen_by, AreEarlierEnds, AreWaiting}
+use Rattle.order_witness.specs.Choices.{IsBest, requests_begun}
+use Rattle.order_witness.specs.Heads.{item, is_done, requests_left, AreRising, IsReached, listed_in, seen_by_request, AreEarlierEnds, AreWaiting}
 use Rattle.order_witness.proofs.BegunLaws.{AreClosed, both_there}
 use Rattle.order_witness.proofs.Leading.{begun_there, left_there, left_begun, left_without}
 use Rattle.order_witness.proofs.Printing.{AreTaken, IsBegun, all_at, all_from, any_in, all_begun, all_taken, is_next, none_left, taken_itself}
@@ -73,7 +73,7 @@ some_stamp : (o : Option Stamp) → not (is_some o) ≡ false → (s : Stamp) ×
 some_stamp None h = cc
 some_stamp (Some s) h = (s, refl)
 
-zeros : (n r : ℕ) → seen_by (replicate n 0) r ≡ 0
+zeros : (n r : ℕ) → seen_by_request (replicate n 0) r ≡ 0
 zeros zero r = get_or_past [] r 0 (omega arith)
 zeros (suc n) zero = refl
 zeros (suc n) (suc r) = zeros n r
@@ -88,14 +88,17 @@ module _ (report : Report) (done : List Bool) (done_is : done ≡ map never repo
   not_done : (r : ℕ) (s : Stamp) → stamp_at report r ≡ Some s → is_done done r ≡ false
   not_done r s at = done_at r ∙ ap (λ (o : Option Stamp). not (is_some o)) at
 
+  -- at first there are as many marks of what is done as replies
   pub start_size : length done ≡ length report.replies
   start_size = ap (λ (ds : List Bool). length ds) done_is ∙ length-map report.replies never
 
-  pub start_left : (script : Script) → AllHold (replies_clause script report) → left_of report done ≡ begun_requests report
-  start_left script holds = filter_whole (λ r. not (is_done done r)) (begun_in report.replies) (all_from (λ r. IsTrue (not (is_done done r))) (begun_in report.replies) (λ r there.
-      let begun = all_at (IsBegun report) (begun_in report.replies) r (all_begun script report holds) there in
+  -- at first all begun requests are left
+  pub start_left : (script : Script) → AllHold (replies_clause script report) → requests_left report done ≡ begun_requests report
+  start_left script holds = filter_whole (λ r. not (is_done done r)) (requests_begun report.replies) (all_from (λ r. IsTrue (not (is_done done r))) (requests_begun report.replies) (λ r there.
+      let begun = all_at (IsBegun report) (requests_begun report.replies) r (all_begun script report holds) there in
       not_from_false _ (not_done r begun.0 begun.1)))
 
+  -- at first those left are in the runs, and precede none that is done, if the runs rise and reach all begun ones
   pub start_waiting : (line : List ℕ) (befores : List (List ℕ)) (runs : List Run) (seen : List ℕ) (count : ℕ) → ((place : ℕ) (stamp : Stamp) → stamp_in report.replies place ≡ Some stamp → Contains line place)
       → AreRising report line runs → ((k : ℕ) → k < length line → IsReached runs k) → AreEarlierEnds report befores → count ≡ length report.replies → seen ≡ replicate count 0 → AreWaiting report line befores runs seen done
   start_waiting line befores runs seen count has rising reached ends count_is seen_is = record {
@@ -106,7 +109,7 @@ module _ (report : Report) (done : List Bool) (done_is : done ≡ map never repo
         let at = place_of line r (has r begun.0 begun.1) in
         (at.0, reached at.0 at.1, at.2);
     ends = ends;
-    seen_done = λ r k below. absurd (omega (arith, below, ap (λ (xs : List ℕ). seen_by xs r) seen_is ∙ zeros count r));
+    seen_done = λ r k below. absurd (omega (arith, below, ap (λ (xs : List ℕ). seen_by_request xs r) seen_is ∙ zeros count r));
     begun = begun_at;
     closed = λ r left s at is_done_r left_is. absurd (both_ways _ (not_done r s at) is_done_r);
   }
@@ -120,21 +123,25 @@ module _ (script : Script) (report : Report) (holds : AllHold (replies_clause sc
   as_tested : (a b : ℕ) → RequestPrecedes report a b → IsTrue (prec a b)
   as_tested a b h = tested decided script report prec (λ x y. refl) a b h
 
-  module _ (done : List Bool) (best : ℕ) (chosen : IsBest report prec (left_of report done) (left_of report done) (Some best)) (size : length done ≡ length report.replies) where
+  module _ (done : List Bool) (best : ℕ) (chosen : IsBest report prec (requests_left report done) (requests_left report done) (Some best)) (size : length done ≡ length report.replies) where
     best_begun : IsBegun report best
     best_begun = left_begun script report holds done best chosen.0
 
+    -- the best request has a reply
     pub best_within : best < length report.replies
     best_within = let reply = reply_of script report holds best best_begun.0 best_begun.1 in slice_get_within report.replies best reply.0 reply.1
 
+    -- and a mark of whether it is done
     pub best_inside : best < length done
     best_inside = omega (arith, best_within, size)
 
-    pub left_then : without_request best (left_of report done) ≡ left_of report (slice_set done best true)
+    -- those left, without the best one, are those left once it is done
+    pub left_then : without_request best (requests_left report done) ≡ requests_left report (slice_set done best true)
     left_then = left_without script report holds done best best_inside
 
-    pub next_is : IsNext report (left_of report done) best
-    next_is = is_next script report holds decided all_closed prec (λ x y. refl) (left_of report done) best (all_from (IsBegun report) (left_of report done) (λ r there. left_begun script report holds done r there)) chosen
+    -- the best one is the next of those left
+    pub next_is : IsNext report (requests_left report done) best
+    next_is = is_next script report holds decided all_closed prec (λ x y. refl) (requests_left report done) best (all_from (IsBegun report) (requests_left report done) (λ r there. left_begun script report holds done r there)) chosen
 
     stays_done : (r : ℕ) → is_done done r ≡ true → is_done (slice_set done best true) r ≡ true
     stays_done r h =
@@ -146,6 +153,7 @@ module _ (script : Script) (report : Report) (holds : AllHold (replies_clause sc
     was_left : (r : ℕ) → is_done (slice_set done best true) r ≡ false → is_done done r ≡ false
     was_left r h = false_from_ne_true _ (λ is. both_ways _ h (stays_done r is))
 
+    -- once it is done, those left are still in the runs, and precede none that is done
     pub waiting_then : (line : List ℕ) (befores : List (List ℕ)) (runs : List Run) (seen : List ℕ) → AreWaiting report line befores runs seen done → AreWaiting report line befores runs seen (slice_set done best true)
     waiting_then line befores runs seen waiting = record {
       size = waiting.size;
@@ -160,7 +168,7 @@ module _ (script : Script) (report : Report) (holds : AllHold (replies_clause sc
             | inr other ↦ waiting.closed r left s at (sym (get_or-set_other done best r true true other) ∙ done_r) left_was
             | inl same ↦
                 let there = left_there script report holds done left (waiting.begun left left_was) left_was in
-                ap (prec left) same ∙ false_from_ne_true _ (λ h. both_ways _ (not-true _ chosen.1) (any_in (λ other. prec other best) (left_of report done) left there h))
+                ap (prec left) same ∙ false_from_ne_true _ (λ h. both_ways _ (not-true _ chosen.1) (any_in (λ other. prec other best) (requests_left report done) left there h))
           ];
     }
 
@@ -173,10 +181,11 @@ module _ (script : Script) (report : Report) (holds : AllHold (replies_clause sc
 
   -- The end
 
-  pub in_the_end : (done : List Bool) (taken order : List ℕ) → AreTaken report (begun_requests report) taken (left_of report done) → order ≡ filter (may_be_listed report) taken → ((r : ℕ) → is_done done r ≡ true) → IsPrintedOrder report order × NonePrecedesItself report
+  -- once all are done, those taken that may be listed are the printed order, and no request precedes itself
+  pub in_the_end : (done : List Bool) (taken order : List ℕ) → AreTaken report (begun_requests report) taken (requests_left report done) → order ≡ filter (may_be_listed report) taken → ((r : ℕ) → is_done done r ≡ true) → IsPrintedOrder report order × NonePrecedesItself report
   in_the_end done taken order in_turn listed all =
-      let none : left_of report done ≡ [] = filter_none (begun_in report.replies) in
-      let takes : TakesAll report (begun_requests report) taken = all_taken report (begun_requests report) taken (left_of report done) in_turn none in (
+      let none : requests_left report done ≡ [] = filter_none (requests_begun report.replies) in
+      let takes : TakesAll report (begun_requests report) taken = all_taken report (begun_requests report) taken (requests_left report done) in_turn none in (
         record { taken = taken; in_turn = takes; listed = listed },
         λ r h. taken_itself report taken (begun_requests report) takes r (begun_of r h) h,
       )
@@ -184,13 +193,14 @@ module _ (script : Script) (report : Report) (holds : AllHold (replies_clause sc
       filter_none : (xs : List ℕ) → filter (λ r. not (is_done done r)) xs ≡ []
       filter_none xs = none_passes (λ r. not (is_done done r)) (λ r. ap not (all r)) xs
 
-      begun_of : (r : ℕ) → RequestPrecedes report r r → IsTrue (is_in r (begun_in report.replies))
+      begun_of : (r : ℕ) → RequestPrecedes report r r → IsTrue (is_in r (requests_begun report.replies))
       begun_of r h = let there = both_there (precedes (given_pairs report)) (stamp_at report r) (stamp_at report r) (as_tested r r h) in begun_there script report holds r (there.x, there.first_is)
 
-  pub not_in_the_end : (done : List Bool) → ((r : ℕ) → is_done done r ≡ false → IsBegun report r) → IsBest report prec (left_of report done) (left_of report done) None → ¬ IsTrue (list_all (λ is. is) done) → ¬ NonePrecedesItself report
+  -- if some are left and none of them is free, it isn't so that no request precedes itself
+  pub not_in_the_end : (done : List Bool) → ((r : ℕ) → is_done done r ≡ false → IsBegun report r) → IsBest report prec (requests_left report done) (requests_left report done) None → ¬ IsTrue (list_all (λ is. is) done) → ¬ NonePrecedesItself report
   not_in_the_end done begun best some acyclic =
-      let none : left_of report done ≡ [] = none_left script report holds decided all_closed prec (λ x y. refl) acyclic (left_of report done) best in
+      let none : requests_left report done ≡ [] = none_left script report holds decided all_closed prec (λ x y. refl) acyclic (requests_left report done) best in
       some (done_all done (λ r. elim (cases_Bool (is_done done r)) [
         | inl is ↦ is
-        | inr is_left ↦ absurd (let nowhere : is_in r (left_of report done) ≡ false = ap (is_in r) none in both_ways _ nowhere (left_there script report holds done r (begun r is_left) is_left))
+        | inr is_left ↦ absurd (let nowhere : is_in r (requests_left report done) ≡ false = ap (is_in r) none in both_ways _ nowhere (left_there script report holds done r (begun r is_left) is_left))
       ]))

@@ -7,7 +7,7 @@ use Rattle.std.proofs.lemmas.Bool.{and_parts, and_from, both_ways, not-true, not
 use Rattle.weave_data.proofs.Lists.{each_from}
 use Rattle.vector_stamp.specs.declared.clock.Stamp.{Stamp}
 use Rattle.vector_stamp.specs.Order.{stamp_before, unordered}
-use Rattle.vector_stamp.specs.Precedence.{Given, Precedes, precedes}
+use Rattle.vector_stamp.specs.Precedence.{GivenPair, Precedes, precedes}
 use Rattle.weave_data.specs.declared.name.Name.{Name}
 use Rattle.program_defs.specs.declared.script.Script.{Script}
 use Rattle.program_defs.specs.declared.script.Request.{Request}
@@ -20,7 +20,7 @@ use Rattle.report_rules.specs.declared.report.ReplyState.{ReplyState}
 use Rattle.report_rules.specs.declared.report.ReplyState.TheVariants.{Unbegun, Begun, Committed, Conflict, Refused, Finished}
 use Rattle.program_defs.specs.Visits.{IsVisited}
 use Rattle.report_rules.specs.Replay.{graph_at_place}
-use Rattle.report_rules.specs.Lookups.{are_both, AreBoth, request_at, reply_at, stamp_at, same_session, names_vertex, given_pairs, RequestPrecedes}
+use Rattle.report_rules.specs.Lookups.{are_both, AreBoth, request_at, reply_at, stamp_at, same_session, request_names_vertex, given_pairs, RequestPrecedes}
 use Rattle.report_rules.specs.RightReport.{IsListedInOrder, IsConflictInPlace, conflicts_clause, IsPairInPlace, MayBeLaterAt, is_committed_and_names}
 use Rattle.report_rules.proofs.Precedence.{IsDecided}
 use Rattle.weave_data.specs.Facts.{AllHold, facts_of_each}
@@ -32,12 +32,12 @@ use Rattle.order_witness.specs.Visited.{IsMarkedPair, MarksVisit, is_pair_in_pla
 
 -- Precedence
 
-way_of : IsDecided → (pairs : List Given) (a b : Option Stamp) → IsTrue (are_both (precedes pairs) a b) → AreBoth (Precedes pairs) a b
+way_of : IsDecided → (pairs : List GivenPair) (a b : Option Stamp) → IsTrue (are_both (precedes pairs) a b) → AreBoth (Precedes pairs) a b
 way_of decided pairs None b h = cc
 way_of decided pairs (Some x) None h = cc
 way_of decided pairs (Some x) (Some y) h = (decided pairs x y).1 h
 
-test_of : IsDecided → (pairs : List Given) (a b : Option Stamp) → AreBoth (Precedes pairs) a b → IsTrue (are_both (precedes pairs) a b)
+test_of : IsDecided → (pairs : List GivenPair) (a b : Option Stamp) → AreBoth (Precedes pairs) a b → IsTrue (are_both (precedes pairs) a b)
 test_of decided pairs None b h = absurd h
 test_of decided pairs (Some x) None h = absurd h
 test_of decided pairs (Some x) (Some y) h = (decided pairs x y).0 h
@@ -45,11 +45,13 @@ test_of decided pairs (Some x) (Some y) h = (decided pairs x y).0 h
 -- Lists
 
 module _ {A : Type 0} (test : A → Bool) (P : A → Type 0) where
+  -- if each value of which the fact holds passes the test, a list all of which have it passes throughout
   pub each_to : ((x : A) → P x → IsTrue (test x)) → (xs : List A) → AllByRecursion P xs → IsTrue (list_all test xs)
   each_to f [] h = refl
   each_to f (x ∷ xs) h = and_from _ _ (f x h.0) (each_to f xs h.1)
 
 module _ {A : Type 0} (test : A → Bool) where
+  -- of a list that passes throughout, the element at each place passes
   pub passes_at : (xs : List A) (n : ℕ) (x : A) → IsTrue (list_all test xs) → slice_get xs n ≡ Some x → IsTrue (test x)
   passes_at [] n x h at = cc
   passes_at (y ∷ xs) zero x h at = subst (λ z. IsTrue (test z)) (one_value y x at) (and_parts (test y) (list_all test xs) h).0
@@ -59,9 +61,11 @@ module _ {A : Type 0} (test : A → Bool) where
   passes_at (y ∷ xs) (suc n) x h at = passes_at xs n x (and_parts (test y) (list_all test xs) h).1 at
 
 module _ (decided : IsDecided) (script : Script) (report : Report) (precedence : Test) (same : (a b : ℕ) → precedence a b ≡ request_precedes report a b) where
+  -- what passes the test of precedence precedes
   pub way : (a b : ℕ) → IsTrue (precedence a b) → RequestPrecedes report a b
   way a b h = way_of decided (given_pairs report) (stamp_at report a) (stamp_at report b) (sym (same a b) ∙ h)
 
+  -- and what precedes passes the test
   pub tested : (a b : ℕ) → RequestPrecedes report a b → IsTrue (precedence a b)
   tested a b h = same a b ∙ test_of decided (given_pairs report) (stamp_at report a) (stamp_at report b) h
 
@@ -76,12 +80,14 @@ module _ (decided : IsDecided) (script : Script) (report : Report) (precedence :
   sessions : List ℕ → ℕ → Bool
   sessions before r = list_all (λ earlier. not (same_session script earlier r) || nat_lt earlier r) before
 
+  -- a request that passes the test of the order is listed in order
   pub listed_fact : (before : List ℕ) (r : ℕ) → IsTrue (is_listed_in_order script precedence before r) → IsListedInOrder script report before r
   listed_fact before r h =
       let parts = and_parts (not (precedence r r) && list_all (λ earlier. not (precedence r earlier)) before) _ h in
       let first = and_parts (not (precedence r r)) (list_all (λ earlier. not (precedence r earlier)) before) parts.0 in
       ((no_way r r first.0, each_from (λ earlier. not (precedence r earlier)) (λ earlier. ¬ RequestPrecedes report r earlier) (λ earlier. no_way r earlier) before first.1), parts.1)
 
+  -- and one that is listed in order passes the test
   pub listed_test : (before : List ℕ) (r : ℕ) → IsListedInOrder script report before r → IsTrue (is_listed_in_order script precedence before r)
   listed_test before r h =
       and_from _ _
@@ -90,16 +96,18 @@ module _ (decided : IsDecided) (script : Script) (report : Report) (precedence :
 
   -- Conflicts
 
+  -- a reply that passes the test of conflicts is in place by the clause on them
   pub conflict_fact : (r : ℕ) (state : ReplyState) → IsTrue (is_conflict_in_place script report precedence r state) → IsConflictInPlace script report r state
   conflict_fact r Unbegun h = tt
   conflict_fact r Begun h = tt
   conflict_fact r (Committed number answers) h = tt
   conflict_fact r (Conflict v newer) h =
-      let parts = and_parts (is_committed_and_names script report v newer && not (same_session script r newer) && names_vertex script r v) (precedence r newer) h in
+      let parts = and_parts (is_committed_and_names script report v newer && not (same_session script r newer) && request_names_vertex script r v) (precedence r newer) h in
       (parts.0, way r newer parts.1)
   conflict_fact r (Refused op reason at) h = tt
   conflict_fact r (Finished answer) h = tt
 
+  -- and one that is in place passes the test
   pub conflict_test : (r : ℕ) (state : ReplyState) → IsConflictInPlace script report r state → IsTrue (is_conflict_in_place script report precedence r state)
   conflict_test r Unbegun h = refl
   conflict_test r Begun h = refl
@@ -116,17 +124,17 @@ conflict_more script report less more has r Unbegun h = refl
 conflict_more script report less more has r Begun h = refl
 conflict_more script report less more has r (Committed number answers) h = refl
 conflict_more script report less more has r (Conflict v newer) h =
-    let parts = and_parts (is_committed_and_names script report v newer && not (same_session script r newer) && names_vertex script r v) (less r newer) h in
+    let parts = and_parts (is_committed_and_names script report v newer && not (same_session script r newer) && request_names_vertex script r v) (less r newer) h in
     and_from _ _ parts.0 (has r newer parts.1)
 conflict_more script report less more has r (Refused op reason at) h = refl
 conflict_more script report less more has r (Finished answer) h = refl
 
-stamps_precede : ((pairs : List Given) (a b : Stamp) → IsTrue (stamp_before a b) → IsTrue (precedes pairs a b)) → (pairs : List Given) (a b : Option Stamp) → IsTrue (are_both stamp_before a b) → IsTrue (are_both (precedes pairs) a b)
+stamps_precede : ((pairs : List GivenPair) (a b : Stamp) → IsTrue (stamp_before a b) → IsTrue (precedes pairs a b)) → (pairs : List GivenPair) (a b : Option Stamp) → IsTrue (are_both stamp_before a b) → IsTrue (are_both (precedes pairs) a b)
 stamps_precede has pairs None b h = cc
 stamps_precede has pairs (Some x) None h = cc
 stamps_precede has pairs (Some x) (Some y) h = has pairs x y h
 
-module _ (has : (pairs : List Given) (a b : Stamp) → IsTrue (stamp_before a b) → IsTrue (precedes pairs a b)) (decided : IsDecided) (script : Script) (report : Report) where
+module _ (has : (pairs : List GivenPair) (a b : Stamp) → IsTrue (stamp_before a b) → IsTrue (precedes pairs a b)) (decided : IsDecided) (script : Script) (report : Report) where
   all_facts : (replies : List Reply) → IsTrue (list_all (λ (reply : Reply). is_conflict_in_place script report (is_request_before report) reply.request reply.state) replies) → AllHold (facts_of_each (λ (reply : Reply). IsConflictInPlace script report reply.request reply.state) replies)
   all_facts [] h = tt
   all_facts (reply ∷ replies) h =
@@ -134,6 +142,7 @@ module _ (has : (pairs : List Given) (a b : Stamp) → IsTrue (stamp_before a b)
       let more = conflict_more script report (is_request_before report) (request_precedes report) (λ a b. stamps_precede has (given_pairs report) (stamp_at report a) (stamp_at report b)) reply.request reply.state parts.0 in
       (conflict_fact decided script report (request_precedes report) (λ a b. refl) reply.request reply.state more, all_facts replies parts.1)
 
+  -- if each conflict is in place already by the order of stamps alone, the clause on conflicts holds
   pub conflicts_hold : IsTrue (list_all (λ (reply : Reply). is_conflict_in_place script report (is_request_before report) reply.request reply.state) report.replies) → AllHold (conflicts_clause script report)
   conflicts_hold h = all_facts report.replies h
 
@@ -180,12 +189,14 @@ module _ (script : Script) (report : Report) (v : Name) (r : ℕ) (mark : Bool) 
   both_test (Some request) (Some reply) marks h = later_test request.work reply.state (marks request reply refl refl) h
 
 module _ (script : Script) (report : Report) (pair : Pair) (mark : Bool) (marks : IsMarkedPair script report pair mark) where
+  -- if its mark is right, a pair that passes the test is in place
   pub pair_fact : IsTrue (is_pair_in_place script report pair mark) → IsPairInPlace script report pair
   pair_fact h =
       let parts = and_parts (are_both unordered (stamp_at report pair.earlier) (stamp_at report pair.later) && is_committed_and_names script report pair.vertex pair.earlier) _ h in
       let first = and_parts (are_both unordered (stamp_at report pair.earlier) (stamp_at report pair.later)) _ parts.0 in
       (first.0, first.1, both_fact script report pair.vertex pair.later mark (request_at script pair.later) (reply_at report pair.later) marks parts.1)
 
+  -- and one that is in place passes the test
   pub pair_test : IsPairInPlace script report pair → IsTrue (is_pair_in_place script report pair mark)
   pair_test h = and_from _ _ (and_from _ _ h.0 h.1) (both_test script report pair.vertex pair.later mark (request_at script pair.later) (reply_at report pair.later) marks h.2)
 

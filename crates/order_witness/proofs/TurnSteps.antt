@@ -14,7 +14,7 @@ use Rattle.report_rules.specs.declared.report.Reply.{Reply}
 use Rattle.report_rules.specs.declared.report.ReplyState.{ReplyState}
 use Rattle.report_rules.specs.declared.report.ReplyState.TheVariants.{Unbegun, Begun, Committed, Conflict, Refused, Finished}
 use Rattle.weave_data.specs.Facts.{AllHold}
-use Rattle.report_rules.specs.Lookups.{is_none_or, number_of, request_at, same_session}
+use Rattle.report_rules.specs.Lookups.{is_none_or, committed_number, request_at, same_session}
 use Rattle.report_rules.specs.RightReport.{keeps_number, replies_clause}
 use Rattle.order_witness.specs.Refusals.{refused_after}
 use Rattle.order_witness.specs.Turns.{top_number, top_after, fits_after, IsTurnTaken, DoNumbersTakeTurns, AreAllKept}
@@ -24,7 +24,7 @@ use Rattle.order_witness.proofs.Replying.{is_numbered}
 
 -- What a state says
 
-number_top : (state : ReplyState) (n : ℕ) → number_of state ≡ Some n → top_number state ≡ n
+number_top : (state : ReplyState) (n : ℕ) → committed_number state ≡ Some n → top_number state ≡ n
 number_top Unbegun n e = absurd (nothing n e)
 number_top Begun n e = absurd (nothing n e)
 number_top (Committed number answers) n e = one_number number n e
@@ -40,7 +40,7 @@ after_top (Conflict v newer) n e = absurd (nothing n e)
 after_top (Refused op reason at) n e = one_number at n e
 after_top (Finished answer) n e = absurd (nothing n e)
 
-number_fits : (number after : ℕ) (state : ReplyState) (n : ℕ) → IsTrue (fits_after number after state) → number_of state ≡ Some n → after < n
+number_fits : (number after : ℕ) (state : ReplyState) (n : ℕ) → IsTrue (fits_after number after state) → committed_number state ≡ Some n → after < n
 number_fits number after Unbegun n h e = absurd (nothing n e)
 number_fits number after Begun n h e = absurd (nothing n e)
 number_fits number after (Committed m answers) n h e = omega (arith, ltb-true after m h, one_number m n e)
@@ -57,7 +57,7 @@ after_fits number after (Refused op reason at) n h e = omega (arith, leb-true nu
 after_fits number after (Finished answer) n h e = absurd (nothing n e)
 
 -- a refused one has no commit number
-no_number : (state : ReplyState) (at : ℕ) → refused_after state ≡ Some at → number_of state ≡ None
+no_number : (state : ReplyState) (at : ℕ) → refused_after state ≡ Some at → committed_number state ≡ None
 no_number Unbegun at e = refl
 no_number Begun at e = refl
 no_number (Committed number answers) at e = absurd (nothing at e)
@@ -71,6 +71,7 @@ pub record AreTops (script : Script) (replies : List Reply) (count : ℕ) (numbe
   pub in_turn : DoNumbersTakeTurns script replies count
   pub tops : (a : ℕ) (reply : Reply) (x : Request) → a < count → slice_get replies a ≡ Some reply → request_at script a ≡ Some x → (top_number reply.state ≤ slice_index numbers x.session) × (top_after reply.state ≤ slice_index afters x.session)
 
+-- of no replies any numbers are the greatest ones, and all are in turn
 pub tops_none : (script : Script) (replies : List Reply) (numbers afters : List ℕ) → AreTops script replies 0 numbers afters
 tops_none script replies numbers afters = record {
   in_turn = λ a b earlier later x y less below at_a at_b is_x is_y same. absurd (omega (arith, below));
@@ -108,6 +109,7 @@ module _ (script : Script) (replies : List Reply) (place : ℕ) (item : Reply) (
   request_here : (b : ℕ) (y : Request) → b ≡ place → request_at script b ≡ Some y → y.session ≡ s
   request_here b y same is = ap (λ (r : Request). r.session) (one_request y turn.request (sym is ∙ ap (request_at script) same ∙ turn.request_is))
 
+  -- with one more reply that takes its turn, all are in turn, and the new greatest numbers bound those so far
   pub tops_next : AreTops script replies (place + 1) next then_afters
   tops_next = record {
     in_turn = λ a b earlier later x y less below at_a at_b is_x is_y same.
@@ -124,7 +126,7 @@ module _ (script : Script) (replies : List Reply) (place : ℕ) (item : Reply) (
                     let at_is : refused_after item.state ≡ Some at = ap (λ (r : Reply). refused_after r.state) (sym later_is) ∙ after_is in
                     omega (arith, number_top earlier.state n number_is, number_top_is, after_fits (slice_index numbers s) (slice_index afters s) item.state at turn.fits at_is),
                 λ n at after_is number_is.
-                    let n_is : number_of item.state ≡ Some n = ap (λ (r : Reply). number_of r.state) (sym later_is) ∙ number_is in
+                    let n_is : committed_number item.state ≡ Some n = ap (λ (r : Reply). committed_number r.state) (sym later_is) ∙ number_is in
                     omega (arith, after_top earlier.state at after_is, after_top_is, number_fits (slice_index numbers s) (slice_index afters s) item.state n turn.fits n_is),
               )
         ];
@@ -149,19 +151,19 @@ module _ {A : Type 0} (P : A → Type 0) where
   each_at [] each = tt
   each_at (x ∷ xs) each = (each 0 x refl, each_at xs (λ k y at. each (suc k) y at))
 
-kept_before : (at r o : ℕ) (other : Reply) → other.request ≡ o → o < r → ((n : ℕ) → number_of other.state ≡ Some n → n ≤ at) → IsTrue (keeps_number at r other)
+kept_before : (at r o : ℕ) (other : Reply) → other.request ≡ o → o < r → ((n : ℕ) → committed_number other.state ≡ Some n → n ≤ at) → IsTrue (keeps_number at r other)
 kept_before at r o other is less each =
     let test : ltb other.request r ≡ true = lt-ltb other.request r (omega (arith, is, less)) in
-    subst (λ b. IsTrue (cond b (is_none_or (λ number. nat_le number at) (number_of other.state)) (is_none_or (λ number. nat_lt at number) (number_of other.state)))) (sym test) (of_option (number_of other.state) each)
+    subst (λ b. IsTrue (cond b (is_none_or (λ number. nat_le number at) (committed_number other.state)) (is_none_or (λ number. nat_lt at number) (committed_number other.state)))) (sym test) (of_option (committed_number other.state) each)
   where
     of_option : (o : Option ℕ) → ((n : ℕ) → o ≡ Some n → n ≤ at) → IsTrue (is_none_or (λ number. nat_le number at) o)
     of_option None f = refl
     of_option (Some n) f = le-leb n at (f n refl)
 
-kept_after : (at r o : ℕ) (other : Reply) → other.request ≡ o → r ≤ o → ((n : ℕ) → number_of other.state ≡ Some n → at < n) → IsTrue (keeps_number at r other)
+kept_after : (at r o : ℕ) (other : Reply) → other.request ≡ o → r ≤ o → ((n : ℕ) → committed_number other.state ≡ Some n → at < n) → IsTrue (keeps_number at r other)
 kept_after at r o other is at_least each =
     let test : ltb other.request r ≡ false = le-ltb other.request r (omega (arith, is, at_least)) in
-    subst (λ b. IsTrue (cond b (is_none_or (λ number. nat_le number at) (number_of other.state)) (is_none_or (λ number. nat_lt at number) (number_of other.state)))) (sym test) (of_option (number_of other.state) each)
+    subst (λ b. IsTrue (cond b (is_none_or (λ number. nat_le number at) (committed_number other.state)) (is_none_or (λ number. nat_lt at number) (committed_number other.state)))) (sym test) (of_option (committed_number other.state) each)
   where
     of_option : (o : Option ℕ) → ((n : ℕ) → o ≡ Some n → at < n) → IsTrue (is_none_or (λ number. nat_lt at number) o)
     of_option None f = refl
@@ -176,9 +178,9 @@ module _ (script : Script) (report : Report) (holds : AllHold (replies_clause sc
       let both = of_one (request_at script k) (request_at script place) sessions in
       elim (cases_order k place) [
         | inl here ↦
-            let none : number_of reply.state ≡ None = no_number reply.state at refused in
+            let none : committed_number reply.state ≡ None = no_number reply.state at refused in
             let one : other ≡ reply = one_reply other reply (sym is_k ∙ ap (slice_get report.replies) here ∙ is) in
-            kept_after at reply.request k other o_is (omega (arith, r_is, here)) (λ n number_is. absurd (nothing n (sym none ∙ ap (λ (r : Reply). number_of r.state) (sym one) ∙ number_is)))
+            kept_after at reply.request k other o_is (omega (arith, r_is, here)) (λ n number_is. absurd (nothing n (sym none ∙ ap (λ (r : Reply). committed_number r.state) (sym one) ∙ number_is)))
         | inr either ↦ elim either [
           | inl before ↦ kept_before at reply.request k other o_is (omega (arith, r_is, before)) (λ n number_is. (turns k place other reply both.x both.y before (slice_get_within report.replies place reply is) is_k is both.first both.second both.session).0 n at number_is refused)
           | inr behind ↦ kept_after at reply.request k other o_is (omega (arith, r_is, behind)) (λ n number_is. (turns place k reply other both.y both.x behind (slice_get_within report.replies k other is_k) is is_k both.second both.first (sym both.session)).1 n at refused number_is)
@@ -188,6 +190,7 @@ module _ (script : Script) (report : Report) (holds : AllHold (replies_clause sc
       one_reply : (x y : Reply) → Some x ≡ Some y → x ≡ y
       one_reply x y e = cc
 
+  -- if the numbers of each session are in turn, its commit numbers keep clear of each refused request
   pub all_kept : AreAllKept script report.replies
   all_kept place at reply is refused =
       list_all-from (λ (other : Reply). not (same_session script other.request reply.request) || keeps_number at reply.request other) report.replies

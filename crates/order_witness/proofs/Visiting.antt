@@ -86,6 +86,7 @@ module _ (script : Script) (report : Report) where
   -- the same by places in the order
   module _ (graph : PlainGraph) (places : List ℕ) (old new : List Bool) (others : AreOtherMarksKept places old new) (size : length new ≡ length report.pairs)
       (listing : AllHold (listing_clause report)) (order : List ℕ) (i : ℕ) (is : order ≡ report.order) (lt : i < length order) where
+    -- once the pairs of the next request are marked by the graph at its place, those of one request more are
     pub marked_next : graph ≡ graph_through script report empty_graph (take i order)
         → (get_or order i 0 < length report.replies → (place : ℕ) (pair : Pair) → slice_get report.pairs place ≡ Some pair → (pair.later ≡ get_or order i 0) ↔ Contains places place)
         → AreMarkedAt report.pairs graph (request_at script (get_or order i 0)) (reply_at report (get_or order i 0)) places new
@@ -202,9 +203,11 @@ module _ (pairs : List Pair) (visits : List Name) (start : List Bool) where
     pub others : (k : ℕ) → ¬ Contains places k → slice_index_or now k false ≡ slice_index_or start k false
     pub marked : (k : ℕ) (pair : Pair) → Contains places k → k < length start → slice_get pairs k ≡ Some pair → slice_index_or now k false ≡ has_name visits pair.vertex
 
+  -- before the first place no mark is set, and all are as at the start
   pub none_among : AreMarkedAmong [] start
   none_among = record { size = refl; others = λ k none. refl; marked = λ k pair has. absurd (has_none k has) }
 
+  -- with the mark at the next place set by the visits, those of one place more are
   pub one_among : (places : List ℕ) (i p : ℕ) (old new : List Bool) → i < length places → get_or places i 0 ≡ p → length new ≡ length old
       → ((k : ℕ) → k ≢ p → slice_index_or new k false ≡ slice_index_or old k false)
       → ((pair : Pair) → p < length old → slice_get pairs p ≡ Some pair → slice_index_or new p false ≡ has_name visits pair.vertex)
@@ -229,6 +232,7 @@ module _ (pairs : List Pair) (visits : List Name) (start : List Bool) where
             ];
       }
 
+  -- once all places are gone through, the marks of all of them are set, and the others are as at the start
   pub all_among : (places : List ℕ) (n : ℕ) (now : List Bool) → length places ≤ n → AreMarkedAmong (take n places) now → AreMarkedAmong places now
   all_among places n now all so_far = subst (λ (ps : List ℕ). AreMarkedAmong ps now) (take_all n places all) so_far
 

@@ -11,8 +11,8 @@ abbrev pub row_of : List (List ℕ) → ℕ → List ℕ
 row_of rows a = slice_index_or rows a []
 
 -- whether a leads to b
-abbrev pub leads : List (List ℕ) → ℕ → ℕ → Bool
-leads rows a b = has_bit (row_of rows a) b
+abbrev pub rows_lead : List (List ℕ) → ℕ → ℕ → Bool
+rows_lead rows a b = has_bit (row_of rows a) b
 
 -- each row has this number of words
 abbrev pub HaveWords : ℕ → List (List ℕ) → Type 0

@@ -8,8 +8,9 @@ use Rattle.report_rules.specs.declared.report.Reply.{Reply}
 use Rattle.report_rules.specs.Lookups.{is_in, stamp_at}
 
 -- the begun requests of a list of replies
-abbrev pub begun_in : List Reply → List ℕ
-begun_in replies = filter_map (λ (reply : Reply). option_map (λ (stamp : Stamp). reply.request) reply.stamp) replies
+abbrev pub requests_begun : List Reply → List ℕ
+requests_begun replies =
+    filter_map (λ (reply : Reply). option_map (λ (stamp : Stamp). reply.request) reply.stamp) replies
 
 -- by this precedence, none of these requests precedes that one
 abbrev pub is_free : (ℕ → ℕ → Bool) → List ℕ → ℕ → Bool
@@ -32,7 +33,7 @@ IsBest report precedence remaining requests (Some best) =
     IsTrue (is_in best requests) × IsTrue (is_free precedence remaining best)
     × AllByRecursion (λ r. IsTrue (is_free precedence remaining r) → home_at report best ≤ home_at report r) requests
 
--- there is none yet, or this one's home is below that one's
+-- there is none yet, or this one's home is below that one's. No public contract cites this.
 abbrev pub is_better : Report → Option ℕ → ℕ → Bool
 is_better report None r = true
 is_better report (Some best) r = nat_lt (home_at report r) (home_at report best)

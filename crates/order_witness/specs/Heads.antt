@@ -10,7 +10,7 @@ use Rattle.report_rules.specs.Lookups.{is_in, is_committed_or_finished, stamp_at
 use Rattle.order_witness.specs.declared.heads.Run.{Run}
 use Rattle.order_witness.specs.Begun.{is_request_before, request_precedes, pairs_lead}
 use Rattle.order_witness.specs.ByNumber.{list_at}
-use Rattle.order_witness.specs.Choices.{IsBest, begun_in}
+use Rattle.order_witness.specs.Choices.{IsBest, requests_begun}
 
 -- the number at a place of a list, 0 past its end
 abbrev pub item : List ℕ → ℕ → ℕ
@@ -21,8 +21,8 @@ abbrev pub is_done : List Bool → ℕ → Bool
 is_done done r = slice_index_or done r true
 
 -- the begun requests that are left
-abbrev pub left_of : Report → List Bool → List ℕ
-left_of report done = filter (λ r. not (is_done done r)) (begun_in report.replies)
+abbrev pub requests_left : Report → List Bool → List ℕ
+requests_left report done = filter (λ r. not (is_done done r)) (requests_begun report.replies)
 
 -- a run without requests
 abbrev pub no_run : Run
@@ -68,20 +68,20 @@ abbrev pub AreAdvanced : List ℕ → List Bool → List Run → List Run → Ty
 AreAdvanced line done old new = (i : ℕ) → i < length old → IsAdvanced line done (run_at old i) (run_at new i)
 
 -- the first request of a run
-abbrev pub head_of : List ℕ → Run → Option ℕ
-head_of line run = if nat_lt run.next run.end then Some (item line run.next) else None
+abbrev pub head_of_run : List ℕ → Run → Option ℕ
+head_of_run line run = if nat_lt run.next run.end then Some (item line run.next) else None
 
 -- the first requests of runs
 abbrev pub heads_of : List ℕ → List Run → List ℕ
-heads_of line runs = filter_map (head_of line) runs
+heads_of line runs = filter_map (head_of_run line) runs
 
 -- how many earlier ends of its pairs a request has seen done
-abbrev pub seen_by : List ℕ → ℕ → ℕ
-seen_by seen r = slice_index_or seen r 0
+abbrev pub seen_by_request : List ℕ → ℕ → ℕ
+seen_by_request seen r = slice_index_or seen r 0
 
 -- it has seen all of them done
 abbrev pub is_ready : List (List ℕ) → List ℕ → ℕ → Bool
-is_ready befores seen r = nat_le (length (list_at befores r)) (seen_by seen r)
+is_ready befores seen r = nat_le (length (list_at befores r)) (seen_by_request seen r)
 
 -- the lists have for each request the earlier ends of its pairs
 abbrev pub AreEndsOf : List Reply → List Pair → List (List ℕ) → Type 0
@@ -95,20 +95,23 @@ AreEarlierEnds report befores = AreEndsOf report.replies report.pairs befores
 -- the earlier end that the request sees next is left, if there is one
 abbrev pub IsAtLeft : List (List ℕ) → List Bool → List ℕ → ℕ → Type 0
 IsAtLeft befores done seen r =
-    seen_by seen r < length (list_at befores r) → is_done done (item (list_at befores r) (seen_by seen r)) ≡ false
+    seen_by_request seen r < length (list_at befores r)
+    → is_done done (item (list_at befores r) (seen_by_request seen r)) ≡ false
 
 -- the request looks on to the first of the earlier ends that is left
 abbrev pub IsSeenOn : List (List ℕ) → List Bool → List ℕ → List ℕ → ℕ → Type 0
 IsSeenOn befores done old new r =
-    IsFirstLeft (list_at befores r) done (seen_by old r) (length (list_at befores r)) (seen_by new r)
+    IsFirstLeft (list_at befores r) done (seen_by_request old r) (length (list_at befores r)) (seen_by_request new r)
 
 -- what is seen done is done
 abbrev pub AreSeenDone : List (List ℕ) → List Bool → List ℕ → Type 0
-AreSeenDone befores done seen = (r k : ℕ) → k < seen_by seen r → is_done done (item (list_at befores r) k) ≡ true
+AreSeenDone befores done seen =
+    (r k : ℕ) → k < seen_by_request seen r → is_done done (item (list_at befores r) k) ≡ true
 
 -- the best of the begun requests that are left
 abbrev pub IsBestLeft : Report → List Bool → Option ℕ → Type 0
-IsBestLeft report done best = IsBest report (request_precedes report) (left_of report done) (left_of report done) best
+IsBestLeft report done best =
+    IsBest report (request_precedes report) (requests_left report done) (requests_left report done) best
 
 -- while requests are taken: those left are in the runs, and precede none that is done
 pub record AreWaiting (report : Report) (line : List ℕ) (befores : List (List ℕ)) (runs : List Run) (seen : List ℕ)

@@ -16,7 +16,7 @@ abbrev pub IsFirstFault : Facts → Option ℕ → Type 0
 IsFirstFault facts None = AllHold facts
 IsFirstFault facts (Some place) = BreaksFirstAt facts place
 
--- yes for a right report, otherwise the first clause that breaks and its first place
+-- yes for a right report, otherwise the first clause that breaks and its first place. No public contract cites this.
 abbrev pub IsJudgement : Script → Report → Judged → Type 0
 IsJudgement script report Yes = IsRightReport script report
 IsJudgement script report (No clause place) = BreaksFirst script report clause place

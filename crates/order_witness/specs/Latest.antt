@@ -7,8 +7,8 @@ use Rattle.report_rules.specs.Lookups.{is_some_and, is_none_or, stamp_at}
 use Rattle.order_witness.specs.Begun.{request_precedes, is_request_before}
 
 -- the latest listed request of a gatekeeper
-abbrev pub latest_of : List (Option ℕ) → ℕ → Option ℕ
-latest_of latest gate = slice_index_or latest gate None
+abbrev pub latest_request : List (Option ℕ) → ℕ → Option ℕ
+latest_request latest gate = slice_index_or latest gate None
 
 -- none of its gatekeeper is listed yet, or the stamp of the latest one is before that of the request
 abbrev pub is_after_last : Report → Option ℕ → ℕ → Bool
@@ -23,7 +23,7 @@ pub record IsPutLatest (report : Report) (r : ℕ) (latest next : List (Option �
   pub stamp : Stamp
   pub stamp_is : stamp_at report r ≡ Some stamp
   pub home : stamp.home < length latest
-  pub after : IsTrue (is_after_last report (latest_of latest stamp.home) r)
+  pub after : IsTrue (is_after_last report (latest_request latest stamp.home) r)
   pub next_is : next ≡ slice_set latest stamp.home (Some r)
   pub precedes_none : precedes_one report r next ≡ false
 
@@ -32,5 +32,5 @@ pub record IsCovered (report : Report) (latest : List (Option ℕ)) (r : ℕ) : 
   pub stamp : Stamp
   pub stamp_is : stamp_at report r ≡ Some stamp
   pub last : ℕ
-  pub last_is : latest_of latest stamp.home ≡ Some last
+  pub last_is : latest_request latest stamp.home ≡ Some last
   pub at_or_before : (r ≡ last) ⊎ IsTrue (is_request_before report r last)

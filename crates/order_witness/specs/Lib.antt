@@ -12,6 +12,6 @@ pub mod ByNumber
 pub mod Rising
 pub mod Seen
 pub mod Turns
-pub mod Paired
+pub mod PairPrecedence
 pub mod Latest
 pub mod Visited

@@ -9,7 +9,7 @@ use Rattle.report_rules.specs.declared.report.Report.{Report}
 use Rattle.report_rules.specs.declared.report.Reply.{Reply}
 use Rattle.report_rules.specs.declared.report.ReplyState.{ReplyState}
 use Rattle.report_rules.specs.declared.report.ReplyState.TheVariants.{Refused}
-use Rattle.report_rules.specs.Lookups.{AreBoth, is_some_and, request_at, number_of, commits}
+use Rattle.report_rules.specs.Lookups.{AreBoth, is_some_and, request_at, committed_number, commits}
 use Rattle.report_rules.specs.Replay.{IsWorkRefused, graph_of_commits}
 use Rattle.report_rules.specs.RightReport.{stands_among_commits}
 
@@ -27,13 +27,13 @@ abbrev pub Marks : Bool → Type 0 → Type 0
 Marks mark Fact = MatchBool mark Fact (¬ Fact)
 
 -- of a request that is refused after this number of commits the new mark says whether this graph refuses it as said;
--- the mark of any other stays
+-- the mark of any other stays. No public contract cites this.
 abbrev pub IsMarkedOn : Script → PlainGraph → ℕ → ℕ → ReplyState → Bool → Bool → Type 0
 IsMarkedOn script graph after r (Refused op reason at) old new =
     MatchBool (at == after) (Marks new (IsRefusedOn (Some graph) (request_at script r) op reason)) (new ≡ old)
 IsMarkedOn script graph after r _ old new = new ≡ old
 
--- the marks of all replies change like this
+-- the marks of all replies change like this. No public contract cites this.
 abbrev pub AreMarkedOn : Script → PlainGraph → ℕ → List Reply → List Bool → List Bool → Type 0
 AreMarkedOn script graph after replies old new =
     (place : ℕ) (reply : Reply) → slice_get replies place ≡ Some reply
@@ -57,16 +57,17 @@ AreMarkedUpTo most script report marks =
 abbrev pub AreMarked : Script → Report → List Bool → Type 0
 AreMarked script report marks = AreMarkedUpTo (commits report) script report marks
 
--- a refusal's number of commits is in order, and by its mark the request is refused after them
+-- a refusal's number of commits is in order, and by its mark the request is refused after them.
+-- No public contract cites this.
 abbrev pub is_refusal_in_place : Script → Report → ℕ → ReplyState → Bool → Bool
 is_refusal_in_place script report r (Refused op reason at) mark = stands_among_commits script report r at && mark
 is_refusal_in_place script report r _ mark = true
 
--- the requests of a list of replies with this commit number
+-- the requests of a list of replies with this commit number. No public contract cites this.
 abbrev pub numbered_in : ℕ → List Reply → List ℕ
 numbered_in number replies =
     map (λ (reply : Reply). reply.request)
-    (filter (λ (reply : Reply). is_some_and (λ n. n == number) (number_of reply.state)) replies)
+    (filter (λ (reply : Reply). is_some_and (λ n. n == number) (committed_number reply.state)) replies)
 
 -- the graph that was to come is there, and is this one; or there is none
 abbrev pub IsExpectedGraph : Option PlainGraph → PlainGraph → Bool → Type 0

@@ -1,4 +1,4 @@
--- The outcome of a request when it is replayed.
+-- The outcome of a request when it is replayed. No public contract cites this.
 use Rattle.std.specs.Prelude.{◌≡◌, ℕ, Bool, List, Ok, Err, MatchBool}
 use Rattle.graph_ops.specs.PlainGraph.{PlainGraph, TxOutcome}
 use Rattle.graph_ops.specs.declared.tx.Got.{Got}

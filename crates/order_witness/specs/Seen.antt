@@ -2,7 +2,7 @@
 use Rattle.std.specs.Prelude.{◌≡◌, ℕ, Bool, ◌&&◌, not, nat_lt, nat_le, ◌==◌, List, Option}
 use Rattle.std.specs.List.{list_any}
 use Rattle.report_rules.specs.declared.report.Reply.{Reply}
-use Rattle.report_rules.specs.Lookups.{is_in, is_none_or, is_some_and, number_of}
+use Rattle.report_rules.specs.Lookups.{is_in, is_none_or, is_some_and, committed_number}
 use Rattle.order_witness.specs.Bits.{has_bit}
 
 -- a commit number is from 1 to the count, and was not seen
@@ -12,7 +12,7 @@ is_number_new count seen = is_none_or (λ number. nat_lt 0 number && nat_le numb
 -- a reply has this commit number
 abbrev pub has_number : List Reply → ℕ → Bool
 has_number replies number =
-    list_any (λ (earlier : Reply). is_some_and (λ n. n == number) (number_of earlier.state)) replies
+    list_any (λ (earlier : Reply). is_some_and (λ n. n == number) (committed_number earlier.state)) replies
 
 -- the numbers that were seen are the commit numbers of these replies
 abbrev pub AreNumbersSeen : List Reply → List ℕ → Type 0

@@ -6,7 +6,7 @@ use Rattle.program_defs.specs.declared.script.Request.{Request}
 use Rattle.report_rules.specs.declared.report.Reply.{Reply}
 use Rattle.report_rules.specs.declared.report.ReplyState.{ReplyState}
 use Rattle.report_rules.specs.declared.report.ReplyState.TheVariants.{Committed, Refused}
-use Rattle.report_rules.specs.Lookups.{number_of, request_at, same_session}
+use Rattle.report_rules.specs.Lookups.{committed_number, request_at, same_session}
 use Rattle.report_rules.specs.RightReport.{keeps_number}
 use Rattle.order_witness.specs.Refusals.{refused_after}
 
@@ -43,8 +43,8 @@ pub record IsTurnTaken (script : Script) (place : ℕ) (state : ReplyState)
 -- one is refused, and its own such number is below the later one's commit number
 abbrev pub AreNumbersInTurn : ReplyState → ReplyState → Type 0
 AreNumbersInTurn earlier later =
-    ((n at : ℕ) → number_of earlier ≡ Some n → refused_after later ≡ Some at → n ≤ at)
-    × ((n at : ℕ) → refused_after earlier ≡ Some at → number_of later ≡ Some n → at < n)
+    ((n at : ℕ) → committed_number earlier ≡ Some n → refused_after later ≡ Some at → n ≤ at)
+    × ((n at : ℕ) → refused_after earlier ≡ Some at → committed_number later ≡ Some n → at < n)
 
 -- the numbers of each two of the first `count` replies of one session are in turn
 abbrev pub DoNumbersTakeTurns : Script → List Reply → ℕ → Type 0

@@ -1,6 +1,6 @@
 -- Pairs whose later request is a program. No public contract cites it.
 -- Marks say whether the program visits the pair's vertex at its place.
-use Rattle.std.specs.Prelude.{◌≡◌, ℕ, Bool, true, false, ◌&&◌, List, [], ◌∷◌, ⊤, ◌<◌, Contains, Option, Some, length, slice_get, slice_index_or, if◌then◌else◌, ◌==◌}
+use Rattle.std.specs.Prelude.{◌≡◌, ℕ, Bool, true, false, ◌&&◌, List, ⊤, ◌<◌, Contains, Option, Some, length, slice_get, slice_index_or}
 use Rattle.weave_data.specs.declared.name.Name.{Name}
 use Rattle.vector_stamp.specs.Order.{unordered}
 use Rattle.graph_ops.specs.PlainGraph.{PlainGraph}
@@ -41,10 +41,6 @@ AreVisitsMarked script report marks =
 abbrev pub AreOtherMarksKept : List ℕ → List Bool → List Bool → Type 0
 AreOtherMarksKept places old new =
     (k : ℕ) → ¬ Contains places k → slice_index_or new k false ≡ slice_index_or old k false
-
--- the place of a pair, if this is its later request
-abbrev pub place_if_later : ℕ → ℕ → Pair → List ℕ
-place_if_later r place pair = if pair.later == r then place ∷ [] else []
 
 -- by its mark, the work may be the later end of a pair at the vertex
 abbrev pub may_be_later : Script → Report → Name → ℕ → Bool → Work → ReplyState → Bool

@@ -176,7 +176,7 @@ fn see(befores: &ByNumber, requests: &[usize], done: &[bool], seen: &mut [usize]
 
 fn see_one(befores: &ByNumber, request: usize, done: &[bool], seen: &mut [usize])
     ensures size { length seen.new ≡ length seen.old }
-    ensures others { (r : ℕ) → ¬ (r ≡ request) → heads.seen_by seen.new r ≡ heads.seen_by seen.old r }
+    ensures others { (r : ℕ) → ¬ (r ≡ request) → heads.seen_by_request seen.new r ≡ heads.seen_by_request seen.old r }
     ensures first { request < length seen.old → heads.IsSeenOn befores.now done.now seen.old seen.new request }
     ensures past { length seen.old ≤ request → seen.new ≡ seen.old }
 {

@@ -6,14 +6,15 @@ ghost use Rattle.report_rules.specs.RightReport as right;
 ghost use Rattle.report_rules.specs.Lookups as told;
 ghost use Rattle.order_witness.specs.Begun.{request_precedes};
 ghost use Rattle.order_witness.specs.Latest.{IsPutLatest, is_after_last, precedes_one};
-ghost use Rattle.order_witness.specs.Paired.{HoldsPairs};
+ghost use Rattle.order_witness.specs.PairPrecedence.{HoldsPairs};
 
-use crate::paired::{graph_of, leads_by_pairs};
+use crate::pair_precedence::{graph_of, leads_by_pairs};
 use crate::words::{is_request_before, stamp_at};
 use order_graph::OrderGraph;
 use program_defs::Script;
 use report_rules::Report;
 use std::alloc::{AllocError, Global};
+use vector_stamp::COUNTS;
 use vector_stamp::laws::{precedence_is_decided, stamps_are_ordered};
 
 /// Whether the graph of the pairs shows that the clause on order holds. The clause on replies must hold. It can't be
@@ -58,7 +59,7 @@ fn is_kept_by(
 }
 
 fn none_listed(alloc: Global) -> Result<Vec<Option<u32>>, AllocError> {
-    vec![in alloc; None; 8]
+    vec![in alloc; None; COUNTS]
 }
 
 // Makes the request the latest one of its gatekeeper. Reports whether its stamp is after that of the latest one so far,

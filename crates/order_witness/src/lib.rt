@@ -26,7 +26,7 @@ mod listing;
 mod marks;
 mod numbers;
 mod order;
-mod paired;
+mod pair_precedence;
 mod pairs;
 mod places;
 mod precedence;

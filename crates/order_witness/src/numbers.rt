@@ -25,7 +25,7 @@ fn first_out_of_place(replies: &[Reply], count: usize, seen: &mut Row) -> Option
     requires none { (n : ℕ) → has_bit seen.old n ≡ false }
     requires room { count / 64 < length seen.old }
     ensures { IsFirstFault (facts_in_turn
-        (λ before (reply : Reply). IsTrue (right.is_number_in_place count before (told.number_of reply.state)))
+        (λ before (reply : Reply). IsTrue (right.is_number_in_place count before (told.committed_number reply.state)))
         replies.now) result }
 {
     for (place, reply) in replies.iter().enumerate() {

@@ -5,7 +5,7 @@ ghost use Rattle.std.specs.List.{list_all};
 ghost use Rattle.weave_data.specs.Facts.{AllHold};
 ghost use Rattle.report_rules.specs.RightReport as right;
 ghost use Rattle.report_rules.specs.Lookups as told;
-ghost use Rattle.order_witness.specs.Bits.{leads};
+ghost use Rattle.order_witness.specs.Bits.{rows_lead};
 ghost use Rattle.order_witness.specs.Begun.{request_precedes, is_listed_in_order};
 ghost use Rattle.order_witness.specs.Judgement.{IsFirstFault};
 
@@ -45,7 +45,7 @@ pub fn first_fault(
 }
 
 fn first_out_of_place(script: &Script, report: &Report, precedence: &Relation) -> Option<u64>
-    requires { (a b : ℕ) → leads precedence.now a b ≡ request_precedes report.now a b }
+    requires { (a b : ℕ) → rows_lead precedence.now a b ≡ request_precedes report.now a b }
     ensures { IsFirstFault (right.order_clause script.now report.now) result }
 {
     precedence_is_decided();
@@ -60,7 +60,7 @@ fn first_out_of_place(script: &Script, report: &Report, precedence: &Relation) -
 }
 
 fn is_listed_in_order(script: &Script, precedence: &Relation, before: &[u32], request: u32) -> bool
-    ensures { result ≡ is_listed_in_order script.now (leads precedence.now) before.now request }
+    ensures { result ≡ is_listed_in_order script.now (rows_lead precedence.now) before.now request }
 {
     !precedence.leads(request as usize, request as usize)
         && precedes_none(precedence, before, request)
@@ -68,7 +68,7 @@ fn is_listed_in_order(script: &Script, precedence: &Relation, before: &[u32], re
 }
 
 fn precedes_none(precedence: &Relation, before: &[u32], request: u32) -> bool
-    ensures { result ≡ list_all (λ earlier. not (leads precedence.now request earlier)) before.now }
+    ensures { result ≡ list_all (λ earlier. not (rows_lead precedence.now request earlier)) before.now }
 {
     before.iter().all(|earlier| !precedence.leads(request as usize, *earlier as usize))
 }

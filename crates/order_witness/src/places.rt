@@ -8,8 +8,8 @@ ghost use Rattle.order_witness.specs.Places.{IsOrderInTurn, IsPutNext, is_before
 use crate::words::stamp_at;
 use report_rules::{Pair, Report};
 use std::alloc::{AllocError, Global};
-use vector_stamp::Stamp;
 use vector_stamp::laws::stamps_are_ordered;
+use vector_stamp::{COUNTS, Stamp};
 
 /// Whether the order keeps that of the stamps, gatekeeper by gatekeeper, and each pair. Then no listed request precedes
 /// one listed before it.
@@ -37,7 +37,7 @@ fn no_places(alloc: Global, count: usize) -> Result<Vec<u64>, AllocError>
 }
 
 fn none_listed(alloc: Global) -> Result<Vec<Option<Stamp>>, AllocError> {
-    vec![in alloc; None; 8]
+    vec![in alloc; None; COUNTS]
 }
 
 // Gives the request the next place, if it may come next. Reports whether it did.

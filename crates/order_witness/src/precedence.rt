@@ -1,6 +1,6 @@
 //! Which begun requests of a report precede which.
 ghost use Rattle.std.specs.Prelude.{◌≡◌, ℕ, ◌<◌, ◌||◌, ◌&&◌, ◌==◌, IfOk, length, is_some};
-ghost use Rattle.order_witness.specs.Bits.{leads};
+ghost use Rattle.order_witness.specs.Bits.{rows_lead};
 ghost use Rattle.order_witness.specs.Begun.{request_precedes, StampsDiffer, is_before_in, is_before_reply, stamp_in, stamps_lead, pairs_lead};
 
 use crate::relation::Relation;
@@ -13,7 +13,7 @@ use vector_stamp::laws::{one_pair_joins_its_ends, precedence_is_decided};
 /// stamp.
 pub fn precedence_of(alloc: Global, report: &Report) -> Result<Relation, AllocError>
     requires { StampsDiffer report.now }
-    ensures { IfOk result (λ relation. (a b : ℕ) → leads relation a b ≡ request_precedes report.now a b) }
+    ensures { IfOk result (λ relation. (a b : ℕ) → rows_lead relation a b ≡ request_precedes report.now a b) }
 {
     precedence_is_decided();
     one_pair_joins_its_ends();
@@ -29,8 +29,8 @@ pub fn precedence_of(alloc: Global, report: &Report) -> Result<Relation, AllocEr
 fn put_stamps(relation: &mut Relation, replies: &[Reply])
     requires { length relation.old ≡ length replies.now }
     ensures size { length relation.new ≡ length relation.old }
-    ensures after { (a b : ℕ) → leads relation.new a b
-        ≡ (leads relation.old a b || stamps_lead replies.now replies.now a b) }
+    ensures after { (a b : ℕ) → rows_lead relation.new a b
+        ≡ (rows_lead relation.old a b || stamps_lead replies.now replies.now a b) }
 {
     for (place, reply) in replies.iter().enumerate() {
         if let Some(stamp) = reply.stamp {
@@ -44,8 +44,8 @@ fn put_later(relation: &mut Relation, request: usize, stamp: &Stamp, replies: &[
     requires size { length relation.old ≡ length replies.now }
     requires begun { request < length replies.now }
     ensures size { length relation.new ≡ length relation.old }
-    ensures after { (a b : ℕ) → leads relation.new a b
-        ≡ (leads relation.old a b || (a == request && is_before_in replies.now stamp.now b)) }
+    ensures after { (a b : ℕ) → rows_lead relation.new a b
+        ≡ (rows_lead relation.old a b || (a == request && is_before_in replies.now stamp.now b)) }
 {
     for (place, reply) in replies.iter().enumerate() {
         if is_before(stamp, reply) {
@@ -67,8 +67,8 @@ fn is_before(stamp: &Stamp, reply: &Reply) -> bool
 fn put_pairs(relation: &mut Relation, replies: &[Reply], pairs: &[Pair])
     requires { length relation.old ≡ length replies.now }
     ensures size { length relation.new ≡ length relation.old }
-    ensures after { (a b : ℕ) → leads relation.new a b
-        ≡ (leads relation.old a b || pairs_lead replies.now pairs.now a b) }
+    ensures after { (a b : ℕ) → rows_lead relation.new a b
+        ≡ (rows_lead relation.old a b || pairs_lead replies.now pairs.now a b) }
 {
     for pair in pairs {
         if is_begun(replies, pair.earlier) && is_begun(replies, pair.later) {

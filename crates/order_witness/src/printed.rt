@@ -6,7 +6,7 @@ ghost use Rattle.report_rules.specs.RightReport.{replies_clause};
 ghost use Rattle.report_rules.specs.PrintedOrder.{IsPrintedOrder, begun_requests};
 ghost use Rattle.report_rules.specs.Lookups as told;
 ghost use Rattle.order_witness.specs.Begun.{NonePrecedesItself};
-ghost use Rattle.order_witness.specs.Heads.{AreWaiting, left_of, listed_in};
+ghost use Rattle.order_witness.specs.Heads.{AreWaiting, requests_left, listed_in};
 
 use crate::by_number::ByNumber;
 use crate::heads::{Run, earlier_ends, never_begun, next, runs_of};
@@ -90,7 +90,7 @@ fn take_all(
     requires replies { AllHold (replies_clause script.now report.now) }
     requires waiting { AreWaiting report.now line.now befores.now runs.old seen.old done.old }
     requires size { length done.old ≡ length report.now.replies }
-    requires start { left_of report.now done.old ≡ begun_requests report.now }
+    requires start { requests_left report.now done.old ≡ begun_requests report.now }
     ensures { IfOk result (λ order. MatchOption order (¬ NonePrecedesItself report.now)
         (λ order. IsPrintedOrder report.now order.items × NonePrecedesItself report.now)) }
 {

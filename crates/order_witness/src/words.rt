@@ -76,7 +76,7 @@ pub fn same_session(script: &Script, a: u32, b: u32) -> bool
 
 /// The commit number.
 pub fn number_of(state: &ReplyState) -> Option<u64>
-    ensures { result ≡ told.number_of state.now }
+    ensures { result ≡ told.committed_number state.now }
 {
     match state {
         ReplyState::Committed { number, .. } => Some(*number),
@@ -135,7 +135,7 @@ pub fn may_be_listed(report: &Report, r: u32) -> bool
 
 /// Whether the request is a transaction that names the vertex.
 pub fn names_vertex(script: &Script, r: u32, v: Name) -> bool
-    ensures { result ≡ told.names_vertex script.now r v }
+    ensures { result ≡ told.request_names_vertex script.now r v }
 {
     match request_at(script, r) {
         Some(request) => work_names(v, &request.work),

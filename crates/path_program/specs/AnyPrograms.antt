@@ -5,16 +5,16 @@ use Rattle.graph_ops.specs.Operations.{State}
 use Rattle.program_defs.specs.declared.program.Program.{Program}
 use Rattle.program_defs.specs.declared.program.Program.TheVariants.{Show as TheShow}
 use Rattle.node_program.specs.Showing.{HasShown, next_shown}
-use Rattle.reach_program.specs.Reaching.{program_of, HasReached, next_reached, reads_left as reached_left}
+use Rattle.reach_program.specs.Reaching.{program_asked, HasReached, next_reached, reach_reads_left as reached_left}
 use Rattle.path_program.specs.declared.any.AnyProgram.{AnyProgram}
 use Rattle.path_program.specs.declared.any.AnyProgram.TheVariants.{Show, Reach, Path}
-use Rattle.path_program.specs.Pathing.{path_of, HasPathed, next_pathed, reads_left as pathed_left}
+use Rattle.path_program.specs.Pathing.{path_asked, HasPathed, next_pathed, path_reads_left as pathed_left}
 
 -- which program it is
 abbrev pub any_of : AnyProgram → Program
 any_of (Show walk) = TheShow walk.v
-any_of (Reach walk) = program_of walk.goal walk.search.value.aim
-any_of (Path walk) = path_of walk.to walk.bound walk.search.value
+any_of (Reach walk) = program_asked walk.goal walk.search.value.aim
+any_of (Path walk) = path_asked walk.to walk.bound walk.search.value
 
 -- it has read these states, the newest first
 abbrev pub HasRead : AnyProgram → List (Name × State) → Type 0

@@ -1,7 +1,7 @@
 //! The program `path`.
 ghost use Rattle.std.specs.Prelude.{◌≡◌, ◌≤◌, [], Some, IfOk};
 ghost use Rattle.program_defs.specs.declared.program.Program.TheVariants.{Path};
-ghost use Rattle.path_program.specs.Pathing.{path_of, HasPathed, reads_left, next_pathed};
+ghost use Rattle.path_program.specs.Pathing.{path_asked, HasPathed, path_reads_left, next_pathed};
 
 use graph_ops::{MOST_EDGES, Record};
 use node_program::NodeProgram;
@@ -47,13 +47,13 @@ impl PathProgram {
 }
 
 impl NodeProgram for PathProgram {
-    ghost program = { λ walk. path_of walk.to walk.bound walk.search.value };
+    ghost program = { λ walk. path_asked walk.to walk.bound walk.search.value };
 
     ghost has_read = { λ walk reads. HasPathed walk.to walk.bound walk.search.value reads };
 
     ghost next = { λ walk. next_pathed walk.search.value };
 
-    ghost spare = { λ walk. reads_left walk.search.value };
+    ghost spare = { λ walk. path_reads_left walk.search.value };
 
     fn next_vertex(&self) -> Option<Name> {
         path_searches_are_right();

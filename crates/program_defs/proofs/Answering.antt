@@ -41,6 +41,7 @@ first-of-cut : (target : Option Name) (x : Name) (xs : List Name) → Some x ≡
 first-of-cut None x xs = refl
 first-of-cut (Some to) x xs = first-cut to x xs
 
+-- a search of a program after some reads asks next for the program's next visit, and for none if there is none
 pub next-is-next : (program : Program) (state : SearchState) (reads : List (Name × State)) → HasSearched program state reads → next_of state ≡ next_visit reads program
 next-is-next program state reads h = at state.over refl
   where
@@ -85,12 +86,14 @@ agree-on-visits program reads graph all agree v visited = agree v (all v ((visit
 walk-to : (graph : PlainGraph) (pass : Option Filter) (from v : Name) (n : ℕ) → IsTrue (is_some (graph v)) → IsTrue (is_among (through_level n graph pass from) v) → (walk : List Name) × IsTrue (is_walk_within n graph pass from v walk)
 walk-to graph pass from v n there k = (levels-are-distances graph pass from n v there).0 k
 
+-- on the graph of what was read, `reach` answers whether the target is among the vertices that the search found there
 pub reach-answer : (from to : Name) (pass : Option Filter) (state : SearchState) (reads : List (Name × State)) → HasSearched (Reach from to pass) state reads → IsPlainAnswer (graph_read reads) (Reach from to pass) (Reached (is_among state.present to))
 reach-answer from to pass state reads h = (
   λ k. (let w = walk-to (graph_read reads) pass from to (length reads) (sym (h.found.present to) ∙ k) (up-to-only to (through_level (length reads) (graph_read reads) pass from) to (h.found.visited to (read-there reads to (sym (h.found.present to) ∙ k)))) in (w.0, (and_parts (is_walk (graph_read reads) pass from to w.0) _ w.1).0)),
   λ w. h.found.present to ∙ end_present (graph_read reads) pass from to w.0 w.1,
 )
 
+-- and `around` answers the set of the vertices that the search found there
 pub around-answer : (from : Name) (bound : ℕ) (pass : Option Filter) (state : SearchState) (reads : List (Name × State)) → HasSearched (Around from bound pass) state reads
     → IsPlainAnswer (graph_read reads) (Around from bound pass) (Found (as_set state.present))
 around-answer from bound pass state reads h = (

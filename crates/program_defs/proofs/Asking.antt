@@ -14,7 +14,7 @@ use Rattle.program_defs.specs.Asking.{AreRead, HasReadOf, HasAllRead, HasWalkedO
 use Rattle.program_defs.specs.PlainAnswer.{IsPlainAnswer}
 use Rattle.program_defs.specs.Searching.{SearchState, SameReached, HasSearched, has_name, next_of}
 use Rattle.program_defs.specs.Visits.{IsListOfVisits, IsVisited, graph_read, first_of, visits_to}
-use Rattle.program_defs.specs.Walking.{WalkState, SameWalked, HasWalked}
+use Rattle.program_defs.specs.LeastWalks.{WalkState, SameWalked, HasWalked}
 use Rattle.program_defs.proofs.Pathing.{same-walked}
 use Rattle.program_defs.proofs.Answering.{over-at-end, agree-on-visits, same-search}
 use Rattle.program_defs.proofs.AnswersAgree.{answer-same}
@@ -34,6 +34,7 @@ read-more program graph was made now v state h same is sees = record {
     at w true e k = is ∙ ap graph (one_name v w e)
     at w false e k = h.agree w k
 
+-- searches that differ in the room and in the order of the table alone have the same next vertex
 pub same-next : (was made : SearchState) → SameReached was made → next_of made ≡ next_of was
 same-next was made same = λ i. if same.over i then None else first_of (same.rest i)
 
@@ -44,6 +45,7 @@ answer-of-all program graph state answer all is =
 
 -- The search for the least walk
 
+-- one more vertex of the graph is read: the search for the least walk has still read states of it, and no others
 pub walk-more : (program : Program) (graph : PlainGraph) (was made now : WalkState) (v : Name) (state : State) → HasWalkedOf program graph was → SameWalked was made → state ≡ graph v
     → ((reads : List (Name × State)) → HasWalked program made reads → HasWalked program now ((v, state) ∷ reads)) → HasWalkedOf program graph now
 walk-more program graph was made now v state h same is sees = record {
@@ -65,6 +67,7 @@ all-of-walk program graph walk all = record { read = record { reads = all.read.r
 pub read-one : (reads : List (Name × State)) (v : Name) (state : State) (names now : List Name) → AreRead reads names → ((w : Name) → has_name now w ≡ (same_name v w || has_name names w)) → AreRead ((v, state) ∷ reads) now
 read-one reads v state names now h put w = put w ∙ ap (λ b. same_name v w || b) (h w)
 
+-- one more vertex of the graph is read and noted: the search has still read just the noted vertices, and of this graph
 pub note-more : (program : Program) (graph : PlainGraph) (was made now : SearchState) (v : Name) (state : State) (names after : List Name) → HasReadNames program graph was names → SameReached was made → state ≡ graph v
     → ((reads : List (Name × State)) → HasSearched program made reads → HasSearched program now ((v, state) ∷ reads)) → ((w : Name) → has_name after w ≡ (same_name v w || has_name names w)) → HasReadNames program graph now after
 unfolding read-more
@@ -73,6 +76,7 @@ note-more program graph was made now v state names after h same is sees put = re
   noted = read-one h.read.reads v state names after h.noted put;
 }
 
+-- the same of the search for the least walk
 pub note-walk : (program : Program) (graph : PlainGraph) (was made now : WalkState) (v : Name) (state : State) (names after : List Name) → HasNotedWalk program graph was names → SameWalked was made → state ≡ graph v
     → ((reads : List (Name × State)) → HasWalked program made reads → HasWalked program now ((v, state) ∷ reads)) → ((w : Name) → has_name after w ≡ (same_name v w || has_name names w)) → HasNotedWalk program graph now after
 unfolding walk-more

@@ -46,12 +46,15 @@ module _ (graph : PlainGraph) (pass : Option Filter) (from : Name) (parent : Nam
     pub walk_is : walk ≡ back ++ v ∷ []
     pub way : IsOnTheWayBack v back count
 
+  -- the way back begins at the end alone, over no edge, if the end is in level d
   pub led-begins : IsTrue (is_among (levels_to d graph pass from).level to) → HasLedBack to (to ∷ []) 0
   led-begins h = record { back = []; walk_is = refl; way = back-begins h }
 
+  -- if the levels to d are ranked, the way back goes on from a vertex other than the start to its parent, one edge more
   pub led-on : ((k : ℕ) → k < d → IsRankedAt k graph pass from parent rank) → (v : Name) (walk : List Name) (count : ℕ) → same_name v from ≡ false → HasLedBack v walk count → HasLedBack (parent v) (walk ++ parent v ∷ []) (count + 1)
   led-on ranked v walk count other led = record { back = led.back ++ v ∷ []; walk_is = ap (λ xs. xs ++ parent v ∷ []) led.walk_is; way = back-goes-on ranked v led.back count other led.way }
 
+  -- the way back that has come to the start is, turned round, the list over parents to the end
   pub led-ends : (v : Name) (walk : List Name) (count : ℕ) → same_name v from ≡ true → HasLedBack v walk count → reverse walk ≡ trace parent d to
   led-ends v walk count same led = ap reverse led.walk_is ∙ back-at led.way.level v led.back (none led.way.level led.way.there) led.way.is
     where

@@ -11,6 +11,7 @@ use Rattle.graph_ops.specs.PlainGraph.{PlainGraph}
 use Rattle.program_defs.specs.declared.program.Filter.{Filter}
 use Rattle.program_defs.specs.Walks.{targets, is_walk}
 
+-- if all names of a list pass a test, each name that is among them does
 pub all-at : (p : Name → Bool) (vs : List Name) (v : Name) → IsTrue (list_all p vs) → IsTrue (is_among vs v) → IsTrue (p v)
 all-at p [] v h g = cc
 all-at p (w ∷ ws) v h g =
@@ -27,6 +28,7 @@ pub record FirstStep (graph : PlainGraph) (pass : Option Filter) (from : Name) (
   pub edge : IsTrue (is_among (targets pass (graph v)) w)
   pub onward : IsTrue (is_walk graph pass w to (w ∷ rest))
 
+-- a walk of two or more vertices begins at its start, which is there, and goes on over a passing edge as a walk
 pub first_step : (graph : PlainGraph) (pass : Option Filter) (from to v w : Name) (rest : List Name) → IsTrue (is_walk graph pass from to (v ∷ w ∷ rest)) → FirstStep graph pass from to v w rest
 first_step graph pass from to v w rest h =
     let all = and_parts (same_name from v && is_some (graph v) && is_among (targets pass (graph v)) w) _ h in
@@ -40,6 +42,7 @@ pub record OneVertex (graph : PlainGraph) (from : Name) (to : Name) (v : Name) :
   pub there : IsTrue (is_some (graph v))
   pub end : v ≡ to
 
+-- the vertex of a walk without an edge is its start and its end, and is there
 pub one_vertex : (graph : PlainGraph) (pass : Option Filter) (from to v : Name) → IsTrue (is_walk graph pass from to (v ∷ [])) → OneVertex graph from to v
 one_vertex graph pass from to v h =
     let all = and_parts (same_name from v && is_some (graph v)) _ h in
@@ -50,6 +53,7 @@ one_vertex graph pass from to v h =
 abbrev pub is_closed : PlainGraph → Option Filter → List Name → Bool
 is_closed graph pass vs = list_all (λ v. list_all (is_among vs) (targets pass (graph v))) vs
 
+-- a walk that starts in a closed set ends in it
 pub stays_inside : (graph : PlainGraph) (pass : Option Filter) (vs : List Name) → IsTrue (is_closed graph pass vs)
     → (walk : List Name) (from to : Name) → IsTrue (is_among vs from) → IsTrue (is_walk graph pass from to walk) → IsTrue (is_among vs to)
 stays_inside graph pass vs closed [] from to inside h = cc

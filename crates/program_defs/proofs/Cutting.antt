@@ -21,14 +21,17 @@ abbrev pub cut : Option Name → List Name → List Name
 cut None xs = xs
 cut (Some to) xs = up_to to xs
 
+-- if the target isn't in the first list, the names up to it are this list and those of the second up to it
 pub cut-free : (target : Option Name) (xs ys : List Name) → IsTargetNotIn target xs → cut target (xs ++ ys) ≡ xs ++ cut target ys
 cut-free None xs ys free = refl
 cut-free (Some to) xs ys free = not-there to xs ys free
 
+-- each of the names up to the target is among all the names
 pub cut-only : (target : Option Name) (xs : List Name) (v : Name) → IsTrue (is_among (cut target xs) v) → IsTrue (is_among xs v)
 cut-only None xs v k = k
 cut-only (Some to) xs v k = up-to-only to xs v k
 
+-- the first name is among those up to the target
 pub cut-first : (target : Option Name) (x : Name) (xs : List Name) → IsTrue (is_among (cut target (x ∷ xs)) x)
 cut-first None x xs = head-in x xs
 cut-first (Some to) x xs = first-there to x xs
@@ -44,6 +47,7 @@ pub record IsCutAt (reads : List (Name × State)) (program : Program) (aim : Aim
   pub later : n ≤ last
   pub is : visits_to (length reads) (graph_read reads) program ≡ cut aim.target (through_level last (graph_read reads) aim.pass aim.from)
 
+-- if level n is within the bound, the list of visits of a program that searches is that of level n or of a later one
 pub cut-at : (reads : List (Name × State)) (program : Program) (aim : Aim) (n : ℕ) (left : Option ℕ) → aim_of program ≡ Some aim → IsLeft aim.bound n left → IsCutAt reads program aim n
 cut-at reads (Show v) aim n left e l = cc
 cut-at reads (Reach from to pass) aim n left e l =

@@ -16,7 +16,7 @@ use Rattle.program_defs.specs.declared.aim.Aim.{Aim}
 use Rattle.program_defs.specs.declared.program.Filter.{Filter}
 use Rattle.program_defs.specs.declared.program.Program.{Program}
 use Rattle.program_defs.specs.Agreement.{Agree}
-use Rattle.program_defs.specs.Asking.{AreRead, unread, names_in}
+use Rattle.program_defs.specs.Asking.{AreRead, count_unread, names_asked}
 use Rattle.program_defs.specs.Searching.{SearchState, HasSearched, IsLeft, aim_of, has_name, next_of}
 use Rattle.program_defs.specs.Visits.{levels_to, through_level, visits_to, graph_read, next_visit}
 use Rattle.program_defs.specs.Walks.{targets}
@@ -56,17 +56,17 @@ targets-among pass (e ∷ entries) u v k = at (same_name u e.0) k (targets-among
     at true k rest = among-left (targets pass (Some e.1)) _ v k
     at false k rest = among-right (targets pass (Some e.1)) _ v (rest k)
 
-target-named : (graph : Vertices) (aim : Aim) (u v : Name) → IsTrue (is_among (targets aim.pass (plain_of graph u)) v) → IsTrue (is_among (names_in graph aim) v)
+target-named : (graph : Vertices) (aim : Aim) (u v : Name) → IsTrue (is_among (targets aim.pass (plain_of graph u)) v) → IsTrue (is_among (names_asked graph aim) v)
 target-named graph aim u v k =
     or_right (same_name aim.from v) _ (targets-among aim.pass (map.entries graph) u v (subst (λ s. IsTrue (is_among (targets aim.pass s) v)) (map.get-entries graph u) k))
 
 module _ (graph : Vertices) (aim : Aim) (reads : List (Name × State)) (agree : Agree (graph_read reads) (plain_of graph) (keys_of reads)) where
-  read-target : (u v : Name) → IsTrue (is_among (targets aim.pass (graph_read reads u)) v) → IsTrue (is_among (names_in graph aim) v)
+  read-target : (u v : Name) → IsTrue (is_among (targets aim.pass (graph_read reads u)) v) → IsTrue (is_among (names_asked graph aim) v)
   read-target u v k =
       let there = read-there reads u (target-of aim.pass (graph_read reads u) v k) in
       target-named graph aim u v (subst (λ s. IsTrue (is_among (targets aim.pass s) v)) (agree u there) k)
 
-  level-named : (n : ℕ) (v : Name) → IsTrue (is_among (through_level n (graph_read reads) aim.pass aim.from) v) → IsTrue (is_among (names_in graph aim) v)
+  level-named : (n : ℕ) (v : Name) → IsTrue (is_among (through_level n (graph_read reads) aim.pass aim.from) v) → IsTrue (is_among (names_asked graph aim) v)
   level-named zero v k = elim (or_cases (same_name aim.from v) false k) [ inl same ↦ or_left _ _ same | inr none ↦ cc ]
   level-named (suc n) v k =
       elim (among-cases (through_level n (graph_read reads) aim.pass aim.from) (levels_to (suc n) (graph_read reads) aim.pass aim.from).level v k) [
@@ -74,7 +74,7 @@ module _ (graph : Vertices) (aim : Aim) (reads : List (Name × State)) (agree : 
         | inr here ↦ (let source = source-before (graph_read reads) aim.pass aim.from n v here in read-target source.0 v source.1.edge)
       ]
 
-  next-named : (program : Program) (v : Name) → aim_of program ≡ Some aim → next_visit reads program ≡ Some v → IsTrue (is_among (names_in graph aim) v)
+  next-named : (program : Program) (v : Name) → aim_of program ≡ Some aim → next_visit reads program ≡ Some v → IsTrue (is_among (names_asked graph aim) v)
   next-named program v is next =
       let at = cut-at reads program aim 0 aim.bound is (all-left aim.bound) in
       let visit = find-there (λ w. not (is_among (keys_of reads) w)) (visits_to (length reads) (graph_read reads) program) v next in
@@ -86,11 +86,11 @@ module _ (graph : Vertices) (aim : Aim) (reads : List (Name × State)) (agree : 
 
 -- each read leaves fewer names to be read
 pub fewer-left : (program : Program) (graph : Vertices) (aim : Aim) (search : SearchState) (reads : List (Name × State)) (names after : List Name) (v : Name) → aim_of program ≡ Some aim → HasSearched program search reads
-    → Agree (graph_read reads) (plain_of graph) (keys_of reads) → AreRead reads names → next_of search ≡ Some v → ((w : Name) → has_name after w ≡ (same_name v w || has_name names w)) → unread graph aim after < unread graph aim names
+    → Agree (graph_read reads) (plain_of graph) (keys_of reads) → AreRead reads names → next_of search ≡ Some v → ((w : Name) → has_name after w ≡ (same_name v w || has_name names w)) → count_unread graph aim after < count_unread graph aim names
 fewer-left program graph aim search reads names after v is searched agree noted next put =
     let visit : next_visit reads program ≡ Some v = sym (next-is-next program search reads searched) ∙ next in
     let new : has_name names v ≡ false = noted v ∙ not-true _ (find-passes (λ w. not (is_among (keys_of reads) w)) (visits_to (length reads) (graph_read reads) program) v visit) in
-    count-more (λ w. not (has_name after w)) (λ w. not (has_name names w)) wider (names_in graph aim) v (next-named graph aim reads agree program v is visit)
+    count-more (λ w. not (has_name after w)) (λ w. not (has_name names w)) wider (names_asked graph aim) v (next-named graph aim reads agree program v is visit)
     (ap not (put v ∙ ap (λ b. b || has_name names v) (itself v))) (ap not new)
   where
     wider : (w : Name) → IsTrue (not (has_name after w)) → IsTrue (not (has_name names w))

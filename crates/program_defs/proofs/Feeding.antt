@@ -58,10 +58,12 @@ reversed-same graph vs = record {
 newest-first : (graph : PlainGraph) (vs : List Name) → AreSameReads (reverse (states_at graph vs)) (states_at graph vs)
 newest-first graph vs = subst (λ reads. AreSameReads reads (states_at graph vs)) (sym (states-reverse graph vs)) (reversed-same graph vs)
 
+-- a program that was fed its first visits, the newest first, asks for the first of the rest, if there is one
 pub next-in-turn : (graph : PlainGraph) (program : Program) (visits done rest : List Name) → IsListOfVisits graph program visits → visits ≡ done ++ rest → next_visit (reverse (states_at graph done)) program ≡ first_of rest
 next-in-turn graph program visits done rest list split =
     next-in-any-order (reverse (states_at graph done)) (states_at graph done) program (newest-first graph done) ∙ next-of-visits graph program visits done rest list split
 
+-- a plain answer on the states of all visits, the newest first, is a plain answer on the whole graph
 pub answer-at-end : (graph : PlainGraph) (program : Program) (visits : List Name) (answer : Answer) → IsListOfVisits graph program visits → IsPlainAnswer (graph_read (reverse (states_at graph visits))) program answer → IsPlainAnswer graph program answer
 answer-at-end graph program visits answer list is =
     let agree : AgreeOnVisits graph (graph_read (states_at graph visits)) program = λ v visited. states-agree graph visits v (list.whole v visited) in

@@ -58,24 +58,31 @@ without_both = changed without_b (Delete c ∷ [])
 
 -- Visits: level by level, in byte order, up to the target
 
+-- `path` from a to d within two edges visits a, b, c and d in turn
 pub path_visits : visits_to 0 graph (Path a d 2 None) ≡ a ∷ b ∷ c ∷ d ∷ []
 path_visits = refl
 
+-- within one edge it visits a, b and c alone
 pub path_visits_within_bound : visits_to 0 graph (Path a d 1 None) ≡ a ∷ b ∷ c ∷ []
 path_visits_within_bound = refl
 
+-- `path` from a to itself within no edge visits a alone
 pub path_visits_itself : visits_to 0 graph (Path a a 0 None) ≡ a ∷ []
 path_visits_itself = refl
 
+-- `reach` from a to c visits a and b, and ends with c
 pub reach_visits : visits_to 5 graph (Reach a c None) ≡ a ∷ b ∷ c ∷ []
 reach_visits = refl
 
+-- `reach` from a to x, which isn't there, visits a, b, c and d in turn
 pub reach_visits_all : visits_to 5 graph (Reach a x None) ≡ a ∷ b ∷ c ∷ d ∷ []
 reach_visits_all = refl
 
+-- `around` a within one edge visits a, b and c
 pub around_visits_near : visits_to 0 graph (Around a 1 None) ≡ a ∷ b ∷ c ∷ []
 around_visits_near = refl
 
+-- `path` from x, which isn't there, visits x alone
 pub absent_visits : visits_to 0 graph (Path x d 5 None) ≡ x ∷ []
 absent_visits = refl
 
@@ -85,21 +92,27 @@ deleted_visits = refl
 
 -- The next visit, as states are read
 
+-- before any read, `path` from a to d asks for a
 pub first_visit : next_visit [] (Path a d 2 None) ≡ Some a
 first_visit = refl
 
+-- when a is read, it asks for b
 pub second_visit : next_visit ((a, graph a) ∷ []) (Path a d 2 None) ≡ Some b
 second_visit = refl
 
+-- when a and b are read, `reach` from a to x asks for c
 pub third_visit : next_visit ((b, graph b) ∷ (a, graph a) ∷ []) (Reach a x None) ≡ Some c
 third_visit = refl
 
+-- when c is read too, it asks for d
 pub fourth_visit : next_visit ((c, graph c) ∷ (b, graph b) ∷ (a, graph a) ∷ []) (Reach a x None) ≡ Some d
 fourth_visit = refl
 
+-- when all four are read, `path` from a to d asks for no more
 pub last_visit : next_visit ((d, graph d) ∷ (c, graph c) ∷ (b, graph b) ∷ (a, graph a) ∷ []) (Path a d 2 None) ≡ None
 last_visit = refl
 
+-- when a is read, `show` of a asks for no more
 pub show_visit : next_visit ((a, graph a) ∷ []) (Show a) ≡ None
 show_visit = refl
 
@@ -108,35 +121,44 @@ show_visit = refl
 abbrev tagged : PlainGraph
 tagged = changed graph (Tag a e2 x d ∷ Tag a e1 x c ∷ [])
 
+-- if only edges whose tag at x has the value d pass, `reach` from a to d visits a and b alone
 pub filtered_visits : visits_to 5 tagged (Reach a d (Some (record { key = x; value = d }))) ≡ a ∷ b ∷ []
 filtered_visits = refl
 
 -- Answers
 
+-- a, b, d is a walk from a to d of at most two edges
 pub walk_abd : IsTrue (is_walk_within 2 graph None a d (a ∷ b ∷ d ∷ []))
 walk_abd = refl
 
+-- it is no walk of at most one edge
 pub walk_too_long : is_walk_within 1 graph None a d (a ∷ b ∷ d ∷ []) ≡ false
 walk_too_long = refl
 
+-- without the vertex b it is no walk
 pub walk_abd_gone : is_walk without_b None a d (a ∷ b ∷ d ∷ []) ≡ false
 walk_abd_gone = refl
 
+-- without the vertex b, a, c, d is a walk from a to d of at most two edges
 pub walk_acd : IsTrue (is_walk_within 2 without_b None a d (a ∷ c ∷ d ∷ []))
 walk_acd = refl
 
+-- `reach` from a to d answers yes
 pub reached : IsPlainAnswer graph (Reach a d None) (Reached true)
 reached = (λ h. (a ∷ b ∷ d ∷ [], refl), λ h. refl)
 
+-- `show` of x, which isn't there, answers that it is absent
 pub shown_absent : IsPlainAnswer graph (Show x) (Shown None)
 shown_absent = refl
 
+-- `show` of d answers a record without properties and edges
 pub shown : IsPlainAnswer graph (Show d) (Shown (Some (record { props = []; edges = [] })))
 shown = refl
 
 no_walk : (walk : List Name) → ¬ IsTrue (is_walk without_both None a d walk)
 no_walk walk h = let inside = stays_inside without_both None (a ∷ b ∷ c ∷ []) refl walk a d refl h in cc
 
+-- without the vertices b and c, `reach` from a to d answers no
 pub not_reached : IsPlainAnswer without_both (Reach a d None) (Reached false)
 not_reached = (λ h. cc, λ h. absurd (no_walk h.0 h.1))
 
@@ -153,6 +175,7 @@ walk_to v h =
       ]
     ]
 
+-- `around` a within one edge finds a, b and c
 pub found : IsPlainAnswer graph (Around a 1 None) (Found (a ∷ b ∷ c ∷ []))
 found = (refl, λ v. (walk_to v, λ h. around_visits graph None a v 1 h.0 h.1))
 
@@ -198,9 +221,11 @@ first_of_two (v ∷ w ∷ u ∷ []) h two =
     (subst (λ y. IsTrue (is_le (slice_cmp name_cmp (a ∷ b ∷ d ∷ []) (a ∷ w ∷ y ∷ [])))) (sym last.end) (through w edge))
 first_of_two (v ∷ w ∷ u ∷ t ∷ rest) h two = absurd (omega (arith, two))
 
+-- `path` from a to d within two edges answers the walk a, b, d
 pub least_walk : IsPlainAnswer graph (Path a d 2 None) (Walk (Some (a ∷ b ∷ d ∷ [])))
 least_walk = record { walks = refl; shortest = two_edges; first = first_of_two }
 
+-- within one edge it answers that there is no walk
 pub no_shorter_walk : IsPlainAnswer graph (Path a d 1 None) (Walk None)
 no_shorter_walk walk h =
     let parts = and_parts (is_walk graph None a d walk) _ h in
@@ -208,9 +233,11 @@ no_shorter_walk walk h =
     let within = leb-true (walk_length walk) 1 parts.1 in
     omega (arith, least, within)
 
+-- `path` from a to x, which isn't there, answers that there is no walk
 pub walk_to_absent : IsPlainAnswer graph (Path a x 5 None) (Walk None)
 walk_to_absent walk h = let there = end_present graph None a x walk (and_parts (is_walk graph None a x walk) _ h).0 in cc
 
+-- and so does `path` from x to d
 pub walk_from_absent : IsPlainAnswer graph (Path x d 5 None) (Walk None)
 walk_from_absent walk h = let inside = stays_inside graph None (x ∷ []) refl walk x d refl (and_parts (is_walk graph None x d walk) _ h).0 in cc
 

@@ -128,5 +128,6 @@ module _ (program : Program) (front back : List (Name × State)) (v : Name) (sta
       let on = onward more is in
       goes more is on.rest' on.is (sym on.next ∙ next-left)
 
+  -- if reads are a program's first visits, they still are with a read of its next visit anywhere in the list
   pub visits-go-on : AreFirstVisits now program
   visits-go-on = at left refl

@@ -10,7 +10,7 @@ use Rattle.std.proofs.lemmas.Cmp.{nat_list_cmp_total, nat_cmp_total, on_total, t
 use Rattle.std.proofs.lemmas.List.Sorted.{sorted_far, ranks_by}
 use Rattle.weave_data.specs.Names.{name_cmp}
 use Rattle.program_defs.specs.declared.path_search.Hop.{Hop}
-use Rattle.program_defs.specs.Walking.{IsIn, IsNoLater, HopsRise}
+use Rattle.program_defs.specs.LeastWalks.{IsIn, IsNoLater, HopsRise}
 
 -- the order of hops
 abbrev pub hop_cmp : Hop → Hop → Ordering
@@ -48,5 +48,6 @@ rising-of : (xs : List Hop) → ((i j : ℕ) (d : Hop) → i ≤ j → j < lengt
 rising-of [] h = tt
 rising-of (x ∷ xs) h = (above-all x xs (λ k p. h 0 (suc k) x (omega arith) (omega (arith, p))), rising-of xs (λ i j d p q. h (suc i) (suc j) d (omega (arith, p)) (omega (arith, q))))
 
+-- in a sorted list of hops each comes no later than those after it, by rank and by target within a rank
 pub sorted-rising : (xs : List Hop) → IsSorted hop_cmp xs → HopsRise xs
 sorted-rising xs sorted = rising-of xs (sorted_far (λ x y. is_lt (hop_cmp x y)) (ranks_by hop-total (λ h. h)) xs sorted)

@@ -106,6 +106,7 @@ module _ (graph : PlainGraph) (pass : Option Filter) (from : Name) where
         | inr here ↦ here
       ]
 
+  -- level 0 has no vertex but the start
   pub start-only : (v : Name) → IsTrue (is_among (levels_to 0 graph pass from).level v) → v ≡ from
   start-only v h = elim (or_cases (same_name from v) _ h) [ inl same ↦ sym (one_name from v same) | inr none ↦ cc ]
 
@@ -148,6 +149,7 @@ module _ (graph : PlainGraph) (pass : Option Filter) (from : Name) where
   walk-start to v [] w = (one_vertex graph pass from to v w).start
   walk-start to v (y ∷ rest) w = (first_step graph pass from to v y rest w).start
 
+  -- a walk leads from its start to its end over as many passing edges as its length says
   pub lead-of-walk : (to : Name) (walk : List Name) → IsTrue (is_walk graph pass from to walk) → IsLead (walk_length walk) graph pass from to walk
   lead-of-walk to [] w = cc
   lead-of-walk to (v ∷ rest) w =

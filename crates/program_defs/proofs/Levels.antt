@@ -26,6 +26,7 @@ module _ (graph : PlainGraph) (pass : Option Filter) (start : Name) where
           among-right (through_level n graph pass start) _ w
           (as_set-has _ w (filter-has _ (targets_of_all graph pass (levels_to n graph pass start).level) w (all-targets-has graph pass (levels_to n graph pass start).level v w h g) (ap not is)))
 
+  -- a passing edge leads from a vertex of the levels 0 to n to one of the levels 0 to n + 1
   pub targets-through : (n : ℕ) (v w : Name) → IsTrue (is_among (through_level n graph pass start) v) → IsTrue (is_among (targets pass (graph v)) w) → IsTrue (is_among (through_level (suc n) graph pass start) w)
   targets-through zero v w h g = next-has 0 v w h g
   targets-through (suc n) v w h g =
@@ -34,6 +35,7 @@ module _ (graph : PlainGraph) (pass : Option Filter) (start : Name) where
         | inr here ↦ next-has (suc n) v w here g
       ]
 
+  -- a vertex of the levels 0 to n is one of the levels 0 to k + n
   pub through-more : (k n : ℕ) (w : Name) → IsTrue (is_among (through_level n graph pass start) w) → IsTrue (is_among (through_level (k + n) graph pass start) w)
   through-more zero n w h = let e : 0 + n ≡ n = omega arith in subst (λ m. IsTrue (is_among (through_level m graph pass start) w)) (sym e) h
   through-more (suc k) n w h =
@@ -65,6 +67,7 @@ around_visits graph pass from to bound walk h =
 
 -- A walk with one edge more
 
+-- a walk with one passing edge more, to a vertex that is there, is a walk
 pub walk-and-edge : (graph : PlainGraph) (pass : Option Filter) (from u v : Name) (walk : List Name)
     → IsTrue (is_walk graph pass from u walk) → IsTrue (is_among (targets pass (graph u)) v) → IsTrue (is_some (graph v)) → IsTrue (is_walk graph pass from v (walk ++ v ∷ []))
 walk-and-edge graph pass from u v [] walks edge there = cc
@@ -78,6 +81,7 @@ walk-and-edge graph pass from u v (x ∷ w ∷ rest) walks edge there =
     let start : IsTrue (same_name from x) = subst (λ y. IsTrue (same_name from y)) step.start (itself from) in
     and_from _ _ (and_from _ _ (and_from _ _ start step.there) step.edge) (walk-and-edge graph pass w u v (w ∷ rest) step.onward edge there)
 
+-- a walk with one vertex more is longer by one edge
 pub length-and-edge : (graph : PlainGraph) (pass : Option Filter) (from u v : Name) (walk : List Name)
     → IsTrue (is_walk graph pass from u walk) → walk_length (walk ++ v ∷ []) ≡ suc (walk_length walk)
 length-and-edge graph pass from u v [] walks = cc
@@ -131,9 +135,11 @@ module _ (graph : PlainGraph) (pass : Option Filter) (from : Name) where
           let more = length-and-edge graph pass from u v w.0 parts.0 in
           (w.0 ++ v ∷ [], and_from _ _ (walk-and-edge graph pass from u v w.0 parts.0 source.1.edge there) (le-leb (walk_length (w.0 ++ v ∷ [])) (suc n) (omega (arith, le, more))))
 
+  -- a vertex that is there is in the levels 0 to n exactly if a walk of at most n edges leads to it
   pub levels-are-distances : (n : ℕ) (v : Name) → IsTrue (is_some (graph v)) → IsTrue (is_among (through_level n graph pass from) v) ↔ ((walk : List Name) × IsTrue (is_walk_within n graph pass from v walk))
   levels-are-distances n v there = (walk-within n v there, λ w. around_visits graph pass from v n w.0 w.1)
 
+-- a list that no name is among is empty
 pub no-member : (xs : List Name) → ((v : Name) → ¬ IsTrue (is_among xs v)) → xs ≡ []
 no-member [] none = refl
 no-member (x ∷ xs) none = absurd (none x (or_left _ _ (itself x)))

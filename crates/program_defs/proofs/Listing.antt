@@ -30,6 +30,7 @@ state-there (entry ∷ entries) v = at (same_name entry.0 v) (same_name v entry.
     at false true same rest = cc
     at false false same rest = rest
 
+-- each program has a complete list of visits on a graph with finitely many vertices
 pub has-list : (graph : Vertices) (program : Program) → (visits : List Name) × IsListOfVisits (plain_of graph) program visits
 has-list graph program =
     let reads : List (Name × State) = reads-of (map.entries graph) in

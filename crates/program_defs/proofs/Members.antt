@@ -28,15 +28,18 @@ name-equal x y e = one_name x y (ap is_eq e)
 pub lists-equal : (xs ys : List Name) → slice_cmp name_cmp xs ys ≡ Equal → xs ≡ ys
 lists-equal xs ys e = slice_cmp-IsAntisymmetric name-equal xs ys e
 
+-- what is among the first of two lists is among both joined
 pub among-left : (xs ys : List Name) (w : Name) → IsTrue (is_among xs w) → IsTrue (is_among (xs ++ ys) w)
 among-left [] ys w h = cc
 among-left (x ∷ xs) ys w h =
     elim (or_cases (same_name x w) _ h) [ inl same ↦ or_left _ _ same | inr more ↦ or_right _ _ (among-left xs ys w more) ]
 
+-- and so is what is among the second
 pub among-right : (xs ys : List Name) (w : Name) → IsTrue (is_among ys w) → IsTrue (is_among (xs ++ ys) w)
 among-right [] ys w h = h
 among-right (x ∷ xs) ys w h = or_right _ _ (among-right xs ys w h)
 
+-- what is among two joined lists is among the first or among the second
 pub among-cases : (xs ys : List Name) (w : Name) → IsTrue (is_among (xs ++ ys) w) → IsTrue (is_among xs w) ⊎ IsTrue (is_among ys w)
 among-cases [] ys w h = inr h
 among-cases (x ∷ xs) ys w h =
@@ -45,6 +48,7 @@ among-cases (x ∷ xs) ys w h =
       | inr more ↦ elim (among-cases xs ys w more) [ inl l ↦ inl (or_right _ _ l) | inr r ↦ inr r ]
     ]
 
+-- a passing target of one of some vertices is among the targets of all of them
 pub all-targets-has : (graph : PlainGraph) (pass : Option Filter) (vs : List Name) (v w : Name)
     → IsTrue (is_among vs v) → IsTrue (is_among (targets pass (graph v)) w) → IsTrue (is_among (targets_of_all graph pass vs) w)
 all-targets-has graph pass [] v w h g = cc
@@ -54,6 +58,7 @@ all-targets-has graph pass (x ∷ xs) v w h g =
       | inr more ↦ among-right (targets pass (graph x)) _ w (all-targets-has graph pass xs v w more g)
     ]
 
+-- what is among some names and passes a test is among those that the filter leaves
 pub filter-has : (p : Name → Bool) (xs : List Name) (w : Name) → IsTrue (is_among xs w) → IsTrue (p w) → IsTrue (is_among (filter p xs) w)
 filter-has p [] w h g = cc
 filter-has p (x ∷ xs) w h g =
@@ -66,6 +71,7 @@ filter-has p (x ∷ xs) w h g =
     kept true k = or_right _ _ k
     kept false k = k
 
+-- a name that is inserted is among the list then, and so is each that was among it
 pub insert-has : (xs : List Name) (v w : Name) → IsTrue (same_name v w) ⊎ IsTrue (is_among xs w) → IsTrue (is_among (insert_key name_cmp xs v) w)
 insert-has [] v w (inl same) = or_left _ _ same
 insert-has [] v w (inr more) = cc
@@ -82,6 +88,7 @@ insert-has (x ∷ xs) v w h = place (name_cmp v x) refl h (insert-has xs v w)
     place Greater is (inr more) rest =
         elim (or_cases (same_name x w) _ more) [ inl here ↦ or_left _ _ here | inr there ↦ or_right _ _ (rest (inr there)) ]
 
+-- what is among some names is among their set
 pub as_set-has : (vs : List Name) (w : Name) → IsTrue (is_among vs w) → IsTrue (is_among (as_set vs) w)
 as_set-has [] w h = h
 as_set-has (v ∷ vs) w h =
@@ -109,6 +116,7 @@ filter-only p (x ∷ xs) w h = left (p x) refl (λ g. later (filter-only p xs w 
           | inr more ↦ rest more
         ]
 
+-- what is among a list after a name was inserted is this name, or was among the list
 pub insert-only : (xs : List Name) (v w : Name) → IsTrue (is_among (insert_key name_cmp xs v) w) → IsTrue (same_name v w) ⊎ IsTrue (is_among xs w)
 insert-only [] v w h = elim (or_cases (same_name v w) _ h) [ inl same ↦ inl same | inr more ↦ cc ]
 insert-only (x ∷ xs) v w h = place (name_cmp v x) (insert-only xs v w) h
@@ -123,6 +131,7 @@ insert-only (x ∷ xs) v w h = place (name_cmp v x) (insert-only xs v w) h
           | inr there ↦ elim (rest there) [ inl same ↦ inl same | inr more ↦ inr (or_right _ _ more) ]
         ]
 
+-- what is among the set of some names is among these names
 pub as_set-only : (vs : List Name) (w : Name) → IsTrue (is_among (as_set vs) w) → IsTrue (is_among vs w)
 as_set-only [] w h = h
 as_set-only (v ∷ vs) w h =
@@ -138,6 +147,7 @@ pub record IsSource (graph : PlainGraph) (pass : Option Filter) (vs : List Name)
   pub among : IsTrue (is_among vs v)
   pub edge : IsTrue (is_among (targets pass (graph v)) w)
 
+-- what is among the targets of some vertices is a passing target of one of them
 pub all-targets-only : (graph : PlainGraph) (pass : Option Filter) (vs : List Name) (w : Name) → IsTrue (is_among (targets_of_all graph pass vs) w) → (v : Name) × IsSource graph pass vs w v
 all-targets-only graph pass [] w h = cc
 all-targets-only graph pass (x ∷ xs) w h =

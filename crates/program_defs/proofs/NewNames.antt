@@ -12,7 +12,7 @@ use Rattle.graph_ops.specs.declared.record.Edge.{Edge}
 use Rattle.graph_ops.proofs.Vertices.{itself}
 use Rattle.program_defs.specs.declared.program.Filter.{Filter}
 use Rattle.program_defs.specs.Searching.{has_name, new_names, IsOnce}
-use Rattle.program_defs.specs.Walks.{passes}
+use Rattle.program_defs.specs.Walks.{passes_filter}
 use Rattle.program_defs.proofs.OneList.{same-turned}
 
 -- a table has the names among its own
@@ -30,7 +30,7 @@ known-same names name v known = at (same_name name v) refl
 
 -- the targets of the passing ones of these edges
 abbrev pub targets_in : Option Filter → List (Name × Edge) → List Name
-targets_in pass edges = map (λ (edge : Edge). edge.target) (filter (passes pass) (values_of edges))
+targets_in pass edges = map (λ (edge : Edge). edge.target) (filter (passes_filter pass) (values_of edges))
 
 -- what is left of the edges begins with the one that is read
 pub next-edge : (all edges : List (Name × Edge)) (i : ℕ) (one : Name × Edge) → all ≡ edges → i < length all → one ≡ get_or all i one → drop i edges ≡ one ∷ drop (i + 1) edges
@@ -42,7 +42,7 @@ AddsName names name more = (v : Name) → has_name more v ≡ same_name name v |
 
 -- the next edge passes
 pub new-more : (pass : Option Filter) (front rest : List (Name × Edge)) (key : Name) (edge : Edge) (all found found' reached reached' : List Name)
-    → front ≡ (key, edge) ∷ rest → passes pass edge ≡ true
+    → front ≡ (key, edge) ∷ rest → passes_filter pass edge ≡ true
     → found' ≡ found ++ (if has_name reached edge.target then [] else edge.target ∷ []) → AddsName reached edge.target reached'
     → found ++ new_names (has_name reached) (targets_in pass front) ≡ all → found' ++ new_names (has_name reached') (targets_in pass rest) ≡ all
 new-more pass front rest key edge all found found' reached reached' next pass_it adds knows so_far =
@@ -54,8 +54,9 @@ new-more pass front rest key edge all found found' reached reached' next pass_it
     ∙ ap (λ ts. found ++ new_names (has_name reached) ts) (sym here)
     ∙ so_far
 
+-- when a passing edge's target is noted as reached, the names reached or still to come are the same as before
 pub known-more : (pass : Option Filter) (front rest : List (Name × Edge)) (key : Name) (edge : Edge) (reached reached' : List Name) (all : Name → Bool)
-    → front ≡ (key, edge) ∷ rest → passes pass edge ≡ true → ((v : Name) → has_name reached' v ≡ same_name edge.target v || has_name reached v)
+    → front ≡ (key, edge) ∷ rest → passes_filter pass edge ≡ true → ((v : Name) → has_name reached' v ≡ same_name edge.target v || has_name reached v)
     → ((v : Name) → is_among (targets_in pass front) v || has_name reached v ≡ all v) → (v : Name) → is_among (targets_in pass rest) v || has_name reached' v ≡ all v
 known-more pass front rest key edge reached reached' all next pass_it knows so_far v =
     let here : targets_in pass front ≡ edge.target ∷ targets_in pass rest = ap (targets_in pass) next ∙ rw pass_it refl in
@@ -70,15 +71,17 @@ known-more pass front rest key edge reached reached' all next pass_it knows so_f
     turned false true c = refl
     turned false false c = refl
 
-pub targets-next : (pass : Option Filter) (front rest : List (Name × Edge)) (key : Name) (edge : Edge) → front ≡ (key, edge) ∷ rest → passes pass edge ≡ true → targets_in pass front ≡ edge.target ∷ targets_in pass rest
+-- if the first edge passes, the targets of the passing edges are its target, and then those of the rest
+pub targets-next : (pass : Option Filter) (front rest : List (Name × Edge)) (key : Name) (edge : Edge) → front ≡ (key, edge) ∷ rest → passes_filter pass edge ≡ true → targets_in pass front ≡ edge.target ∷ targets_in pass rest
 targets-next pass front rest key edge next pass_it = ap (targets_in pass) next ∙ rw pass_it refl
 
 -- the next edge doesn't pass
-pub targets-skipped : (pass : Option Filter) (front rest : List (Name × Edge)) (key : Name) (edge : Edge) → front ≡ (key, edge) ∷ rest → passes pass edge ≡ false → targets_in pass front ≡ targets_in pass rest
+pub targets-skipped : (pass : Option Filter) (front rest : List (Name × Edge)) (key : Name) (edge : Edge) → front ≡ (key, edge) ∷ rest → passes_filter pass edge ≡ false → targets_in pass front ≡ targets_in pass rest
 targets-skipped pass front rest key edge next pass_it = ap (targets_in pass) next ∙ rw pass_it refl
 
 -- Members of new names
 
+-- a name is among the new names exactly if it is among all the names and isn't known
 pub new-among : (names : List Name) (known : Name → Bool) (v : Name) → is_among (new_names known names) v ≡ is_among names v && not (known v)
 new-among [] known v = refl
 new-among (x ∷ xs) known v = at (known x) (same_name x v) refl refl (new-among xs (λ w. same_name x w || known w) v)
@@ -94,6 +97,7 @@ new-among (x ∷ xs) known v = at (known x) (same_name x v) refl refl (new-among
     at false true k s rest = let e : known v ≡ false = ap known (sym (one_name x v s)) ∙ k in rw (s, e) refl
     at false false k s rest = ap (λ b. b || is_among (new_names (λ w. same_name x w || known w) xs) v) s ∙ rest ∙ rw s refl
 
+-- no new name comes twice
 pub new-once : (names : List Name) (known : Name → Bool) → IsOnce (new_names known names)
 new-once [] known = tt
 new-once (x ∷ xs) known = at (known x) (new-once xs (λ w. same_name x w || known w))

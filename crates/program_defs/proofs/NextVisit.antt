@@ -141,6 +141,7 @@ module _ (reads : List (Name × State)) (pass : Option Filter) (from : Name) whe
           let e : suc (k + n) ≡ suc k + n = omega arith in
           subst (λ m. IsTrue (is_among (up_to target (through_level m read pass from)) v)) e (up_to-longer target (through_level (k + n) read pass from) _ v (longer k))
 
+-- on the graph of what was read, the visits through as many levels as there are reads are the complete list
 pub visits-of-reads : (reads : List (Name × State)) (program : Program) → IsListOfVisits (graph_read reads) program (visits_to (length reads) (graph_read reads) program)
 visits-of-reads reads program = record { last_level = length reads; in_turn = refl; whole = λ v h. visited program h.0 v h.1 }
   where

@@ -9,14 +9,14 @@ use Rattle.graph_ops.specs.declared.record.Edge.{Edge}
 use Rattle.program_defs.specs.declared.path_search.Hop.{Hop}
 use Rattle.program_defs.specs.declared.path_search.Mark.{Mark}
 use Rattle.program_defs.specs.declared.program.Filter.{Filter}
-use Rattle.program_defs.specs.Walking.{mark_in, with_mark, marked, hops_from}
-use Rattle.program_defs.specs.Walks.{passes}
+use Rattle.program_defs.specs.LeastWalks.{mark_in, with_mark, marks_after, hops_from}
+use Rattle.program_defs.specs.Walks.{passes_filter}
 use Rattle.program_defs.proofs.Marking.{marked-old, marked-new}
 use Rattle.program_defs.proofs.NewNames.{targets_in, targets-next}
 
 -- the next edge passes
 pub hop-more : (pass : Option Filter) (v : Name) (rank : ℕ) (front rest : List (Name × Edge)) (key : Name) (edge : Edge) (hops hops' all : List Hop)
-    → front ≡ (key, edge) ∷ rest → passes pass edge ≡ true → hops' ≡ hops ++ record { rank = rank; target = edge.target; parent = v } ∷ []
+    → front ≡ (key, edge) ∷ rest → passes_filter pass edge ≡ true → hops' ≡ hops ++ record { rank = rank; target = edge.target; parent = v } ∷ []
     → hops ++ hops_from v rank (targets_in pass front) ≡ all → hops' ++ hops_from v rank (targets_in pass rest) ≡ all
 hop-more pass v rank front rest key edge hops hops' all next pass_it adds so_far =
     ap (λ xs. xs ++ hops_from v rank (targets_in pass rest)) adds
@@ -28,19 +28,19 @@ hop-more pass v rank front rest key edge hops hops' all next pass_it adds so_far
 pub marked-step : (old new : List (Name × Mark)) (hop : Hop) (rest : List Hop)
     → ((v : Name) → mark_in new v ≡ (if is_some (mark_in old hop.target) then mark_in old v else with_mark hop.target (record { parent = hop.parent; rank = length old }) (mark_in old) v))
     → length new ≡ length old + (if is_some (mark_in old hop.target) then 0 else 1)
-    → (v : Name) → marked (mark_in new) (length new) rest v ≡ marked (mark_in old) (length old) (hop ∷ rest) v
+    → (v : Name) → marks_after (mark_in new) (length new) rest v ≡ marks_after (mark_in old) (length old) (hop ∷ rest) v
 marked-step old new hop rest marks count v = at (is_some (mark_in old hop.target)) refl
   where
-    at : (b : Bool) → is_some (mark_in old hop.target) ≡ b → marked (mark_in new) (length new) rest v ≡ marked (mark_in old) (length old) (hop ∷ rest) v
+    at : (b : Bool) → is_some (mark_in old hop.target) ≡ b → marks_after (mark_in new) (length new) rest v ≡ marks_after (mark_in old) (length old) (hop ∷ rest) v
     at true e =
         let m : mark_in new ≡ mark_in old = λ i w. (marks w ∙ ap (λ b. if b then mark_in old w else with_mark hop.target (record { parent = hop.parent; rank = length old }) (mark_in old) w) e) i in
         let none : length old + 0 ≡ length old = omega arith in
         let n : length new ≡ length old = count ∙ ap (λ b. length old + (if b then 0 else 1)) e ∙ none in
-        (λ i. marked (m i) (n i) rest v) ∙ sym (marked-old (mark_in old) (length old) hop rest v e)
+        (λ i. marks_after (m i) (n i) rest v) ∙ sym (marked-old (mark_in old) (length old) hop rest v e)
     at false e =
         let m : mark_in new ≡ with_mark hop.target (record { parent = hop.parent; rank = length old }) (mark_in old) = λ i w. (marks w ∙ ap (λ b. if b then mark_in old w else with_mark hop.target (record { parent = hop.parent; rank = length old }) (mark_in old) w) e) i in
         let n : length new ≡ length old + 1 = count ∙ ap (λ b. length old + (if b then 0 else 1)) e in
-        (λ i. marked (m i) (n i) rest v) ∙ sym (marked-new (mark_in old) (length old) hop rest v e)
+        (λ i. marks_after (m i) (n i) rest v) ∙ sym (marked-new (mark_in old) (length old) hop rest v e)
 
 -- the first mark
 pub first-mark : (from : Name) (start : Mark) (old new : List (Name × Mark)) → ((v : Name) → mark_in old v ≡ None) → ((v : Name) → mark_in new v ≡ cond (same_name from v) (Some start) (mark_in old v)) → (v : Name) → is_some (mark_in new v) ≡ is_among (from ∷ []) v

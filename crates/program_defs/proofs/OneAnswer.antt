@@ -31,6 +31,7 @@ same-walks a b h g = lists-equal a b (at (slice_cmp name_cmp a b) (slice_cmp nam
     at Less Equal e h g = cc
     at Less Greater e h g = cc
 
+-- two plain answers of a program on one graph are equal
 pub one_answer : (graph : PlainGraph) (program : Program) (a b : Answer) → IsPlainAnswer graph program a → IsPlainAnswer graph program b → a ≡ b
 one_answer graph (Show v) (Shown s) (Shown t) g h = ap Shown (g ∙ sym h)
 one_answer graph (Reach from to pass) (Reached x) (Reached y) g h = ap Reached (same_test x y (λ k. h.1 (g.0 k)) (λ k. g.1 (h.0 k)))

@@ -61,6 +61,7 @@ module _ (graph : PlainGraph) (pass : Option Filter) (from : Name) where
       subst (λ m. (levels_to (suc m) graph pass from).level ≡ []) e
       (ap (λ level. as_set (not_among (through_level (suc (k + n)) graph pass from) (targets_of_all graph pass level))) (empty-after k n h))
 
+  -- if level n + 1 is empty, the vertices through any later level are just those through level n
   pub nothing-more : (k n : ℕ) → (levels_to (suc n) graph pass from).level ≡ [] → through_level (k + n) graph pass from ≡ through_level n graph pass from
   nothing-more zero n h = let e : 0 + n ≡ n = omega arith in ap (λ m. through_level m graph pass from) e
   nothing-more (suc k) n h =
@@ -110,6 +111,7 @@ visits-whole graph (Reach from to pass) n k whole = reach-whole graph pass from 
 visits-whole graph (Around from bound pass) n k whole = refl
 visits-whole graph (Path from to bound pass) n k whole = refl
 
+-- two complete lists of visits of a program on one graph are equal
 pub one_list : (graph : PlainGraph) (program : Program) (a b : List Name) → IsListOfVisits graph program a → IsListOfVisits graph program b → a ≡ b
 one_list graph program a b g h =
     elim (cases_lt g.last_level h.last_level) [

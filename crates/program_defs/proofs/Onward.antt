@@ -14,7 +14,7 @@ use Rattle.program_defs.specs.declared.program.Filter.{Filter}
 use Rattle.program_defs.specs.declared.program.Program.{Program}
 use Rattle.program_defs.specs.declared.program.Program.TheVariants.{Show, Reach, Around, Path}
 use Rattle.program_defs.specs.Agreement.{Agree}
-use Rattle.program_defs.specs.Visits.{levels_to, through, through_level, up_to, visits_to, IsListOfVisits, graph_read, next_visit, states_at, first_of}
+use Rattle.program_defs.specs.Visits.{levels_to, names_through, through_level, up_to, visits_to, IsListOfVisits, graph_read, next_visit, states_at, first_of}
 use Rattle.program_defs.proofs.Members.{among-left}
 use Rattle.program_defs.proofs.NextVisit.{visits-of-reads}
 use Rattle.program_defs.proofs.Once.{visits-once, new-after}
@@ -61,7 +61,7 @@ module _ (g h : PlainGraph) (pass : Option Filter) (from : Name) where
   through-onward zero done rest is agree = record { rest' = rest; is = is; next = refl }
   through-onward (suc n) done rest is agree =
       elim (splits (through_level n g pass from) (levels_to (suc n) g pass from).level done rest is) [
-        | inl l ↦ record { rest' = rest; is = sym (ap through (next-levels g h pass from n (λ v k. agree v (subst (λ xs. IsTrue (is_among xs v)) (sym l.first) (among-left (through_level n g pass from) l.more v k))))) ∙ is; next = refl }
+        | inl l ↦ record { rest' = rest; is = sym (ap names_through (next-levels g h pass from n (λ v k. agree v (subst (λ xs. IsTrue (is_among xs v)) (sym l.first) (among-left (through_level n g pass from) l.more v k))))) ∙ is; next = refl }
         | inr s ↦ (
             let earlier = through-onward n done (s.next ∷ s.more) s.first agree in
             record {
@@ -101,6 +101,7 @@ uncut to (y ∷ ys) (d ∷ done) x rest e = at (same_name to y) refl e (uncut to
         let lacks : same_name d to ≡ false = same-turned d to ∙ ap (same_name to) (sym head) ∙ is in
         record { more = u.more; is = ap (λ z. z ∷ ys) head ∙ ap (λ zs. d ∷ zs) u.is; free = rw lacks u.free }
 
+-- the first name of a list is the first of its names up to a target
 pub first-cut : (to x : Name) (xs : List Name) → Some x ≡ first_of (up_to to (x ∷ xs))
 first-cut to x xs = at (same_name to x)
   where
@@ -128,6 +129,7 @@ cut-onward g h pass from to n done (x ∷ rest) is agree =
         at [] e = cc
         at (y ∷ ys) e = e ∙ first-cut to y ys
 
+-- if a graph agrees with another on its first visits, the other's list begins with them, and the next visit is the same
 pub visits-onward : (g h : PlainGraph) (program : Program) (n : ℕ) (done rest : List Name) → visits_to n g program ≡ done ++ rest → Agree g h done → GoesOn (visits_to n h program) done rest
 visits-onward g h (Show v) n done rest is agree = record { rest' = rest; is = is; next = refl }
 visits-onward g h (Reach from to pass) n done rest is agree = cut-onward g h pass from to n done rest is agree
@@ -136,10 +138,12 @@ visits-onward g h (Path from to bound pass) n done rest is agree = cut-onward g 
 
 -- The states of a graph
 
+-- the states that a graph has at some vertices are of just these vertices, in their order
 pub states-keys : (graph : PlainGraph) (vs : List Name) → keys_of (states_at graph vs) ≡ vs
 states-keys graph [] = refl
 states-keys graph (v ∷ vs) = ap (λ xs. v ∷ xs) (states-keys graph vs)
 
+-- what is read at some vertices of a graph agrees there with the graph
 pub states-agree : (graph : PlainGraph) (vs : List Name) → Agree graph (graph_read (states_at graph vs)) vs
 states-agree graph [] v k = cc
 states-agree graph (x ∷ xs) v k = at (same_name x v) refl (states-agree graph xs v)
@@ -154,6 +158,7 @@ find-next keys [] [] all new = refl
 find-next keys [] (x ∷ rest) all new = rw (new x refl) refl
 find-next keys (d ∷ done) rest all new = rw (all d (or_left _ _ (itself d))) (find-next keys done rest (λ v k. all v (or_right (same_name d v) _ k)) new)
 
+-- when the first visits on a graph are read, the next visit is the first of the rest, if there is one
 pub next-of-visits : (graph : PlainGraph) (program : Program) (visits done rest : List Name) → IsListOfVisits graph program visits → visits ≡ done ++ rest → next_visit (states_at graph done) program ≡ first_of rest
 next-of-visits graph program visits done rest list split =
     let reads = states_at graph done in

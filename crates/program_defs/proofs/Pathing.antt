@@ -17,9 +17,9 @@ use Rattle.program_defs.specs.declared.program.Program.TheVariants.{Path}
 use Rattle.program_defs.specs.declared.program.Answer.TheVariants.{Walk}
 use Rattle.program_defs.specs.PlainAnswer.{IsPlainAnswer}
 use Rattle.program_defs.specs.Ranks.{trace}
-use Rattle.program_defs.specs.Searching.{SearchState, Seen, IsWithinLevel, IsGoing, IsTargetNotIn, HasSearched, SameReached, aim_of, next_of, levels_read, gone_on}
+use Rattle.program_defs.specs.Searching.{SearchState, SeesVertex, IsWithinLevel, IsGoing, IsTargetNotIn, HasSearched, SameReached, aim_of, next_of, levels_read, gone_on}
 use Rattle.program_defs.specs.Visits.{levels_to, through_level, graph_read, first_of}
-use Rattle.program_defs.specs.Walking.{WalkState, HasWalked, HasHops, HasMarked, IsMarkedBy, IsRankedTo, SameWalked, mark_in, marked, parents, ranks, hops_from}
+use Rattle.program_defs.specs.LeastWalks.{WalkState, HasWalked, HasHops, HasMarked, IsMarkedBy, IsRankedTo, SameWalked, mark_in, marks_after, parents, ranks, hops_from}
 use Rattle.program_defs.specs.Walks.{targets, is_walk, IsLeastWalk}
 use Rattle.program_defs.proofs.Answering.{same-search}
 use Rattle.program_defs.proofs.Closed.{end_present}
@@ -36,7 +36,7 @@ use Rattle.program_defs.proofs.Walked.{level-marked}
 
 -- One more read
 
-module _ (program : Program) (old : WalkState) (v : Name) (state : State) (reads : List (Name × State)) (h : HasWalked program old reads) (next : next_of old.search ≡ Some v) (last : SearchState) (step : Seen v state old.search last) (aim_kept : last.aim ≡ old.search.aim) where
+module _ (program : Program) (old : WalkState) (v : Name) (state : State) (reads : List (Name × State)) (h : HasWalked program old reads) (next : next_of old.search ≡ Some v) (last : SearchState) (step : SeesVertex v state old.search last) (aim_kept : last.aim ≡ old.search.aim) where
   abbrev reads' : List (Name × State)
   reads' = (v, state) ∷ reads
 
@@ -81,7 +81,7 @@ module _ (program : Program) (old : WalkState) (v : Name) (state : State) (reads
   searched' : HasSearched program last reads'
   searched' = seen program old.search step.added last v state reads next h.searched step.adds step.onward
 
-  -- what is there is in the levels up to this one
+  -- the level is what was read of it, and the rest
   level-is : (levels_to h.level now pass from).level ≡ done' ++ step.added.rest
   level-is = subst (λ (a : Aim). (levels_to h.level now a.pass a.from).level ≡ done' ++ step.added.rest) step.adds.aim within'.level
 
@@ -93,6 +93,7 @@ module _ (program : Program) (old : WalkState) (v : Name) (state : State) (reads
         | inr level ↦ among-right (levels_to h.level now pass from).before _ w (subst (λ xs. IsTrue (is_among xs w)) (sym level-is) (among-left done' step.added.rest w level))
       ]
 
+  -- what is present is in the levels up to this one
   inside-now : (w : Name) → IsTrue (is_among last.present w) → IsTrue (is_among (through_level h.level now pass from) w)
   inside-now w k = read-in-levels w (read-there reads' w (sym (searched'.found.present w) ∙ k))
 
@@ -124,10 +125,11 @@ module _ (program : Program) (old : WalkState) (v : Name) (state : State) (reads
 
     marked-new : HasMarked (mark_in marks') now pass from (suc h.level)
     marked-new =
-        let same : marked (mark_in old.marks) (length old.marks) by.sorted ≡ mark_in marks' = λ i w. sym (by.marks w) i in
+        let same : marks_after (mark_in old.marks) (length old.marks) by.sorted ≡ mark_in marks' = λ i w. sym (by.marks w) i in
         subst (λ f. HasMarked f now pass from (suc h.level)) same
         (level-marked now pass from h.level (mark_in old.marks) marked-old hops' by.sorted (subst (λ xs. HasHops (mark_in old.marks) now pass xs hops') level-done hops-now) by.moved by.rising (length old.marks))
 
+    -- after the last vertex of a level, with all hops marked and none left, the search is that after one read more
     pub walked-down : HasWalked program (record { search = last; marks = marks'; hops = []; room = room }) reads'
     walked-down = record {
       searched = searched';
@@ -145,7 +147,7 @@ last-one rest v [] b e is = sym (is ∙ ap (λ xs. nat_le (length xs) 1) e)
 last-one rest v (x ∷ more) b e is = sym (is ∙ ap (λ xs. nat_le (length xs) 1) e ∙ false_from_ne_true _ (λ k. (let le = leb-true (suc (suc (length more))) 1 k in absurd (omega (arith, le)))))
 
 -- one more read, by the parts that the code has
-module _ (program : Program) (old : WalkState) (v : Name) (state : State) (reads : List (Name × State)) (h : HasWalked program old reads) (next : next_of old.search ≡ Some v) (last : SearchState) (step : Seen v state old.search last) (aim_kept : last.aim ≡ old.search.aim)
+module _ (program : Program) (old : WalkState) (v : Name) (state : State) (reads : List (Name × State)) (h : HasWalked program old reads) (next : next_of old.search ≡ Some v) (last : SearchState) (step : SeesVertex v state old.search last) (aim_kept : last.aim ≡ old.search.aim)
     (rank : ℕ) (rank-is : rank ≡ ranks (mark_in old.marks) v) (p : Option Filter) (pass-is : p ≡ old.search.aim.pass) (noted : List Hop) (noted-is : noted ≡ old.hops ++ hops_from v rank (targets p state)) (is_last : Bool) (last-is : is_last ≡ nat_le (length old.search.rest) 1) (room : ℕ) where
   noted-all : noted ≡ old.hops ++ hops_from v (ranks (mark_in old.marks) v) (targets old.search.aim.pass state)
   noted-all = noted-is ∙ (λ i. old.hops ++ hops_from v (rank-is i) (targets (pass-is i) state))
@@ -153,11 +155,13 @@ module _ (program : Program) (old : WalkState) (v : Name) (state : State) (reads
   last-so : is_none (first_of step.added.rest) ≡ is_last
   last-so = last-one old.search.rest v step.added.rest is_last step.adds.rest last-is
 
+  -- if the vertex read isn't the last of its level, the search with its hops noted is that after one read more
   pub see-on : is_last ≡ false → HasWalked program (record { search = last; marks = old.marks; hops = noted; room = room }) ((v, state) ∷ reads)
   see-on more =
       subst (λ hops. HasWalked program (record { search = last; marks = old.marks; hops = hops; room = room }) ((v, state) ∷ reads)) (sym noted-all)
       (walked-on program old v state reads h next last step aim_kept room (last-so ∙ more))
 
+  -- if it is the last of its level, the search with the noted hops marked is that after one read more
   pub see-down : is_last ≡ true → (marks' : List (Name × Mark)) (after : List Hop) → IsMarkedBy old.marks marks' noted after → HasWalked program (record { search = last; marks = marks'; hops = after; room = room }) ((v, state) ∷ reads)
   see-down over marks' after by =
       subst (λ hops. HasWalked program (record { search = last; marks = marks'; hops = hops; room = room }) ((v, state) ∷ reads)) (sym by.taken)
@@ -166,6 +170,7 @@ module _ (program : Program) (old : WalkState) (v : Name) (state : State) (reads
 
 -- Before the first read
 
+-- a program's search before any read, at level 0, with the start alone marked and no hops, is that for its least walk
 pub walked-first : (program : Program) (search : SearchState) (marks : List (Name × Mark)) (hops : List Hop) (room : ℕ) → hops ≡ [] → HasSearched program search [] → IsGoing search [] 0 [] → ((v : Name) → IsTrue (is_among search.present v) → ⊥)
     → ((v : Name) → is_some (mark_in marks v) ≡ is_among (search.aim.from ∷ []) v) → HasWalked program (record { search = search; marks = marks; hops = hops; room = room }) []
 walked-first program search marks hops room empty searched going none start = subst (λ hs. HasWalked program (record { search = search; marks = marks; hops = hs; room = room }) []) (sym empty) (record {
@@ -188,6 +193,7 @@ same-going old new reads n done same g =
       free = g.free;
     })
 
+-- a search that differs in the room and in the order in the tables alone is that of the program after the same reads
 pub same-walked : (program : Program) (old new : WalkState) (reads : List (Name × State)) → SameWalked old new → HasWalked program old reads → HasWalked program new reads
 same-walked program old new reads same h =
     let marks : mark_in old.marks ≡ mark_in new.marks = λ i w. sym (same.marks w) i in
@@ -223,9 +229,11 @@ module _ (from to : Name) (bound : ℕ) (pass : Option Filter) (walk : WalkState
       some-aim : (a b : Aim) → Some a ≡ Some b → a ≡ b
       some-aim a b e = cc
 
+  -- the search has the program's bound
   pub bound-is : walk.search.aim.bound ≡ Some bound
   bound-is = sym (ap (λ (a : Aim). a.bound) aim-is)
 
+  -- the search has the program's target
   pub target-is : walk.search.aim.target ≡ Some to
   target-is = sym (ap (λ (a : Aim). a.target) aim-is)
 

@@ -13,8 +13,8 @@ use Rattle.program_defs.specs.declared.path_search.Mark.{Mark}
 use Rattle.program_defs.specs.declared.program.Filter.{Filter}
 use Rattle.program_defs.specs.Ranks.{IsRankedAt}
 use Rattle.program_defs.specs.Searching.{SearchState, IsWithinLevel, levels_read}
-use Rattle.program_defs.specs.Visits.{levels_to, through, through_level, graph_read}
-use Rattle.program_defs.specs.Walking.{IsIn, HasHops, HasMarked, ranks, hops_from}
+use Rattle.program_defs.specs.Visits.{levels_to, names_through, through_level, graph_read}
+use Rattle.program_defs.specs.LeastWalks.{IsIn, HasHops, HasMarked, ranks, hops_from}
 use Rattle.program_defs.specs.Walks.{targets}
 use Rattle.program_defs.proofs.Levels.{through-more}
 use Rattle.program_defs.proofs.Members.{among-left, among-right, among-cases}
@@ -86,16 +86,19 @@ module _ (search : SearchState) (reads : List (Name × State)) (n : ℕ) (done :
   here : now v ≡ state
   here = rw (itself v) refl
 
+  -- when the next vertex of level n is read, the levels 0 to n stay as they were
   pub levels-kept : (k : ℕ) → k ≤ n → levels_to k was search.aim.pass search.aim.from ≡ levels_to k now search.aim.pass search.aim.from
   levels-kept k le = levels-same was now search.aim.pass search.aim.from k (λ w i. agrees w (among-left (levels_read reads search.aim n).before done w (before-more was search.aim.pass search.aim.from k n le w i)))
 
+  -- and marks that mark and rank the vertices of these levels still do so
   pub marked-kept : (marks : Name → Option Mark) → HasMarked marks was search.aim.pass search.aim.from n → HasMarked marks now search.aim.pass search.aim.from n
   marked-kept marks h = record {
-    marked = λ w. h.marked w ∙ ap (λ levels. is_among (through levels) w) (levels-kept n (omega arith));
+    marked = λ w. h.marked w ∙ ap (λ levels. is_among (names_through levels) w) (levels-kept n (omega arith));
     ranked = λ k less. ranked-over was now search.aim.pass search.aim.from k _ _ (levels-kept k (omega (arith, less))) (levels-kept (suc k) (omega (arith, less)))
         (λ u i. agrees u (among-left (levels_read reads search.aim n).before done u (level-before was search.aim.pass search.aim.from k n less u i))) (h.ranked k less);
   }
 
+  -- the hops with those from the vertex read are the passing edges of all that was read of the level
   pub hops-more : (marks : Name → Option Mark) (hops : List Hop) → HasHops marks was search.aim.pass done hops → HasHops marks now search.aim.pass (done ++ v ∷ []) (hops ++ hops_from v (ranks marks v) (targets search.aim.pass state))
   hops-more marks hops h = record {
     parent = λ hop i. elim (in-cases hops added hop i) [

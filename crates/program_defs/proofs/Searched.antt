@@ -11,7 +11,7 @@ use Rattle.graph_ops.specs.Mentions.{is_among}
 use Rattle.graph_ops.specs.Operations.{State}
 use Rattle.graph_ops.specs.PlainGraph.{PlainGraph}
 use Rattle.program_defs.specs.declared.program.Program.{Program}
-use Rattle.program_defs.specs.Searching.{SearchState, AddsState, IsWithinLevel, IsTargetNotIn, IsOnce, IsLeft, HasFound, HasSearched, AllRead, aim_of, next_of, levels_read, turned, onto_next_level, gone_on}
+use Rattle.program_defs.specs.Searching.{SearchState, AddsState, IsWithinLevel, IsTargetNotIn, IsOnce, IsLeft, HasFound, HasSearched, AllRead, aim_of, next_of, levels_read, turned_search, onto_next_level, gone_on}
 use Rattle.program_defs.specs.Visits.{as_set, not_among, targets_of_all, through_level, visits_to, graph_read, first_of}
 use Rattle.program_defs.specs.Walks.{is_value}
 use Rattle.program_defs.proofs.Cutting.{cut, cut-free, cut-only, cut-first, cut-here, cut-at, cut-at-bound, begins}
@@ -25,6 +25,7 @@ use Rattle.program_defs.proofs.Turning.{next-first}
 
 -- What is there
 
+-- what was found stays right with one read more, if the vertex is new, its state is added and all reads are visits
 pub found-next : (search next : SearchState) (program : Program) (reads : List (Name × State)) (v : Name) (state : State) → is_among (keys_of reads) v ≡ false → HasFound search program reads → AddsState v state search next
     → ((w : Name) → IsTrue (is_among (keys_of ((v, state) ∷ reads)) w) → IsTrue (is_among (visits_to (length ((v, state) ∷ reads)) (graph_read ((v, state) ∷ reads)) program) w))
     → HasFound next program ((v, state) ∷ reads)
@@ -72,10 +73,12 @@ found-next search next program reads v state new was adds all =
 
 -- The levels as they are read
 
+-- names that aren't without a first have a first
 pub some-first : (names : List Name) → is_none (first_of names) ≡ false → IsSome (first_of names)
 some-first [] e = cc
 some-first (x ∷ xs) e = refl
 
+-- names without a first are none
 pub none-first : (names : List Name) → is_none (first_of names) ≡ true → names ≡ []
 none-first [] e = refl
 none-first (x ∷ xs) e = cc
@@ -96,6 +99,7 @@ module _ (search : SearchState) (program : Program) (reads : List (Name × State
     pub more : List Name
     pub is : visits_to (length reads) graph program ≡ cut search.aim.target (all_read ++ more)
 
+  -- up to the target, the list of visits is what was read, then the rest of the level, and then maybe more
   pub visits-through : (more : List Name) × (visits_to (length reads) graph program ≡ cut search.aim.target (all_read ++ (search.rest ++ more)))
   visits-through =
       let at = cut-at reads program search.aim n search.left aim within.left in
@@ -120,6 +124,7 @@ module _ (search : SearchState) (program : Program) (reads : List (Name × State
     whole : through_level n graph search.aim.pass search.aim.from ≡ all_read
     whole = levels-split ∙ ap (λ xs. all_read ++ xs) none ∙ append-nil all_read
 
+    -- if nothing is left of a level, what was read of it is the whole level
     pub level-done : (levels_read reads search.aim n).level ≡ done
     level-done = within.level ∙ ap (λ xs. done ++ xs) none ∙ append-nil done
 
@@ -156,6 +161,7 @@ module _ (search : SearchState) (program : Program) (reads : List (Name × State
     abbrev down : Option ℕ → SearchState
     down left = onto_next_level left search
 
+    -- the search gone on to the next level, if the bound allows it, is within that level, with none of it read
     pub within-down : (left : Option ℕ) → IsLeft search.aim.bound (suc n) left → IsWithinLevel (down left) reads (suc n) []
     within-down left so_many = record {
       left = so_many;
@@ -171,6 +177,7 @@ module _ (search : SearchState) (program : Program) (reads : List (Name × State
         unit true = refl
         unit false = refl
 
+    -- and a target that isn't among what was read isn't in the levels before the next one
     pub free-down : IsTargetNotIn search.aim.target all_read → IsTargetNotIn search.aim.target ((levels_read reads search.aim (suc n)).before ++ [])
     free-down free = subst (IsTargetNotIn search.aim.target) (sym whole ∙ sym (append-nil (through_level n graph search.aim.pass search.aim.from))) free
 
@@ -250,7 +257,7 @@ module _ (program : Program) (search : SearchState) (reads : List (Name × State
         ended = λ over. read-at-end search program reads n done within aim none (none-first (as_set search.found) over);
       }
 
-      by_left : search.rest ≡ [] → is_value search.aim.target v ≡ false → (left : Option ℕ) → search.left ≡ left → HasSearched program (turned left search) reads
+      by_left : search.rest ≡ [] → is_value search.aim.target v ≡ false → (left : Option ℕ) → search.left ≡ left → HasSearched program (turned_search left search) reads
       by_left none other (Some zero) e = over-now program search reads aim found (read-at-bound search program reads n done within aim none e)
       by_left none other (Some (suc left)) e = down-now none other (Some left) (fewer search.aim.bound (subst (IsLeft search.aim.bound n) e within.left))
         where
@@ -263,7 +270,7 @@ module _ (program : Program) (search : SearchState) (reads : List (Name × State
           same None l = l
           same (Some b) l = absurd l
 
-      by_rest : is_value search.aim.target v ≡ false → (b : Bool) → is_none (first_of search.rest) ≡ b → HasSearched program (if b then turned search.left search else search) reads
+      by_rest : is_value search.aim.target v ≡ false → (b : Bool) → is_none (first_of search.rest) ≡ b → HasSearched program (if b then turned_search search.left search else search) reads
       by_rest other true e = by_left (none-first search.rest e) other search.left refl
       by_rest other false e = record {
         aim = aim;
@@ -272,7 +279,7 @@ module _ (program : Program) (search : SearchState) (reads : List (Name × State
         ended = λ over. absurd (both_ways _ going over);
       }
 
-      by_target : (b : Bool) → is_value search.aim.target v ≡ b → HasSearched program (if b then record search { over = true } else (if is_none (first_of search.rest) then turned search.left search else search)) reads
+      by_target : (b : Bool) → is_value search.aim.target v ≡ b → HasSearched program (if b then record search { over = true } else (if is_none (first_of search.rest) then turned_search search.left search else search)) reads
       by_target true hit = over-now program search reads aim found (at-target hit)
       by_target false other = by_rest other (is_none (first_of search.rest)) refl
 

@@ -13,7 +13,7 @@ use Rattle.graph_ops.proofs.Vertices.{itself}
 use Rattle.program_defs.specs.declared.program.Filter.{Filter}
 use Rattle.program_defs.specs.Agreement.{Agree}
 use Rattle.program_defs.specs.Searching.{SearchState, AddsState, IsWithinLevel, IsOnce, has_name, new_names, levels_read}
-use Rattle.program_defs.specs.Visits.{targets_of_all, levels_to, through, through_level, graph_read}
+use Rattle.program_defs.specs.Visits.{targets_of_all, levels_to, names_through, through_level, graph_read}
 use Rattle.program_defs.specs.Walks.{targets}
 use Rattle.program_defs.proofs.Members.{among-left, among-right}
 use Rattle.program_defs.proofs.NewNames.{new-among, new-once}
@@ -22,6 +22,7 @@ use Rattle.program_defs.proofs.VisitsAgree.{next-levels, targets-same}
 
 -- Members
 
+-- a name is among two joined lists exactly if it is among the first or among the second
 pub among-append : (xs ys : List Name) (v : Name) → is_among (xs ++ ys) v ≡ is_among xs v || is_among ys v
 among-append [] ys v = refl
 among-append (x ∷ xs) ys v = ap (λ b. same_name x v || b) (among-append xs ys v) ∙ turned (same_name x v) (is_among xs v) (is_among ys v)
@@ -34,6 +35,7 @@ targets-append : (graph : PlainGraph) (pass : Option Filter) (xs : List Name) (v
 targets-append graph pass [] v = append-nil (targets pass (graph v))
 targets-append graph pass (x ∷ xs) v = ap (λ ts. targets pass (graph x) ++ ts) (targets-append graph pass xs v) ∙ sym (append_assoc (targets pass (graph x)) (targets_of_all graph pass xs) (targets pass (graph v)))
 
+-- two graphs that agree on the levels before level n have the same levels up to it
 pub levels-same : (g h : PlainGraph) (pass : Option Filter) (from : Name) (n : ℕ) → Agree g h (levels_to n g pass from).before → levels_to n g pass from ≡ levels_to n h pass from
 levels-same g h pass from zero a = refl
 levels-same g h pass from (suc n) a = next-levels g h pass from n a
@@ -55,6 +57,7 @@ module _ (search : SearchState) (reads : List (Name × State)) (n : ℕ) (done :
   levels-split : through_level n was search.aim.pass search.aim.from ≡ (before ++ done) ++ v ∷ more
   levels-split = ap (λ xs. before ++ xs) (within.level ∙ ap (λ xs. done ++ xs) rest) ∙ sym (append_assoc before done (v ∷ more))
 
+  -- the next vertex of the level wasn't read before
   pub new-read : is_among (keys_of reads) v ≡ false
   new-read = within.read v ∙ new-after (before ++ done) v more (subst IsOnce levels-split (through-once was search.aim.pass search.aim.from n))
 
@@ -66,6 +69,7 @@ module _ (search : SearchState) (reads : List (Name × State)) (n : ℕ) (done :
       at true is = absurd (both_ways _ new-read (subst (λ u. IsTrue (is_among (keys_of reads) u)) (sym (one_name v w is)) k))
       at false is = refl
 
+  -- when it is read, the levels up to this one stay as they were
   pub same-levels-read : levels_read reads search.aim n ≡ levels_read ((v, state) ∷ reads) search.aim n
   same-levels-read = levels-same was now search.aim.pass search.aim.from n (λ w k. read-agrees w (within.read w ∙ among-left before done w k))
 
@@ -93,7 +97,7 @@ module _ (search : SearchState) (reads : List (Name × State)) (n : ℕ) (done :
     through_now w = is_among (through_level n now search.aim.pass search.aim.from) w
 
     through-is : (w : Name) → is_among (through_level n was search.aim.pass search.aim.from) w ≡ through_now w
-    through-is w = ap (λ levels. is_among (through levels) w) same-levels-read
+    through-is w = ap (λ levels. is_among (names_through levels) w) same-levels-read
 
     read-now : (w : Name) → is_among (v ∷ keys_of reads) w ≡ is_among (before ++ (done ++ v ∷ [])) w
     read-now w =
@@ -156,6 +160,7 @@ module _ (search : SearchState) (reads : List (Name × State)) (n : ℕ) (done :
         apart true false false e = refl
         apart false t f e = cc
 
+    -- with its state added, the search is within the same level, and this vertex is read of it too
     pub within-next : IsWithinLevel next ((v, state) ∷ reads) n (done ++ v ∷ [])
     within-next = subst (λ s. IsWithinLevel s ((v, state) ∷ reads) n (done ++ v ∷ [])) (λ i. record next { aim = sym adds.aim i; left = sym adds.left i }) shown
       where

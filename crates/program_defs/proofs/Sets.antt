@@ -40,9 +40,11 @@ not-below-itself x less = let same : name_cmp x x ≡ Equal = tied_itself nat_li
 not-both : (x y : Name) → name_cmp x y ≡ Less → ¬ (name_cmp y x ≡ Less)
 not-both x y less more = let turned : name_cmp x y ≡ ordering_reverse (name_cmp y x) = nat_list_cmp_total.antisymm x y in let e : Less ≡ Greater = sym less ∙ turned ∙ ap ordering_reverse more in cc
 
+-- the first name of a list is among the list
 pub head-in : (x : Name) (xs : List Name) → IsTrue (is_among (x ∷ xs) x)
 head-in x xs = or_left _ _ (itself x)
 
+-- what is among the rest of a list is among the list
 pub tail-in : (x : Name) (xs : List Name) (v : Name) → IsTrue (is_among xs v) → IsTrue (is_among (x ∷ xs) v)
 tail-in x xs v h = or_right (same_name x v) _ h
 
@@ -73,6 +75,7 @@ insert-below : (x : Name) (xs : List Name) (v : Name) → name_cmp x v ≡ Less 
 insert-below x xs v less below y k =
     elim (insert-only xs v y k) [ inl here ↦ subst (λ w. name_cmp x w ≡ Less) (one_name v y here) less | inr more ↦ below y more ]
 
+-- a set with a name inserted is a set
 pub insert-set : (xs : List Name) (v : Name) → IsSet xs → IsSet (insert_key name_cmp xs v)
 insert-set [] v s = (λ y k. cc, tt)
 insert-set (x ∷ xs) v s = at (name_cmp v x) refl (insert-set xs v s.1)
@@ -82,16 +85,18 @@ insert-set (x ∷ xs) v s = at (name_cmp v x) refl (insert-set xs v s.1)
     at Equal is rest = s
     at Greater is rest = (insert-below x xs v (nat_list_cmp_total.antisymm x v ∙ ap ordering_reverse is) s.0, rest)
 
+-- the set of some names is a list in which each comes before those after it
 pub as_set-set : (vs : List Name) → IsSet (as_set vs)
 as_set-set [] = tt
 as_set-set (v ∷ vs) = insert-set (as_set vs) v (as_set-set vs)
 
--- a list that rises is a set
+-- what passes the test of being less is less
 less : (o : Ordering) → IsTrue (is_lt o) → o ≡ Less
 less Less h = refl
 less Equal h = cc
 less Greater h = cc
 
+-- a list of names that rise is a set
 pub rising-set : (xs : List Name) → IsTrue (is_rising xs) → IsSet xs
 rising-set [] h = tt
 rising-set (x ∷ []) h = (λ y k. cc, tt)
@@ -107,7 +112,7 @@ set-rising [] s = refl
 set-rising (x ∷ []) s = refl
 set-rising (x ∷ y ∷ rest) s = rw (s.0 y (head-in y rest)) (set-rising (y ∷ rest) s.1)
 
--- a sorted list without a name twice is a set
+-- a name that is less than each of a list, one after another, is below all that are in it
 all-below : (x : Name) (xs : List Name) → AllByRecursion (λ y. name_cmp x y ≡ Less) xs → IsBelowAll x xs
 all-below x [] all y k = cc
 all-below x (z ∷ zs) all y k = elim (or_cases (same_name z y) _ k) [ inl here ↦ subst (λ w. name_cmp x w ≡ Less) (one_name z y here) all.0 | inr more ↦ all-below x zs all.1 y more ]
@@ -116,6 +121,7 @@ strict-set : (xs : List Name) → IsStrictlySortedBy name_cmp xs → IsSet xs
 strict-set [] s = tt
 strict-set (x ∷ xs) s = (all-below x xs (sorted_head name_cmp x xs s), strict-set xs (sorted_tail name_cmp x xs s))
 
+-- a sorted list in which no name comes twice is a set
 pub sorted-set : (xs : List Name) → IsSorted name_cmp xs → IsDistinct same_name xs → IsSet xs
 sorted-set xs sorted distinct =
     strict-set xs (sorted_from_all_adjacent nat_list_cmp_total xs [] (λ k below. at (get_or xs k []) (get_or xs (k + 1) []) _ refl (apart_from_distinct same_name xs k (k + 1) [] distinct (omega arith) below) (sorted k [] (omega arith) below)))

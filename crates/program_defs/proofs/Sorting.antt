@@ -25,6 +25,7 @@ unfolding IsDistinct
 once-distinct [] once = tt
 once-distinct (x ∷ xs) once = IsDistinct-cons same_name x xs (differs-all x xs once.0) (once-distinct xs once.1)
 
+-- a list in which no name comes twice is, when it is sorted, the set of its names
 pub sorted-is-set : (xs ys : List Name) → IsPermutation xs ys → IsSorted name_cmp ys → IsOnce xs → ys ≡ as_set xs
 sorted-is-set xs ys moved sorted once =
     same-sets ys (as_set xs) (sorted-set ys sorted (IsDistinct-IsPermutation same_name same-turned xs ys moved (once-distinct xs once))) (as_set-set xs)

@@ -5,7 +5,7 @@ use Rattle.std.specs.Prelude.{is_none, if◌then◌else◌}
 use Rattle.weave_data.specs.declared.name.Name.{Name}
 use Rattle.graph_ops.specs.Operations.{State}
 use Rattle.program_defs.specs.declared.program.Program.{Program}
-use Rattle.program_defs.specs.Searching.{SearchState, IsWithinLevel, IsGoing, IsTargetNotIn, IsLeft, aim_of, levels_read, turned, onto_next_level, gone_on}
+use Rattle.program_defs.specs.Searching.{SearchState, IsWithinLevel, IsGoing, IsTargetNotIn, IsLeft, aim_of, levels_read, turned_search, onto_next_level, gone_on}
 use Rattle.program_defs.specs.Visits.{as_set, first_of}
 use Rattle.program_defs.specs.Walks.{is_value}
 use Rattle.program_defs.proofs.Searched.{some-first, none-first, free-more, within-down, free-down, read-earlier}
@@ -33,7 +33,7 @@ module _ (program : Program) (search : SearchState) (reads : List (Name × State
       free = free-down search program reads n done within aim none (free-now other);
     }
 
-    by_left : search.rest ≡ [] → is_value search.aim.target v ≡ false → (left : Option ℕ) → search.left ≡ left → (turned left search).over ≡ false → IsGoing (turned left search) reads (suc n) []
+    by_left : search.rest ≡ [] → is_value search.aim.target v ≡ false → (left : Option ℕ) → search.left ≡ left → (turned_search left search).over ≡ false → IsGoing (turned_search left search) reads (suc n) []
     by_left none other (Some zero) e more = absurd (cc)
     by_left none other (Some (suc left)) e more = down-now none other (Some left) (fewer search.aim.bound (subst (IsLeft search.aim.bound n) e within.left)) more
       where
@@ -46,7 +46,7 @@ module _ (program : Program) (search : SearchState) (reads : List (Name × State
         same None l = l
         same (Some b) l = absurd l
 
-    by_rest : is_value search.aim.target v ≡ false → (b : Bool) → is_none (first_of search.rest) ≡ b → (if b then turned search.left search else search).over ≡ false → IsStage (if b then turned search.left search else search)
+    by_rest : is_value search.aim.target v ≡ false → (b : Bool) → is_none (first_of search.rest) ≡ b → (if b then turned_search search.left search else search).over ≡ false → IsStage (if b then turned_search search.left search else search)
     by_rest other true e more = record { on = λ f. absurd (clash (sym e ∙ f)); down = λ f. by_left (none-first search.rest e) other search.left refl' more }
       where
         refl' : search.left ≡ search.left
@@ -59,11 +59,12 @@ module _ (program : Program) (search : SearchState) (reads : List (Name × State
         clash : ¬ (true ≡ false)
         clash f = cc
 
-    by_target : (b : Bool) → is_value search.aim.target v ≡ b → (if b then record search { over = true } else (if is_none (first_of search.rest) then turned search.left search else search)).over ≡ false
-        → IsStage (if b then record search { over = true } else (if is_none (first_of search.rest) then turned search.left search else search))
+    by_target : (b : Bool) → is_value search.aim.target v ≡ b → (if b then record search { over = true } else (if is_none (first_of search.rest) then turned_search search.left search else search)).over ≡ false
+        → IsStage (if b then record search { over = true } else (if is_none (first_of search.rest) then turned_search search.left search else search))
     by_target true hit more = absurd (cc)
     by_target false other more = by_rest other (is_none (first_of search.rest)) (λ i. is_none (first_of search.rest)) more
 
+    -- a search that isn't over goes on in its level while some of it is left, and then at the start of the next one
     pub stage : (gone_on v search).over ≡ false → IsStage (gone_on v search)
     stage more = by_target (is_value search.aim.target v) (λ i. is_value search.aim.target v) more
 

@@ -33,6 +33,7 @@ next-first search v is = at search.over refl is
     at true e h = cc
     at false e h = (h, e)
 
+-- if names after the first n begin with one, they are this one and the names after the first n + 1
 pub next-rest : (n : ℕ) (names : List Name) (v : Name) → first_of (drop n names) ≡ Some v → drop n names ≡ v ∷ drop (n + 1) names
 next-rest n names v first = at (drop n names) refl first
   where
@@ -48,5 +49,6 @@ still-is search v other more = rw (other, more) refl
 pub left-over : (n : ℕ) (names : List Name) → n < length names → is_none (first_of (drop n names)) ≡ false
 left-over n names less = rw (drop-cons names n []) refl
 
+-- after as many names as there are, or more, none is left
 pub none-left : (n : ℕ) (names : List Name) → length names ≤ n → drop n names ≡ []
 none-left n names more = drop_all n names more

@@ -11,7 +11,7 @@ use Rattle.graph_ops.proofs.Vertices.{itself}
 use Rattle.program_defs.specs.declared.program.Filter.{Filter}
 use Rattle.program_defs.specs.declared.program.Program.{Program}
 use Rattle.program_defs.specs.declared.program.Program.TheVariants.{Show, Reach, Around, Path}
-use Rattle.program_defs.specs.Visits.{Levels, through, next_level, as_set, targets_of_all, not_among, levels_to, through_level, up_to, visits_to, IsVisited, IsListOfVisits}
+use Rattle.program_defs.specs.Visits.{Levels, names_through, next_level, as_set, targets_of_all, not_among, levels_to, through_level, up_to, visits_to, IsVisited, IsListOfVisits}
 use Rattle.program_defs.specs.Walks.{targets}
 use Rattle.program_defs.specs.Agreement.{Agree, AgreeOnVisits}
 use Rattle.program_defs.proofs.Members.{among-left, among-right}
@@ -19,6 +19,7 @@ use Rattle.program_defs.proofs.OneList.{same-turned, cut-there, not-there}
 
 -- Names up to a target
 
+-- a target that is among some names is among the names up to it
 pub target-there : (target : Name) (xs : List Name) → IsTrue (is_among xs target) → IsTrue (is_among (up_to target xs) target)
 target-there target [] h = cc
 target-there target (x ∷ xs) h = here (same_name target x) refl (or_cases (same_name x target) _ h) (target-there target xs)
@@ -28,6 +29,7 @@ target-there target (x ∷ xs) h = here (same_name target x) refl (or_cases (sam
     here false e (inl same) rest = absurd (both_ways _ e (same-turned target x ∙ same))
     here false e (inr more) rest = or_right (same_name x target) _ (rest more)
 
+-- each of the names up to a target is among all the names
 pub up-to-only : (target : Name) (xs : List Name) (v : Name) → IsTrue (is_among (up_to target xs) v) → IsTrue (is_among xs v)
 up-to-only target [] v h = h
 up-to-only target (x ∷ xs) v h = here (same_name target x) h (up-to-only target xs v)
@@ -39,6 +41,7 @@ up-to-only target (x ∷ xs) v h = here (same_name target x) h (up-to-only targe
 -- Levels
 
 module _ (g h : PlainGraph) (pass : Option Filter) where
+  -- graphs that agree on some vertices have the same passing targets of these
   pub targets-same : (vs : List Name) → Agree g h vs → targets_of_all g pass vs ≡ targets_of_all h pass vs
   targets-same [] a = refl
   targets-same (v ∷ vs) a =
@@ -46,7 +49,7 @@ module _ (g h : PlainGraph) (pass : Option Filter) where
       ∙ ap (λ rest. targets pass (h v) ++ rest) (targets-same vs (λ w k. a w (or_right (same_name v w) _ k)))
 
   next-same : (levels : Levels) → Agree g h levels.level → next_level g pass levels ≡ next_level h pass levels
-  next-same levels a = ap (λ ts. record { before = through levels; level = as_set (not_among (through levels) ts) }) (targets-same levels.level a)
+  next-same levels a = ap (λ ts. record { before = names_through levels; level = as_set (not_among (names_through levels) ts) }) (targets-same levels.level a)
 
   module _ (from : Name) where
     -- agreement through a level gives the next one
@@ -56,9 +59,10 @@ module _ (g h : PlainGraph) (pass : Option Filter) where
         next-same (levels_to (suc n) g pass from) (λ v k. a v (among-right (levels_to (suc n) g pass from).before (levels_to (suc n) g pass from).level v k))
         ∙ ap (next_level h pass) (next-levels n (λ v k. a v (among-left (through_level n g pass from) (levels_to (suc n) g pass from).level v k)))
 
+    -- two graphs that agree on the levels 0 to n have the same names in these levels, in the same order
     pub same-levels : (n : ℕ) → Agree g h (through_level n g pass from) → through_level n g pass from ≡ through_level n h pass from
     same-levels zero a = refl
-    same-levels (suc n) a = ap through (next-levels n (λ v k. a v (among-left (through_level n g pass from) (levels_to (suc n) g pass from).level v k)))
+    same-levels (suc n) a = ap names_through (next-levels n (λ v k. a v (among-left (through_level n g pass from) (levels_to (suc n) g pass from).level v k)))
 
     -- and so up to a target
     pub same-up-to : (to : Name) (n : ℕ) → Agree g h (up_to to (through_level n g pass from)) → up_to to (through_level n g pass from) ≡ up_to to (through_level n h pass from)
@@ -74,7 +78,7 @@ module _ (g h : PlainGraph) (pass : Option Filter) where
             cut-g ∙ same ∙ sym (cut-there to (through_level n h pass from) (levels_to (suc n) h pass from).level there-h)
         at (inr none) rest =
             let all : up_to to (through_level (suc n) g pass from) ≡ through_level n g pass from ++ up_to to (levels_to (suc n) g pass from).level = not-there to (through_level n g pass from) (levels_to (suc n) g pass from).level none in
-            ap (λ levels. up_to to (through levels)) (next-levels n (λ v k. a v (subst (λ xs. IsTrue (is_among xs v)) (sym all) (among-left (through_level n g pass from) (up_to to (levels_to (suc n) g pass from).level) v k))))
+            ap (λ levels. up_to to (names_through levels)) (next-levels n (λ v k. a v (subst (λ xs. IsTrue (is_among xs v)) (sym all) (among-left (through_level n g pass from) (up_to to (levels_to (suc n) g pass from).level) v k))))
 
 -- the list of visits is the same
 pub visits-same : (g h : PlainGraph) (program : Program) (n : ℕ) → Agree g h (visits_to n g program) → visits_to n g program ≡ visits_to n h program

@@ -1,4 +1,4 @@
--- The marks of a level, and the search for the least walk after one more read.
+-- The members of lists of hops, the ranks by other marks, and the marks of one more level.
 -- Used by Pathing and Rereading.
 use Rattle.std.proofs.Common.{◌≡◌, ℕ, suc, ◌+◌, ◌-◌, ◌<◌, ◌≤◌, Bool, true, false, List, [], ◌∷◌, ◌++◌, IsTrue, refl, sym, ap, subst, ◌∙◌, Option, Some, None, ◌⊎◌, inl, inr, arith}
 use Rattle.std.specs.Prelude.{is_some}
@@ -16,7 +16,7 @@ use Rattle.program_defs.specs.declared.path_search.Mark.{Mark}
 use Rattle.program_defs.specs.declared.program.Filter.{Filter}
 use Rattle.program_defs.specs.Ranks.{ComesNoLater, IsRankedAt}
 use Rattle.program_defs.specs.Visits.{levels_to, through_level}
-use Rattle.program_defs.specs.Walking.{IsIn, HopsRise, HasHops, HasMarked, parent_or, rank_or, parents, ranks, marked}
+use Rattle.program_defs.specs.LeastWalks.{IsIn, HopsRise, HasHops, HasMarked, parent_or, rank_or, parents, ranks, marks_after}
 use Rattle.program_defs.specs.Walks.{targets}
 use Rattle.program_defs.proofs.Levels.{targets-through, through-more, new-in-level, source-before}
 use Rattle.program_defs.proofs.Marking.{marked-stays, marked-has, origin, first-of, in-order}
@@ -39,15 +39,18 @@ into-moved xs ys moved = all-in xs ys (all_shuffled (IsIn ys) ys xs (IsPermutati
 out-of-moved : (xs ys : List Hop) → IsPermutation xs ys → (hop : Hop) → IsIn ys hop → IsIn xs hop
 out-of-moved xs ys moved = all-in ys xs (all_shuffled (IsIn xs) xs ys moved (each-in xs xs (λ hop i. i)))
 
+-- a hop of the first of two lists is one of both joined
 pub in-left : (xs ys : List Hop) (hop : Hop) → IsIn xs hop → IsIn (xs ++ ys) hop
 in-left [] ys hop i = absurd i
 in-left (x ∷ xs) ys hop (inl same) = inl same
 in-left (x ∷ xs) ys hop (inr i) = inr (in-left xs ys hop i)
 
+-- and so is a hop of the second
 pub in-right : (xs ys : List Hop) (hop : Hop) → IsIn ys hop → IsIn (xs ++ ys) hop
 in-right [] ys hop i = i
 in-right (x ∷ xs) ys hop i = inr (in-right xs ys hop i)
 
+-- a hop of two joined lists is one of the first or of the second
 pub in-cases : (xs ys : List Hop) (hop : Hop) → IsIn (xs ++ ys) hop → IsIn xs hop ⊎ IsIn ys hop
 in-cases [] ys hop i = inr i
 in-cases (x ∷ xs) ys hop (inl same) = inl (inl same)
@@ -95,7 +98,7 @@ module _ (graph : PlainGraph) (pass : Option Filter) (from : Name) where
 
   module _ (n : ℕ) (marks : Name → Option Mark) (was : HasMarked marks graph pass from n) (hops sorted : List Hop) (has : HasHops marks graph pass (levels_to n graph pass from).level hops) (moved : IsPermutation hops sorted) (rising : HopsRise sorted) (count : ℕ) where
     abbrev now : Name → Option Mark
-    now v = marked marks count sorted v
+    now v = marks_after marks count sorted v
 
     stays : (v : Name) → IsTrue (is_among (through_level n graph pass from) v) → now v ≡ marks v
     stays v h = marked-stays sorted marks count v (was.marked v ∙ h)
@@ -179,6 +182,7 @@ module _ (graph : PlainGraph) (pass : Option Filter) (from : Name) where
           | inr here ↦ ap is_some (marked-now v here).1
         ]
 
+    -- when the sorted hops of level n are marked too, the vertices of the levels 0 to n + 1 are marked and ranked
     pub level-marked : HasMarked now graph pass from (suc n)
     level-marked = record {
       marked = λ v. same_test _ _ (marked-there v) (there-marked v);

@@ -19,6 +19,7 @@ module _ (test : Request → Bool) where
   all-from [] each = refl
   all-from (y ∷ ys) each = and_from _ _ (each 0 y refl) (all-from ys (λ r x at. each (suc r) x at))
 
+-- the test passes exactly the scripts that are within the limits
 pub within-limits : (script : Script) → IsTrue (are_counts_within_limits script.gates script.shards (length script.requests) && list_all (is_request_within script.gates) script.requests) ↔ IsWithinLimits script
 within-limits script = (to, from)
   where

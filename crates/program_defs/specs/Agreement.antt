@@ -8,7 +8,7 @@ use Rattle.graph_ops.specs.PlainGraph.{PlainGraph}
 use Rattle.program_defs.specs.declared.program.Program.{Program}
 use Rattle.program_defs.specs.Visits.{IsVisited, graph_read}
 
--- the graphs have the same state at each of these vertices
+-- the graphs have the same state at each of these vertices. No public contract cites this.
 abbrev pub Agree : PlainGraph → PlainGraph → List Name → Type 0
 Agree g h vertices = (v : Name) → IsTrue (is_among vertices v) → g v ≡ h v
 

@@ -13,7 +13,7 @@ use Rattle.program_defs.specs.declared.program.Program.{Program}
 use Rattle.program_defs.specs.Agreement.{Agree}
 use Rattle.program_defs.specs.Searching.{SearchState, HasSearched, has_name, next_of}
 use Rattle.program_defs.specs.Visits.{graph_read}
-use Rattle.program_defs.specs.Walking.{WalkState, HasWalked}
+use Rattle.program_defs.specs.LeastWalks.{WalkState, HasWalked}
 use Rattle.program_defs.specs.Walks.{targets}
 
 -- the search has read states of the graph, and no others
@@ -65,9 +65,9 @@ pub record HasWalkedVisits (program : Program) (graph : PlainGraph) (walk : Walk
     pub noted : AreRead all.read.reads names
 
 -- the names that a search of a graph can ask for: the start, and the targets of the passing edges
-abbrev pub names_in : Vertices → Aim → List Name
-names_in graph aim = aim.from ∷ flat_map (λ entry. targets aim.pass (Some entry.1)) (map.entries graph)
+abbrev pub names_asked : Vertices → Aim → List Name
+names_asked graph aim = aim.from ∷ flat_map (λ entry. targets aim.pass (Some entry.1)) (map.entries graph)
 
 -- the number of them that are not among those read
-abbrev pub unread : Vertices → Aim → List Name → ℕ
-unread graph aim read = length (filter (λ v. not (has_name read v)) (names_in graph aim))
+abbrev pub count_unread : Vertices → Aim → List Name → ℕ
+count_unread graph aim read = length (filter (λ v. not (has_name read v)) (names_asked graph aim))

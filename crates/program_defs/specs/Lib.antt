@@ -5,6 +5,6 @@ pub mod Visits
 pub mod Agreement
 pub mod Searching
 pub mod Ranks
-pub mod Walking
+pub mod LeastWalks
 pub mod Asking
 pub mod Limits

@@ -138,20 +138,20 @@ onto_next_level left search =
           (first_of (as_set search.found));
     }
 
-abbrev pub turned : Option ℕ → SearchState → SearchState
-turned (Some zero) search = record search { over = true }
-turned (Some (suc left)) search = onto_next_level (Some left) search
-turned None search = onto_next_level None search
+abbrev pub turned_search : Option ℕ → SearchState → SearchState
+turned_search (Some zero) search = record search { over = true }
+turned_search (Some (suc left)) search = onto_next_level (Some left) search
+turned_search None search = onto_next_level None search
 
 -- the search after what was read of this vertex was added: it ends with the target, and goes on to the next level after
 -- the last vertex of this one
 abbrev pub gone_on : Name → SearchState → SearchState
 gone_on v search =
     if is_value search.aim.target v then record search { over = true } else
-    (if is_none (first_of search.rest) then turned search.left search else search)
+    (if is_none (first_of search.rest) then turned_search search.left search else search)
 
 -- the search after the read of the next vertex in this state
-pub record Seen (v : Name) (state : State) (old new : SearchState) : Type 0 where
+pub record SeesVertex (v : Name) (state : State) (old new : SearchState) : Type 0 where
   pub added : SearchState
   pub adds : AddsState v state old added
   pub onward : IsOnce added.found → new ≡ record (gone_on v added) { room = new.room }

@@ -33,16 +33,16 @@ pub record Levels : Type 0 where
   pub level : List Name
 
 -- the levels up to this one, in turn
-abbrev pub through : Levels → List Name
-through levels = levels.before ++ levels.level
+abbrev pub names_through : Levels → List Name
+names_through levels = levels.before ++ levels.level
 
 -- level n + 1 is the set of the targets of level n's passing edges that are in no earlier level
 abbrev pub next_level : PlainGraph → Option Filter → Levels → Levels
 next_level graph pass levels =
     record {
-      before = through levels;
+      before = names_through levels;
       level = as_set
-          (not_among (through levels) (targets_of_all graph pass levels.level));
+          (not_among (names_through levels) (targets_of_all graph pass levels.level));
     }
 
 -- level 0 is the start
@@ -52,7 +52,7 @@ levels_to (suc n) graph pass start = next_level graph pass (levels_to n graph pa
 
 -- levels 0 to n in turn, each in byte order
 abbrev pub through_level : ℕ → PlainGraph → Option Filter → Name → List Name
-through_level n graph pass start = through (levels_to n graph pass start)
+through_level n graph pass start = names_through (levels_to n graph pass start)
 
 -- the names up to the target, and with it; all of them if it isn't among them
 abbrev pub up_to : Name → List Name → List Name

@@ -19,14 +19,14 @@ is_value None value = false
 is_value (Some found) value = same_name found value
 
 -- whether an edge passes: without a filter each does, and with one those whose tag at the key has the value
-abbrev pub passes : Option Filter → Edge → Bool
-passes None edge = true
-passes (Some only) edge = is_value (at_key only.key edge.tags) only.value
+abbrev pub passes_filter : Option Filter → Edge → Bool
+passes_filter None edge = true
+passes_filter (Some only) edge = is_value (at_key only.key edge.tags) only.value
 
 -- the targets of the passing edges of a vertex in this state; an absent one has none
 abbrev pub targets : Option Filter → State → List Name
 targets pass None = []
-targets pass (Some now) = map (λ (edge : Edge). edge.target) (filter (passes pass) (values_of now.edges))
+targets pass (Some now) = map (λ (edge : Edge). edge.target) (filter (passes_filter pass) (values_of now.edges))
 
 -- whether a list is a walk from one vertex to another: it begins at the first and ends at the second, each of its
 -- vertices is there, and a passing edge joins each to the next

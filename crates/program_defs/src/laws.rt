@@ -15,7 +15,7 @@ ghost use Rattle.program_defs.specs.Searching.{SearchState, SameReached, HasSear
 ghost use Rattle.program_defs.specs.Agreement.{AgreeOnVisits, AreSameReads};
 ghost use Rattle.program_defs.specs.PlainAnswer.{IsPlainAnswer};
 ghost use Rattle.program_defs.specs.Visits.{as_set, through_level, visits_to, graph_read, next_visit, states_at, first_of, IsListOfVisits, AreFirstVisits};
-ghost use Rattle.program_defs.specs.Walking.{WalkState, SameWalked, HasWalked};
+ghost use Rattle.program_defs.specs.LeastWalks.{WalkState, SameWalked, HasWalked};
 ghost use Rattle.program_defs.specs.Walks.{is_walk_within};
 
 /// A vertex that is there is in the levels 0 to n exactly if a walk of at most n edges leads to it.

@@ -4,6 +4,7 @@ ghost use Rattle.std.specs.List.{list_all};
 ghost use Rattle.program_defs.specs.Limits.{IsWithinLimits, are_counts_within_limits, is_request_within as request_within};
 
 use crate::script::{Request, Script, Work};
+use weave_data::{MOST_GATES, MOST_OPS, MOST_REQUESTS, MOST_SESSIONS, MOST_SHARDS};
 
 impl Script {
     /// Whether the script is within the product's limits: on its gatekeepers, its shards and the number of its
@@ -20,7 +21,7 @@ fn is_small(gates: u32, shards: u32, requests: usize) -> bool
     ensures { result ≡ are_counts_within_limits gates shards requests }
 {
     let some = (1 <= gates) & (1 <= shards);
-    let few = (gates <= 8) & (shards <= 16) & (requests <= 10_000);
+    let few = (gates <= MOST_GATES) & (shards <= MOST_SHARDS) & (requests <= MOST_REQUESTS);
     some & few
 }
 
@@ -36,8 +37,8 @@ fn is_request_within(request: &Request, gates: u32) -> bool
     ensures { result ≡ request_within gates request.now }
 {
     let few = match &request.work {
-        Work::Change(ops) => ops.as_slice().len() <= 64,
+        Work::Change(ops) => ops.as_slice().len() <= MOST_OPS,
         Work::Look(_) => true,
     };
-    (request.gate < gates) & (request.session < 64) & few
+    (request.gate < gates) & (request.session < MOST_SESSIONS) & few
 }

@@ -13,7 +13,7 @@ ghost use Rattle.graph_ops.specs.Mentions.{is_among};
 ghost use Rattle.graph_ops.specs.PlainGraph.{PlainGraph};
 ghost use Rattle.program_defs.specs.Ranks.{trace};
 ghost use Rattle.program_defs.specs.Visits.{graph_read, levels_to};
-ghost use Rattle.program_defs.specs.Walking.{HasWalked, SameWalked, IsMarkedBy, IsRankedTo, mark_in, marked, with_mark, parents, ranks, hops_from};
+ghost use Rattle.program_defs.specs.LeastWalks.{HasWalked, SameWalked, IsMarkedBy, IsRankedTo, mark_in, marks_after, with_mark, parents, ranks, hops_from};
 ghost use Rattle.program_defs.specs.Walks.{targets};
 
 use crate::aim::Aim;
@@ -53,7 +53,7 @@ pub struct PathSearch {
 impl Model for PathSearch {
     ghost use Rattle.std.specs.Prelude.{◌-◌, min, vec_len, vec_capacity};
     ghost use Rattle.std.specs.HashMap.{spare};
-    ghost use Rattle.program_defs.specs.Walking.{WalkState};
+    ghost use Rattle.program_defs.specs.LeastWalks.{WalkState};
 
     ghost Value = { WalkState };
 
@@ -251,7 +251,7 @@ fn mark_targets(marks: &mut HashMap<Name, Mark>, hops: &mut Vec<Hop>)
 fn mark_in_turn(marks: &mut HashMap<Name, Mark>, hops: &[Hop])
     requires { length hops.now ≤ spare marks.old }
     ensures { (v : Name)
-        → mark_in marks.new.entries v ≡ marked (mark_in marks.old.entries) (length marks.old.entries) hops.now v }
+        → mark_in marks.new.entries v ≡ marks_after (mark_in marks.old.entries) (length marks.old.entries) hops.now v }
 {
     for hop in hops {
         mark_target(marks, hop);

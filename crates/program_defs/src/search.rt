@@ -4,7 +4,7 @@ ghost use Rattle.weave_data.specs.declared.name.Name.{Name};
 ghost use Rattle.graph_ops.specs.Mentions.{is_among};
 ghost use Rattle.graph_ops.specs.Operations.{State};
 ghost use Rattle.program_defs.specs.declared.program.Program.{Program};
-ghost use Rattle.program_defs.specs.Searching.{aim_of, next_of, has_name, new_names, edges_of, AddsState, gone_on, turned, onto_next_level, SameReached, IsOnce, HasSearched, IsGoing, Seen};
+ghost use Rattle.program_defs.specs.Searching.{aim_of, next_of, has_name, new_names, edges_of, AddsState, gone_on, turned_search, onto_next_level, SameReached, IsOnce, HasSearched, IsGoing, SeesVertex};
 ghost use Rattle.program_defs.specs.Visits.{as_set};
 ghost use Rattle.program_defs.specs.Walks.{is_value};
 
@@ -137,7 +137,8 @@ impl Search {
     pub fn see(&mut self, state: Option<&Record>)
         requires room { edges_of (option_copied state) + 1 ≤ self.old.room }
         ensures aim { self.new.aim ≡ self.old.aim }
-        ensures onward { (v : Name) → next_of self.old ≡ Some v → Seen v (option_copied state.entry) self.old self.new }
+        ensures onward { (v : Name) → next_of self.old ≡ Some v
+            → SeesVertex v (option_copied state.entry) self.old self.new }
         ensures reads { (program : Program) (v : Name) (reads : List (Name × State)) → next_of self.old ≡ Some v
             → HasSearched program self.old reads
             → HasSearched program self.new ((v, option_copied state.entry) ∷ reads) }
@@ -203,7 +204,7 @@ impl Search {
     fn turn(&mut self)
         ensures aim { self.new.aim ≡ self.old.aim }
         ensures next_level { IsOnce self.old.found
-            → self.new ≡ record (turned self.old.left self.old) { room = self.new.room } }
+            → self.new ≡ record (turned_search self.old.left self.old) { room = self.new.room } }
     {
         match self.left {
             None => self.go_down(),

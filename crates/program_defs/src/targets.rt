@@ -5,7 +5,7 @@ ghost use Rattle.weave_data.specs.Names.{same_name};
 ghost use Rattle.weave_data.specs.declared.name.Name.{Name};
 ghost use Rattle.graph_ops.specs.Mentions.{is_among};
 ghost use Rattle.program_defs.specs.Searching.{has_name, new_names};
-ghost use Rattle.program_defs.specs.Walks.{passes, targets};
+ghost use Rattle.program_defs.specs.Walks.{passes_filter, targets};
 
 use crate::program::Filter;
 use graph_ops::{Edge, Record};
@@ -14,7 +14,7 @@ use weave_data::Name;
 
 /// Whether an edge passes.
 pub fn passes(pass: &Option<Filter>, edge: &Edge) -> bool
-    ensures { result ≡ passes pass.now edge.now }
+    ensures { result ≡ passes_filter pass.now edge.now }
 {
     let Some(only) = *pass else {
         return true;

@@ -1,7 +1,7 @@
 //! The programs `reach` and `around`.
 ghost use Rattle.std.specs.Prelude.{◌≡◌, ◌≤◌, [], Some, IfOk};
 ghost use Rattle.program_defs.specs.declared.program.Program.TheVariants.{Reach, Around};
-ghost use Rattle.reach_program.specs.Reaching.{program_of, HasReached, reads_left, next_reached};
+ghost use Rattle.reach_program.specs.Reaching.{program_asked, HasReached, reach_reads_left, next_reached};
 
 use graph_ops::{MOST_EDGES, Record};
 use node_program::NodeProgram;
@@ -76,13 +76,13 @@ impl ReachProgram {
 }
 
 impl NodeProgram for ReachProgram {
-    ghost program = { λ walk. program_of walk.goal walk.search.value.aim };
+    ghost program = { λ walk. program_asked walk.goal walk.search.value.aim };
 
     ghost has_read = { λ walk reads. HasReached walk.goal walk.search.value reads };
 
     ghost next = { λ walk. next_reached walk.search.value };
 
-    ghost spare = { λ walk. reads_left walk.search.value };
+    ghost spare = { λ walk. reach_reads_left walk.search.value };
 
     fn next_vertex(&self) -> Option<Name> {
         searches_are_right();

@@ -77,9 +77,11 @@ module _ (script : Script) (report : Report) where
       below Vii = omega arith
       below Viii = omega arith
 
+  -- a right report breaks no clause at any place
   pub breaks_nowhere : IsRightReport script report → (clause : Clause) (place : ℕ) → ¬ BreaksFirstAt (facts_of script report clause) place
   breaks_nowhere h clause place = none_breaks _ (holds_in h clause) place
 
+  -- at most one clause of a report breaks first, at one place
   pub one_verdict : (a b : Clause) (m n : ℕ) → BreaksFirst script report a m → BreaksFirst script report b n → (a ≡ b) × (m ≡ n)
   one_verdict a b m n g h =
       elim (cases_order (rank a) (rank b)) [

@@ -38,9 +38,11 @@ module _ (decided : IsDecided) where
   order : (state : Option Record) → AllHold (facts_of script (report 1 2 state) Iii)
   order state = ((((no_way decided) _ _ _ refl, tt), refl), ((((no_way decided) _ _ _ refl, ((no_way decided) _ _ _ refl, tt)), refl), tt))
 
+  -- the report where the second transaction reads the vertex with its property is right
   pub right : IsRightReport script (report 1 2 (Some red))
   right = (replies (Some red), (listing (Some red), (order (Some red), ((refl, (refl, tt)), (tt, ((tt, (tt, tt)), ((tt, (tt, tt)), ((refl, (refl, tt)), tt))))))))
 
+  -- and it is a report of the script
   pub of_the_script : IsReportOf script (report 1 2 (Some red))
   of_the_script = record { replies = ((refl, refl), ((refl, refl), tt)); pairs = tt; order = (refl, (refl, tt)) }
 
@@ -64,6 +66,7 @@ module _ (decided : IsDecided) where
       (reply 0 (stamp 0 (1 ∷ [])) (Conflict v 1) ∷ reply 1 (stamp 0 (2 ∷ [])) (Committed 1 (record { op = 1; state = None } ∷ [])) ∷ [])
       [] (1 ∷ [])
 
+  -- the report with a conflict within the session breaks first in its conflicts, at 1
   pub conflict_in_session : BreaksFirst script own_conflict Vi 1
   conflict_in_session = (
     ((refl, (refl, (refl, tt))), ((refl, (refl, tt)), (((((no_way decided) _ _ _ refl, tt), refl), tt), ((refl, tt), (tt, tt))))),
@@ -72,8 +75,10 @@ module _ (decided : IsDecided) where
 
   -- No request at all
 
+  -- the report without any reply, pair or order is right for the script without a request
   pub empty : IsRightReport (script_of 1 []) (report_of [] [] [])
   empty = ((refl, tt), ((refl, tt), (tt, (tt, (tt, (tt, (tt, (tt, tt))))))))
 
+  -- and its printed order is the empty one
   pub empty_printed : IsPrintedOrder (report_of [] [] []) []
   empty_printed = record { taken = []; in_turn = refl; listed = refl }

@@ -43,6 +43,7 @@ module _ (report : Report) where
       let rest = one_taken a b (without_request y remaining) (subst (λ r. TakesAll report (without_request r remaining) a) same g.1) h.1 in
       λ i. same i ∷ rest i
 
+  -- a report has one printed order at most
   pub one_order : (a b : List ℕ) → IsPrintedOrder report a → IsPrintedOrder report b → a ≡ b
   one_order a b g h =
       g.listed ∙ ap (filter (may_be_listed report)) (one_taken g.taken h.taken (begun_requests report) g.in_turn h.in_turn) ∙ sym h.listed

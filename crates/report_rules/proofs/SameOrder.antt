@@ -43,6 +43,7 @@ module _ (a b : Report) (replies : a.replies ≡ b.replies) (pairs : a.pairs ≡
   takes-same remaining [] none = none
   takes-same remaining (r ∷ taken) takes = (next-same remaining r takes.0, takes-same (without_request r remaining) taken takes.1)
 
+  -- two reports with the same replies and the same pairs have the same printed order
   pub order-same : (order : List ℕ) → IsPrintedOrder a order → IsPrintedOrder b order
   order-same order printed = record {
     taken = printed.taken;

@@ -27,6 +27,7 @@ module _ (decided : IsDecided) where
       ∷ [])
       (settled w 0 1 ∷ []) (0 ∷ 1 ∷ [])
 
+  -- the report where z is aborted by a conflict with y, which it precedes through x, is right
   pub conflict_through_a_path : IsRightReport path_script path_report
   conflict_through_a_path = (
     (refl, (refl, (refl, (refl, tt)))),
@@ -39,10 +40,11 @@ module _ (decided : IsDecided) where
     ),
   )
 
+  -- and it is a report of the script
   pub path_report_of_script : IsReportOf path_script path_report
   path_report_of_script = record { replies = ((refl, refl), ((refl, refl), ((refl, refl), tt))); pairs = (refl, tt); order = (refl, (refl, tt)) }
 
-  -- z is taken first, and left out
+  -- the printed order of this report is x, then y, without the aborted z
   pub printed_without_the_aborted : IsPrintedOrder path_report (0 ∷ 1 ∷ [])
   printed_without_the_aborted =
       record {
@@ -93,6 +95,7 @@ module _ (decided : IsDecided) where
       ∷ [])
       (settled w 0 2 ∷ []) (1 ∷ 0 ∷ 2 ∷ [])
 
+  -- the report where z is aborted by a conflict with y, and no pair of q and z is there, is right
   pub all_or_none : IsRightReport none_script none_report
   all_or_none = (
     (refl, (refl, (refl, (refl, (refl, tt))))),
@@ -117,7 +120,7 @@ module _ (decided : IsDecided) where
     ),
   )
 
-  -- No real time: t1 is answered before t2 begins, and is listed after it
+  -- No real time: t1 has the lower commit number, and is listed after t2
 
   abbrev time_script : Script
   time_script =
@@ -133,6 +136,7 @@ module _ (decided : IsDecided) where
       ∷ [])
       (settled (codes "b") 1 2 ∷ []) (1 ∷ 2 ∷ 0 ∷ [])
 
+  -- the report whose order lists t2, then z, and t1 last is right
   pub no_real_time : IsRightReport time_script time_report
   no_real_time = (
     (refl, (refl, (refl, (refl, tt)))),
@@ -151,7 +155,7 @@ module _ (decided : IsDecided) where
     ),
   )
 
-  -- z precedes t1 by its stamp, and t2 precedes z by the pair
+  -- the printed order of this report is t2, then z, and t1 last
   pub printed_without_real_time : IsPrintedOrder time_report (1 ∷ 2 ∷ 0 ∷ [])
   printed_without_real_time =
       record {

@@ -34,6 +34,7 @@ module _ (decided : IsDecided) where
   abbrev both_committed : Report
   both_committed = settled_report (settled v 0 1 ∷ []) (0 ∷ 1 ∷ [])
 
+  -- the report with both committed, the first before the second in a pair and in the order, is right
   pub right : IsRightReport script both_committed
   right = (
     (refl, (refl, (refl, tt))),
@@ -46,10 +47,11 @@ module _ (decided : IsDecided) where
     ),
   )
 
+  -- and it is a report of the script
   pub of_the_script : IsReportOf script both_committed
   of_the_script = record { replies = ((refl, refl), ((refl, refl), tt)); pairs = (refl, tt); order = (refl, (refl, tt)) }
 
-  -- the order of least homes is the same without the pair
+  -- the report without the pair, in the same order, is right too
   pub right_without_pair : IsRightReport script (settled_report [] (0 ∷ 1 ∷ []))
   right_without_pair = (
     (refl, (refl, (refl, tt))),
@@ -97,6 +99,7 @@ module _ (decided : IsDecided) where
   abbrev of_home_0 : Report
   of_home_0 = report_of (reply 0 s10 (Committed 1 []) ∷ reply 1 (stamp 0 (0 ∷ 1 ∷ [])) (Committed 2 []) ∷ []) (settled v 0 1 ∷ []) (0 ∷ 1 ∷ [])
 
+  -- the report with such a second stamp breaks first in its replies, at 2
   pub another_home : BreaksFirst script of_home_0 I 2
   another_home = (tt, (refl, λ fact. cc))
 
@@ -108,6 +111,7 @@ module _ (decided : IsDecided) where
   abbrev numbered_twice : Report
   numbered_twice = report_of (reply 0 s10 (Committed 1 []) ∷ reply 1 s01 (Committed 1 []) ∷ []) (settled v 0 1 ∷ []) (0 ∷ 1 ∷ [])
 
+  -- the report with a number used twice breaks first in its numbers, at 2
   pub number_twice : BreaksFirst script numbered_twice Viii 2
   number_twice = (
     (
@@ -128,6 +132,7 @@ module _ (decided : IsDecided) where
   abbrev refused_report : ReplyState → List ℕ → Report
   refused_report state order = report_of (reply 0 s10 (Committed 1 []) ∷ reply 1 s01 state ∷ []) [] order
 
+  -- the report where the second is refused before any commit, since the vertex is missing, is right
   pub right_refusal : IsRightReport script (refused_report (Refused 1 Missing 0) (0 ∷ []))
   right_refusal = (
     (refl, (refl, (refl, tt))),
@@ -140,6 +145,7 @@ module _ (decided : IsDecided) where
     ),
   )
 
+  -- and it is a report of the script
   pub refusal_of_the_script : IsReportOf script (refused_report (Refused 1 Missing 0) (0 ∷ []))
   refusal_of_the_script = record { replies = ((refl, refl), ((refl, tt), tt)); pairs = tt; order = (refl, tt) }
 
@@ -171,6 +177,7 @@ module _ (decided : IsDecided) where
   abbrev conflict_report : ℕ → Report
   conflict_report newer = report_of (reply 0 (stamp 0 (1 ∷ 1 ∷ [])) (Committed 1 []) ∷ reply 1 s01 (Conflict v newer) ∷ []) [] (0 ∷ [])
 
+  -- the report where the second is aborted by a conflict with the first, which is committed, is right
   pub right_conflict : IsRightReport script (conflict_report 0)
   right_conflict = (
     (refl, (refl, (refl, tt))),
@@ -183,6 +190,7 @@ module _ (decided : IsDecided) where
     ),
   )
 
+  -- and it is a report of the script
   pub conflict_of_the_script : IsReportOf script (conflict_report 0)
   conflict_of_the_script = record { replies = ((refl, refl), ((refl, refl), tt)); pairs = tt; order = (refl, tt) }
 

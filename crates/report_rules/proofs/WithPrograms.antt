@@ -47,6 +47,7 @@ module _ (decided : IsDecided) where
       ∷ [])
       (settled v 0 1 ∷ []) (0 ∷ 1 ∷ 2 ∷ [])
 
+  -- the report where the program shows the vertex, but not the property that the later transaction sets, is right
   pub program_between_writes : IsRightReport between_script between_report
   program_between_writes = (
     (refl, (refl, (refl, (refl, tt)))),
@@ -65,6 +66,7 @@ module _ (decided : IsDecided) where
     ),
   )
 
+  -- and it is a report of the script
   pub between_of_the_script : IsReportOf between_script between_report
   between_of_the_script = record { replies = ((refl, refl), ((refl, refl), ((refl, refl), tt))); pairs = (refl, tt); order = (refl, (refl, (refl, tt))) }
 
@@ -76,6 +78,7 @@ module _ (decided : IsDecided) where
   abbrev session_report : List ℕ → Report
   session_report counts = report_of (reply 0 (stamp 0 (1 ∷ 0 ∷ [])) (Committed 1 []) ∷ reply 1 (stamp 1 counts) (Finished (Shown (Some empty_record))) ∷ []) [] (0 ∷ 1 ∷ [])
 
+  -- the report where the program's stamp is after the transaction's, and it shows the vertex, is right
   pub session_in_order : IsRightReport session_script (session_report (1 ∷ 1 ∷ []))
   session_in_order = (
     (refl, (refl, (refl, tt))),
@@ -103,6 +106,7 @@ module _ (decided : IsDecided) where
       (reply 0 (stamp 0 (1 ∷ 0 ∷ [])) (Finished (Shown None)) ∷ reply 1 (stamp 0 (3 ∷ 0 ∷ [])) (Committed 1 []) ∷ reply 2 (stamp 1 (1 ∷ 1 ∷ [])) (Committed 2 []) ∷ [])
       (settled v 1 2 ∷ []) (0 ∷ 1 ∷ 2 ∷ [])
 
+  -- the report where the program, before both writes, shows no vertex is right
   pub program_before_writes : IsRightReport first_script first_report
   program_before_writes = (
     (refl, (refl, (refl, (refl, tt)))),
@@ -148,6 +152,7 @@ module _ (decided : IsDecided) where
       ∷ [])
       [] (0 ∷ 1 ∷ 2 ∷ 3 ∷ [])
 
+  -- the report where the first program doesn't reach the target, and the one after its creation does, is right
   pub dangling_edge : IsRightReport dangling_script dangling_report
   dangling_edge = (
     (refl, (refl, (refl, (refl, (refl, tt))))),
@@ -194,6 +199,7 @@ module _ (decided : IsDecided) where
       (reply 0 (stamp 0 (1 ∷ [])) (Committed 1 []) ∷ reply 1 (stamp 0 (2 ∷ [])) (Finished (Reached true)) ∷ reply 2 (stamp 0 (3 ∷ [])) (Committed 2 []) ∷ [])
       [] (0 ∷ 1 ∷ 2 ∷ [])
 
+  -- the report where the program reaches the vertex that a later transaction deletes is right
   pub before_a_deletion : IsRightReport collected_script collected_report
   before_a_deletion = (
     (refl, (refl, (refl, (refl, tt)))),
@@ -220,6 +226,7 @@ module _ (decided : IsDecided) where
   abbrev epoch_report : Report
   epoch_report = report_of (reply 0 (stamp_in 1 0 (1 ∷ 0 ∷ [])) (Committed 1 []) ∷ reply 1 (stamp_in 1 1 (1 ∷ 1 ∷ [])) (Committed 2 []) ∷ []) [] (0 ∷ 1 ∷ [])
 
+  -- the report where both transactions are committed with stamps of the raised epoch is right
   pub raised_epoch : IsRightReport epoch_script epoch_report
   raised_epoch = (
     (refl, (refl, (refl, tt))),

@@ -1,15 +1,16 @@
 -- What a script and a report say of a request. Requests are numbered from 0.
 use Rattle.std.specs.Prelude.{ℕ, Bool, true, false, nat_eq, ◌==◌, IsTrue, List, length, Option, Some, None, is_some, slice_get}
 use Rattle.std.specs.List.{filter_map, list_any, AllByRecursion}
-use Rattle.std.specs.Option.{option_and_then}
+use Rattle.std.specs.Option.{option_and_then, option_map_or}
 use Rattle.vector_stamp.specs.declared.clock.Stamp.{Stamp}
-use Rattle.vector_stamp.specs.Precedence.{Given, Precedes}
+use Rattle.vector_stamp.specs.Precedence.{GivenPair, Precedes}
 use Rattle.weave_data.specs.declared.name.Name.{Name}
 use Rattle.graph_ops.specs.Mentions.{named_by, is_among}
 use Rattle.program_defs.specs.declared.script.Script.{Script}
 use Rattle.program_defs.specs.declared.script.Request.{Request}
 use Rattle.program_defs.specs.declared.script.Work.{Work}
 use Rattle.program_defs.specs.declared.script.Work.TheVariants.{Change, Look}
+use Rattle.program_defs.specs.Works.{is_look}
 use Rattle.report_rules.specs.declared.report.Report.{Report}
 use Rattle.report_rules.specs.declared.report.Reply.{Reply}
 use Rattle.report_rules.specs.declared.report.Pair.{Pair}
@@ -48,6 +49,10 @@ module _ {A : Type 0} where
 abbrev pub request_at : Script → ℕ → Option Request
 request_at script r = slice_get script.requests r
 
+-- whether the request is a program; one that the script doesn't have is none
+abbrev pub is_program : Script → ℕ → Bool
+is_program script r = option_map_or (λ (request : Request). is_look request.work) (request_at script r) false
+
 -- the two requests are of one session
 abbrev pub same_session : Script → ℕ → ℕ → Bool
 same_session script a b =
@@ -59,8 +64,8 @@ work_names v (Change ops) = is_among (named_by ops) v
 work_names v (Look program) = false
 
 -- the request is a transaction that names the vertex
-abbrev pub names_vertex : Script → ℕ → Name → Bool
-names_vertex script r v = is_some_and (λ (request : Request). work_names v request.work) (request_at script r)
+abbrev pub request_names_vertex : Script → ℕ → Name → Bool
+request_names_vertex script r v = is_some_and (λ (request : Request). work_names v request.work) (request_at script r)
 
 -- Of the report
 
@@ -73,13 +78,13 @@ abbrev pub stamp_at : Report → ℕ → Option Stamp
 stamp_at report r = option_and_then (λ (reply : Reply). reply.stamp) (reply_at report r)
 
 -- the commit number
-abbrev pub number_of : ReplyState → Option ℕ
-number_of (Committed number answers) = Some number
-number_of _ = None
+abbrev pub committed_number : ReplyState → Option ℕ
+committed_number (Committed number answers) = Some number
+committed_number _ = None
 
 -- the commit numbers in the replies
 abbrev pub commit_numbers : Report → List ℕ
-commit_numbers report = filter_map (λ (reply : Reply). number_of reply.state) report.replies
+commit_numbers report = filter_map (λ (reply : Reply). committed_number reply.state) report.replies
 
 -- how many transactions are committed
 abbrev pub commits : Report → ℕ
@@ -87,7 +92,7 @@ commits report = length (commit_numbers report)
 
 -- the request is a committed transaction
 abbrev pub is_committed : Report → ℕ → Bool
-is_committed report r = is_some_and (λ (reply : Reply). is_some (number_of reply.state)) (reply_at report r)
+is_committed report r = is_some_and (λ (reply : Reply). is_some (committed_number reply.state)) (reply_at report r)
 
 -- a committed transaction, or a finished program
 abbrev pub is_committed_or_finished : ReplyState → Bool
@@ -115,12 +120,12 @@ EveryReplyIsFinal report = AllByRecursion (λ (reply : Reply). IsTrue (is_final 
 -- Precedence
 
 -- a pair as stamps; with an end that isn't begun it joins nothing
-abbrev pub given_by : Option Stamp → Option Stamp → Option Given
+abbrev pub given_by : Option Stamp → Option Stamp → Option GivenPair
 given_by (Some earlier) (Some later) = Some (earlier, later)
 given_by _ _ = None
 
 -- the pairs of the report, as stamps
-abbrev pub given_pairs : Report → List Given
+abbrev pub given_pairs : Report → List GivenPair
 given_pairs report =
     filter_map (λ (pair : Pair). given_by (stamp_at report pair.earlier) (stamp_at report pair.later)) report.pairs
 

@@ -13,7 +13,7 @@ use Rattle.report_rules.specs.declared.report.Report.{Report}
 use Rattle.report_rules.specs.declared.report.Reply.{Reply}
 use Rattle.report_rules.specs.declared.report.ReplyState.{ReplyState}
 use Rattle.report_rules.specs.declared.report.ReplyState.TheVariants.{Conflict, Refused}
-use Rattle.report_rules.specs.Lookups.{is_in, is_some_and, request_at, reply_at, work_names, number_of, RequestPrecedes}
+use Rattle.report_rules.specs.Lookups.{is_in, is_some_and, request_at, reply_at, work_names, committed_number, RequestPrecedes}
 use Rattle.report_rules.specs.Replay.{graph_at_place}
 
 -- Meetings
@@ -54,7 +54,7 @@ phase_of script r = count_by (λ before. nat_le before r) script.phases
 
 -- the commit number of a request, if it is committed
 abbrev pub commit_number : Report → ℕ → Option ℕ
-commit_number report r = option_and_then (λ (reply : Reply). number_of reply.state) (reply_at report r)
+commit_number report r = option_and_then (λ (reply : Reply). committed_number reply.state) (reply_at report r)
 
 -- both requests of a conflict are of one phase
 abbrev pub IsConflictInOnePhase : Script → ℕ → ReplyState → Type 0

@@ -15,7 +15,7 @@ use Rattle.report_rules.specs.declared.report.Reply.{Reply}
 use Rattle.report_rules.specs.declared.report.ReplyState.{ReplyState}
 use Rattle.report_rules.specs.declared.report.ReplyState.TheVariants.{Committed, Finished}
 use Rattle.weave_data.specs.Facts.{Facts}
-use Rattle.report_rules.specs.Lookups.{is_some_and, AreBoth, request_at, reply_at, number_of}
+use Rattle.report_rules.specs.Lookups.{is_some_and, AreBoth, request_at, reply_at, committed_number}
 
 -- One request
 
@@ -70,7 +70,7 @@ graph_at_place script report r = graph_before r empty_graph script report.order
 abbrev pub requests_numbered : ℕ → Report → List ℕ
 requests_numbered number report =
     map (λ (reply : Reply). reply.request)
-    (filter (λ (reply : Reply). is_some_and (λ n. n == number) (number_of reply.state)) report.replies)
+    (filter (λ (reply : Reply). is_some_and (λ n. n == number) (committed_number reply.state)) report.replies)
 
 -- the element of a list that has exactly one
 abbrev pub the_only : List ℕ → Option ℕ

@@ -1,10 +1,11 @@
 -- What it is to be the report of some text for a script. The types of reports have more values, which no text gives. Of
 -- a value of the program the types say besides that its names are names, that numbers other than a stamp's are within
 -- their ranges, and that keys rise.
-use Rattle.std.specs.Prelude.{ℕ, Bool, true, false, ◌+◌, ◌^◌, ◌&&◌, nat_lt, ◌==◌, ◌≡◌, IsTrue, List, [], ◌∷◌, length, map, drop, Option, Some, None, IsSomeAnd, ⊤, if◌then◌else◌}
+use Rattle.std.specs.Prelude.{ℕ, Bool, true, false, ◌+◌, ◌&&◌, nat_lt, ◌==◌, ◌≡◌, IsTrue, List, [], ◌∷◌, length, map, drop, Option, Some, None, IsSomeAnd, ⊤, if◌then◌else◌}
 use Rattle.std.specs.List.{list_all, AllByRecursion}
-use Rattle.vector_stamp.specs.declared.clock.Clock.{Clock}
+use Rattle.weave_data.specs.Limits.{most_gates}
 use Rattle.vector_stamp.specs.declared.clock.Stamp.{Stamp}
+use Rattle.vector_stamp.specs.Order.{has_64_bits}
 use Rattle.graph_ops.specs.Operations.{is_get}
 use Rattle.graph_ops.specs.declared.op.Op.{Op}
 use Rattle.graph_ops.specs.declared.tx.Got.{Got}
@@ -27,15 +28,11 @@ use Rattle.report_rules.specs.Lookups.{is_none_or, request_at}
 abbrev pub is_request_of : Script → ℕ → Bool
 is_request_of script r = nat_lt r (length script.requests)
 
--- the clock's numbers have 64 bits
-abbrev pub has_64_bits : Clock → Bool
-has_64_bits clock = nat_lt clock.epoch (2 ^ 64) && list_all (λ count. nat_lt count (2 ^ 64)) clock.counts
-
 -- a stamp's home is a gatekeeper of the script; there are eight counts, of which those past the number of gatekeepers
 -- are 0; its numbers have 64 bits
 abbrev pub is_stamp_of : Script → Stamp → Bool
 is_stamp_of script stamp =
-    nat_lt stamp.home script.gates && (length stamp.clock.counts == 8)
+    nat_lt stamp.home script.gates && (length stamp.clock.counts == most_gates)
     && list_all (λ count. count == 0) (drop script.gates stamp.clock.counts)
     && has_64_bits stamp.clock
 

@@ -19,7 +19,7 @@ use Rattle.report_rules.specs.declared.report.ReplyState.TheVariants.{Conflict, 
 use Rattle.report_rules.specs.declared.report.Clause.{Clause}
 use Rattle.report_rules.specs.declared.report.Clause.TheVariants.{I, Ii, Iii, Iv, V, Vi, Vii, Viii}
 use Rattle.weave_data.specs.Facts.{Facts, AllHold, BreaksFirstAt, facts_in_turn, facts_of_each}
-use Rattle.report_rules.specs.Lookups.{is_in, is_some_and, is_none_or, are_both, AreBoth, request_at, reply_at, stamp_at, same_session, names_vertex, number_of, commits, is_committed, is_committed_or_finished, may_be_listed, RequestPrecedes}
+use Rattle.report_rules.specs.Lookups.{is_in, is_some_and, is_none_or, are_both, AreBoth, request_at, reply_at, stamp_at, same_session, request_names_vertex, committed_number, commits, is_committed, is_committed_or_finished, may_be_listed, RequestPrecedes}
 use Rattle.report_rules.specs.Replay.{replay_from, graph_at_place, IsRefusedAfter}
 
 -- Replies. Place: the reply line; one more than the last if lines are missing.
@@ -96,7 +96,7 @@ replay_clause script report = replay_from empty_graph script report report.order
 
 -- a committed transaction that names the vertex
 abbrev pub is_committed_and_names : Script → Report → Name → ℕ → Bool
-is_committed_and_names script report v r = is_committed report r && names_vertex script r v
+is_committed_and_names script report v r = is_committed report r && request_names_vertex script r v
 
 -- a program that is finished visits the vertex on this graph
 abbrev pub VisitsWhereFinished : PlainGraph → Program → Name → ReplyState → Type 0
@@ -134,7 +134,7 @@ pairs_clause script report = facts_of_each (IsPairInPlace script report) report.
 abbrev pub IsConflictInPlace : Script → Report → ℕ → ReplyState → Type 0
 IsConflictInPlace script report r (Conflict v newer) =
     IsTrue (is_committed_and_names script report v newer && not (same_session script r newer)
-    && names_vertex script r v)
+    && request_names_vertex script r v)
     × RequestPrecedes report r newer
 IsConflictInPlace script report r _ = ⊤
 
@@ -149,8 +149,8 @@ conflicts_clause script report =
 -- if it is later
 abbrev pub keeps_number : ℕ → ℕ → Reply → Bool
 keeps_number at r other =
-    if nat_lt other.request r then is_none_or (λ number. nat_le number at) (number_of other.state)
-    else is_none_or (λ number. nat_lt at number) (number_of other.state)
+    if nat_lt other.request r then is_none_or (λ number. nat_le number at) (committed_number other.state)
+    else is_none_or (λ number. nat_lt at number) (committed_number other.state)
 
 -- `at` is at most the number of commits, and is in order among the commit numbers of the session of r
 abbrev pub stands_among_commits : Script → Report → ℕ → ℕ → Bool
@@ -176,13 +176,13 @@ abbrev pub is_number_in_place : ℕ → List Reply → Option ℕ → Bool
 is_number_in_place count before =
     is_none_or (λ number.
     nat_lt 0 number && nat_le number count
-    && not (list_any (λ (earlier : Reply). is_some_and (λ n. n == number) (number_of earlier.state)) before))
+    && not (list_any (λ (earlier : Reply). is_some_and (λ n. n == number) (committed_number earlier.state)) before))
 
 -- this for each reply
 abbrev pub numbers_clause : Report → Facts
 numbers_clause report =
     facts_in_turn
-    (λ before (reply : Reply). IsTrue (is_number_in_place (commits report) before (number_of reply.state)))
+    (λ before (reply : Reply). IsTrue (is_number_in_place (commits report) before (committed_number reply.state)))
     report.replies
 
 -- The whole

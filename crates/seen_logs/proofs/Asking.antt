@@ -15,7 +15,7 @@ use Rattle.program_defs.specs.declared.script.Script.{Script}
 use Rattle.program_defs.specs.Limits.{IsWithinLimits}
 use Rattle.weave_entries.specs.declared.gate_log.GateEntry.{GateEntry}
 use Rattle.weave_entries.specs.declared.shard_log.ShardEntry.{ShardEntry}
-use Rattle.weave_entries.specs.GateReplay.{Begun, begun_by, begun_in, program_by, programs_of, tx_by}
+use Rattle.weave_entries.specs.GateReplay.{BegunRequest, begun_by, begun_in, program_by, programs_of, tx_by}
 use Rattle.weave_entries.specs.ShardReplay.{Visit, visit_by, visits_of}
 use Rattle.weave_entries.specs.ShardRules.{IsShardLog}
 use Rattle.weave_account.specs.declared.account.Account.{Account}
@@ -39,6 +39,7 @@ what-asked log visit = (visit.request, seen_last log visit)
 abbrev pub marked-of : List ShardEntry → List ShardEntry → List (ℕ × List Stamp)
 marked-of log entries = map (what-asked log) (filter (λ (visit : Visit). visit.settled) (visits_of entries))
 
+-- the marked visits of entries and of more entries after them are those of the first, then those of the others
 pub marked-append : (log xs ys : List ShardEntry) → marked-of log (xs ++ ys) ≡ marked-of log xs ++ marked-of log ys
 marked-append log xs ys =
     ap (λ vs. map (what-asked log) (filter (λ (visit : Visit). visit.settled) vs)) (flat_map-append (λ (e : ShardEntry). visit_by e.author e.deed) xs ys)
@@ -67,7 +68,7 @@ in-turn log before rest after later a b pairs at_a at_b marked_a marked_b less =
     (marked-there log [] b later marked_b)
 
 -- a program that was begun at a gatekeeper was begun
-pub program-begun : (account : Account) (home : ℕ) (begun : Begun) → Contains (programs_of (gate_log account home)) begun
+pub program-begun : (account : Account) (home : ℕ) (begun : BegunRequest) → Contains (programs_of (gate_log account home)) begun
     → Contains (all_begun account) begun
 program-begun account home begun h =
     let from = flat_has (λ (e : GateEntry). program_by e.author e.deed) (gate_log account home) begun h in

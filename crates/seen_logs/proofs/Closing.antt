@@ -10,7 +10,7 @@ use Rattle.weave_entries.specs.declared.gate_log.GateEntry.{GateEntry}
 use Rattle.weave_entries.specs.declared.oracle_log.OracleEntry.{OracleEntry}
 use Rattle.weave_entries.specs.declared.shard_log.ShardEntry.{ShardEntry}
 use Rattle.weave_entries.specs.declared.store_log.StoreEntry.{StoreEntry}
-use Rattle.weave_entries.specs.GateReplay.{Begun, program_by, programs_of}
+use Rattle.weave_entries.specs.GateReplay.{BegunRequest, program_by, programs_of}
 use Rattle.weave_entries.specs.ShardReplay.{Visit}
 use Rattle.weave_entries.specs.ShardRules.{IsShardLog}
 use Rattle.weave_account.specs.declared.account.Account.{Account}
@@ -19,7 +19,7 @@ use Rattle.weave_account.specs.Oracle.{seen_last}
 use Rattle.seen_logs.specs.LowerLaws.{LawsForSeenLogs}
 use Rattle.seen_logs.specs.References.{GateRefersAs, IsAskedAsSeen, OracleRefersAs, ShardRefersAs, StoreRefersAs}
 use Rattle.seen_logs.specs.Closed.{AreOfHands, IsOfHands}
-use Rattle.seen_logs.specs.Seen.{AnswersFor, AreLegal, HasAsked, IsOwn, IsSeenByHand, since, visit_entry}
+use Rattle.seen_logs.specs.Seen.{AnswersFor, AreLegal, HasAsked, IsOwn, IsSeenByHand, entries_since, visit_entry}
 use Rattle.seen_logs.proofs.Asking.{program-begun}
 use Rattle.seen_logs.proofs.Going.{asked-stays, gate-stays, oracle-stays, shard-stays, store-stays}
 use Rattle.seen_logs.proofs.Listed.{flat-on, has-on, longer}
@@ -145,7 +145,7 @@ module _ {gates shards hands : ℕ} {start : Account} {seen_by : ℕ → Account
   -- the program of such a visit was begun by its author, since the start
   pub begun-since : (shard : ℕ) (before : List ShardEntry) (visit : Visit) (after : List ShardEntry)
       → shard_log closed shard ≡ before ++ visit_entry visit ∷ after → IsOfHand shard before visit.author
-      → (home : ℕ) × Contains (programs_of (since (gate_log start home) (gate_log (seen_by visit.author) home)))
+      → (home : ℕ) × Contains (programs_of (entries_since (gate_log start home) (gate_log (seen_by visit.author) home)))
       (record { author = visit.author; request = visit.request; stamp = visit.stamp })
   begun-since shard before visit after at is-of =
       let on = of.within visit.author is-of.known in
@@ -154,12 +154,12 @@ module _ {gates shards hands : ℕ} {start : Account} {seen_by : ℕ → Account
       of.own_visits visit.author is-of.known shard before (visit_entry visit) place.0 place.1 is-of.own
 
   -- what a hand began since the start is among all
-  pub since-begun : (number : ℕ) → number < hands → (home : ℕ) (begun : Begun)
-      → Contains (programs_of (since (gate_log start home) (gate_log (seen_by number) home))) begun → Contains (all_begun closed) begun
+  pub since-begun : (number : ℕ) → number < hands → (home : ℕ) (begun : BegunRequest)
+      → Contains (programs_of (entries_since (gate_log start home) (gate_log (seen_by number) home))) begun → Contains (all_begun closed) begun
   since-begun number known home begun h =
       let on = of.within number known in
       let log = gate_log (seen_by number) home in
-      let entry = flat_has (λ (e : GateEntry). program_by e.author e.deed) (since (gate_log start home) log) begun h in
+      let entry = flat_has (λ (e : GateEntry). program_by e.author e.deed) (entries_since (gate_log start home) log) begun h in
       let there = has_flat (λ (e : GateEntry). program_by e.author e.deed) log entry.0 begun
       (drop_has (length (gate_log start home)) log entry.0 entry.1) entry.2 in
       program-begun closed home begun
@@ -173,9 +173,9 @@ module _ {gates shards hands : ℕ} {start : Account} {seen_by : ℕ → Account
   same-author shard other before rest a b after later at_a at_b of_a of_b stamps =
       let first = begun-since shard before a after at_a of_a in
       let second = begun-since other rest b later at_b of_b in
-      elim (pairs_cases (λ (x y : Begun). id_of x.stamp ≢ id_of y.stamp) (all_begun closed) (laws.seen_ids shards closed end.few end.legal.gate_logs) _ _
+      elim (pairs_cases (λ (x y : BegunRequest). id_of x.stamp ≢ id_of y.stamp) (all_begun closed) (laws.seen_ids shards closed end.few end.legal.gate_logs) _ _
       (since-begun a.author of_a.known first.0 _ first.1) (since-begun b.author of_b.known second.0 _ second.1)) [
-        | inl one ↦ ap (λ (x : Begun). x.author) one
+        | inl one ↦ ap (λ (x : BegunRequest). x.author) one
         | inr (inl differ) ↦ absurd (differ (ap id_of stamps))
         | inr (inr differ) ↦ absurd (differ (sym (ap id_of stamps)))
       ]

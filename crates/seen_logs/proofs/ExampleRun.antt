@@ -33,7 +33,7 @@ use Rattle.weave_entries.specs.declared.shard_log.ShardEntry.{ShardEntry}
 use Rattle.weave_entries.specs.declared.shard_log.ShardDeed.TheVariants.{Arrived, Applied, Visited}
 use Rattle.weave_entries.specs.declared.store_log.StoreEntry.{StoreEntry}
 use Rattle.weave_entries.specs.Logs.{AtEachEntry}
-use Rattle.weave_entries.specs.GateReplay.{Begun}
+use Rattle.weave_entries.specs.GateReplay.{BegunRequest}
 use Rattle.weave_entries.specs.GateRules.{FitsAs, HearsAs, HearsNoMore, IsGateLog}
 use Rattle.weave_entries.specs.OracleRules.{IsOracleLog}
 use Rattle.weave_entries.specs.SessionReplay.{FitsSession, has_reply_in, session_of, session_stamp_of}
@@ -451,23 +451,24 @@ follows =
       sessions = sessions;
     }
   where
-    begun-change : Begun
+    begun-change : BegunRequest
     begun-change = record { author = 0; request = 0; stamp = t }
 
-    begun-look : Begun
+    begun-look : BegunRequest
     begun-look = record { author = 0; request = 1; stamp = p }
 
     begin-once : BeginEachOnce account
     begin-once =
-        pairs_cons (λ (a b : Begun). a.request ≢ b.request) begun-change (begun-look ∷ [])
-        (λ b h. subst (λ (k : Begun). 0 ≢ k.request) (only begun-look b h) (λ same. omega (arith, same)))
-        (pairs-one (λ (a b : Begun). a.request ≢ b.request) begun-look)
+        pairs_cons (λ (a b : BegunRequest). a.request ≢ b.request) begun-change (begun-look ∷ [])
+        (λ b h. subst (λ (k : BegunRequest). 0 ≢ k.request) (only begun-look b h) (λ same. omega (arith, same)))
+        (pairs-one (λ (a b : BegunRequest). a.request ≢ b.request) begun-look)
 
 -- So they are an account
 
 legal-account : AreLegal 2 1 account
 legal-account = record { gate_logs = gate-logs; hears = hears; store_log = right-creation t; oracle_log = oracle-log; shard_logs = shard-logs }
 
+-- the logs of this run, with those of its sessions, are an account of the script
 pub worked-run : LawsForSeenLogs → IsAccount script account
 worked-run laws =
     made laws script account 0 legal-account

@@ -32,13 +32,13 @@ use Rattle.weave_entries.specs.declared.shard_log.ShardDeed.TheVariants.{Arrived
 use Rattle.weave_entries.specs.declared.store_log.StoreEntry.{StoreEntry}
 use Rattle.weave_entries.specs.declared.store_log.StoreDeed.TheVariants.{Judged}
 use Rattle.weave_entries.specs.declared.verdict.Verdict.TheVariants.{Committed, Conflict}
-use Rattle.weave_entries.specs.GateReplay.{Begun, programs_of, txs_of}
+use Rattle.weave_entries.specs.GateReplay.{BegunRequest, programs_of, txs_of}
 use Rattle.weave_entries.specs.ShardReplay.{Update, Visit, visits_of}
 use Rattle.weave_entries.specs.StoreReplay.{Commit, judged_by}
 use Rattle.weave_account.specs.declared.account.Account.{Account}
 use Rattle.weave_account.specs.Account.{Precedence, begun_stamps, gate_log, shard_log}
 use Rattle.seen_logs.specs.References.{GateRefersAs, IsAskedAsSeen, OracleRefersAs, ShardRefersAs, StoreRefersAs}
-use Rattle.seen_logs.specs.Seen.{GateRefersWithin, HasAsked, IsOwn, IsSeenByHand, OracleRefersWithin, ShardRefersWithin, StoreRefersWithin, VisitsItsOwn, VisitsOwnPrograms, since, visit_entry}
+use Rattle.seen_logs.specs.Seen.{GateRefersWithin, HasAsked, IsOwn, IsSeenByHand, OracleRefersWithin, ShardRefersWithin, StoreRefersWithin, VisitsItsOwn, VisitsOwnPrograms, entries_since, visit_entry}
 use Rattle.weave_account.proofs.ExampleLists.{four, one, three, two}
 use Rattle.weave_account.proofs.ExampleParts.{clock, two-known}
 use Rattle.seen_logs.proofs.ExampleParts.{creation-refers}
@@ -281,7 +281,7 @@ author-unseen refers = no-author refers.home refers.begun
     no-author : (home : ℕ) → ¬ Contains (txs_of (gate_log seen home)) (record { author = 8; request = 0; stamp = t })
     no-author zero h =
         let same = only (record { author = 7; request = 0; stamp = t }) (record { author = 8; request = 0; stamp = t }) h in let authors : 7 ≡ 8 = ap
-        (λ (b : Begun). b.author) same in omega (arith, authors)
+        (λ (b : BegunRequest). b.author) same in omega (arith, authors)
     no-author (suc zero) h = has_none _ h
     no-author (suc (suc home)) h = has_none _ h
 
@@ -333,7 +333,7 @@ commit-unseen refers = has_none _ (refers.commits_read _ (has_head _ []))
 program-given : ¬ VisitsItsOwn 7 seen seen s3.deed
 program-given begun = none begun.0 begun.1
   where
-    none : (home : ℕ) → ¬ Contains (programs_of (since (gate_log seen home) (gate_log seen home))) (record { author = 7; request = 1; stamp = p })
+    none : (home : ℕ) → ¬ Contains (programs_of (entries_since (gate_log seen home) (gate_log seen home))) (record { author = 7; request = 1; stamp = p })
     none zero h = has_none _ h
     none (suc zero) h = has_none _ h
     none (suc (suc home)) h = has_none _ h

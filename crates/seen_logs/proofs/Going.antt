@@ -28,7 +28,7 @@ use Rattle.weave_entries.specs.declared.store_log.StoreEntry.{StoreEntry}
 use Rattle.weave_entries.specs.declared.store_log.StoreDeed.{StoreDeed}
 use Rattle.weave_entries.specs.declared.verdict.Verdict.{Verdict}
 use Rattle.weave_entries.specs.declared.verdict.Verdict.TheVariants.{Committed, Conflict, Refused}
-use Rattle.weave_entries.specs.GateReplay.{Begun, begun_by, begun_in, messages_by, program_by, to_shard, tx_by}
+use Rattle.weave_entries.specs.GateReplay.{BegunRequest, begun_by, begun_in, messages_by, program_by, to_shard, tx_by}
 use Rattle.weave_entries.specs.OracleReplay.{settled_entry}
 use Rattle.weave_entries.specs.ShardReplay.{Update, Visit, reads_in, visit_by, visits_of}
 use Rattle.weave_entries.specs.ShardRules.{IsShardLog}
@@ -99,7 +99,7 @@ module _ (laws : LawsForSeenLogs) (seen next : Account) (on : GatesGoOn seen nex
       has-on (flat_map f (gate_log seen home)) (flat_map f (gate_log next home)) (flat-on f (gate_log seen home) (gate_log next home) (on home)) x h
 
   -- and so does a begun stamp
-  begun-stays : (b : Begun) → Contains (all_begun seen) b → Contains (all_begun next) b
+  begun-stays : (b : BegunRequest) → Contains (all_begun seen) b → Contains (all_begun next) b
   begun-stays b h =
       let log = flat_has begun_in seen.gates b h in
       let home = place-of seen.gates log.0 log.1 in
@@ -109,8 +109,8 @@ module _ (laws : LawsForSeenLogs) (seen next : Account) (on : GatesGoOn seen nex
 
   stamp-stays : (stamp : Stamp) → IsBegunStamp seen stamp → IsBegunStamp next stamp
   stamp-stays stamp h =
-      let of = map_has (λ (b : Begun). b.stamp) (all_begun seen) stamp h in
-      subst (λ s. IsBegunStamp next s) of.2 (has_map (λ (b : Begun). b.stamp) (all_begun next) of.0 (begun-stays of.0 of.1))
+      let of = map_has (λ (b : BegunRequest). b.stamp) (all_begun seen) stamp h in
+      subst (λ s. IsBegunStamp next s) of.2 (has_map (λ (b : BegunRequest). b.stamp) (all_begun next) of.0 (begun-stays of.0 of.1))
 
   -- what the oracle's entry refers to stays seen
   pub oracle-stays : (deed : OracleDeed) → OracleRefersAs seen deed → OracleRefersAs next deed

@@ -16,7 +16,7 @@ use Rattle.weave_entries.specs.declared.gate_log.GateDeed.TheVariants.{BeganTx, 
 use Rattle.weave_entries.specs.declared.message.Addressed.{Addressed}
 use Rattle.weave_entries.specs.declared.verdict.Verdict.{Verdict}
 use Rattle.weave_entries.specs.declared.verdict.Verdict.TheVariants.{Committed, Conflict, Refused}
-use Rattle.weave_entries.specs.GateReplay.{Begun, clock_after, clock_of, clocks_by, clocks_in, clocks_of_message, low_mark, running_of, stamps_by, stamps_of}
+use Rattle.weave_entries.specs.GateReplay.{BegunRequest, clock_after, clock_of, clocks_by, clocks_in, clocks_of_message, low_mark, running_of, stamps_by, stamps_of}
 use Rattle.weave_entries.specs.GateRules.{FitsAs, IsGateLog}
 use Rattle.weave_entries.specs.Sending.{message_to, messages_of, shards_named}
 use Rattle.weave_account.specs.declared.account.Account.{Account}
@@ -28,7 +28,7 @@ use Rattle.seen_logs.specs.References.{GateRefersAs}
 use Rattle.seen_logs.specs.Seen.{GateRefersWithin}
 
 -- the stamp and the low mark of a message are those of its transaction's begin and of the programs that run then
-message-clocks : (shards : ℕ) (before : List GateEntry) (begun : Begun) (ops : List Op) (verdict : Verdict) (addressed : Addressed)
+message-clocks : (shards : ℕ) (before : List GateEntry) (begun : BegunRequest) (ops : List Op) (verdict : Verdict) (addressed : Addressed)
     → Contains (messages_of shards before begun ops verdict) addressed
     → (addressed.message.stamp ≡ begun.stamp) × (addressed.message.low ≡ low_mark begun.stamp (running_of before))
 message-clocks shards before begun ops (Committed number answers counts) addressed h =
@@ -73,7 +73,7 @@ module _ (laws : LawsForSeenLogs) (shards : ℕ) (seen : Account) (home : ℕ) (
   deed-clocks before author (BeganProgram r stamp) after at known fits clock h = subst (IsKnown seen) (only stamp.clock clock h) known
   deed-clocks before author (Sent r messages) after at known fits clock h =
       let of = flat_has clocks_of_message messages clock h in
-      let begun : Begun = record { author = author; request = r; stamp = fits.stamp } in
+      let begun : BegunRequest = record { author = author; request = r; stamp = fits.stamp } in
       let clocks = message-clocks shards before begun fits.ops fits.verdict of.0 (subst (λ l. Contains l of.0) fits.messages_are of.1) in
       let own = stamp-known before (record { author = author; deed = Sent r messages } ∷ after) at fits.stamp (laws.flight_stamp before begun fits.flight) in
       elim (has_read (of.0).message.stamp.clock ((of.0).message.low ∷ []) clock of.2) [

@@ -22,7 +22,7 @@ use Rattle.weave_entries.specs.declared.shard_log.ShardDeed.TheVariants.{Arrived
 use Rattle.weave_entries.specs.declared.store_log.StoreEntry.{StoreEntry}
 use Rattle.weave_entries.specs.declared.store_log.StoreDeed.{StoreDeed}
 use Rattle.weave_entries.specs.declared.store_log.StoreDeed.TheVariants.{Judged}
-use Rattle.weave_entries.specs.GateReplay.{Begun, begun_by, begun_in, program_by, tx_by, txs_of}
+use Rattle.weave_entries.specs.GateReplay.{BegunRequest, begun_by, begun_in, program_by, tx_by, txs_of}
 use Rattle.weave_entries.specs.ShardReplay.{Visit, visit_by, visits_of}
 use Rattle.weave_entries.specs.ShardRules.{FitsShard, IsShardLog}
 use Rattle.weave_entries.specs.StoreReplay.{Judgement, commits_of, judged_by, judgements_of}
@@ -48,7 +48,7 @@ use Rattle.seen_logs.proofs.Updates.{last-stays}
 use Rattle.seen_logs.proofs.Within.{same-logs}
 
 -- a transaction that was begun at a gatekeeper was begun
-pub tx-begun : (account : Account) (home : ℕ) (begun : Begun) → Contains (txs_of (gate_log account home)) begun → Contains (all_begun account) begun
+pub tx-begun : (account : Account) (home : ℕ) (begun : BegunRequest) → Contains (txs_of (gate_log account home)) begun → Contains (all_begun account) begun
 tx-begun account home begun h =
     let from = flat_has (λ (e : GateEntry). tx_by e.author e.deed) (gate_log account home) begun h in
     has_flat begun_in account.gates (gate_log account home) begun (list-there account.gates home from.0 from.1)
@@ -56,10 +56,10 @@ tx-begun account home begun h =
     (Contains-append_left (tx_by (from.0).author (from.0).deed) (program_by (from.0).author (from.0).deed) begun from.2))
 
 -- two begins of one request are the same
-pub one-begin : (account : Account) → BeginEachOnce account → (a b : Begun) → Contains (all_begun account) a → Contains (all_begun account) b
+pub one-begin : (account : Account) → BeginEachOnce account → (a b : BegunRequest) → Contains (all_begun account) a → Contains (all_begun account) b
     → a.request ≡ b.request → a ≡ b
 one-begin account once a b ha hb same =
-    elim (pairs_cases (λ (x y : Begun). x.request ≢ y.request) (all_begun account) once a b ha hb) [
+    elim (pairs_cases (λ (x y : BegunRequest). x.request ≢ y.request) (all_begun account) once a b ha hb) [
       | inl is ↦ is
       | inr (inl differ) ↦ absurd (differ same)
       | inr (inr differ) ↦ absurd (differ (sym same))
@@ -95,7 +95,7 @@ module _ (account : Account) (once : BeginEachOnce account) where
       let first = judged-begun cut.before (judged_by (of.0).author (of.0).deed) (so_far cut.before of.0 cut.after cut.is).1 in
       let second = judged-begun log now right.1 in
       let one = one-begin account once _ _ first second (ap (λ (j : Judgement). j.request) of.2 ∙ same) in
-      let stamps : judged.stamp ≡ now.stamp = sym (ap (λ (j : Judgement). j.stamp) of.2) ∙ ap (λ (b : Begun). b.stamp) one in
+      let stamps : judged.stamp ≡ now.stamp = sym (ap (λ (j : Judgement). j.stamp) of.2) ∙ ap (λ (b : BegunRequest). b.stamp) one in
       All-contains (λ (j : Stamp). id_of j ≢ id_of now.stamp) (stamps_judged log) judged.stamp (fits-new log entry.author entry.deed right.0)
       (has_map (λ (j : Judgement). j.stamp) (judgements_of log) judged h) (ap id_of stamps)
 
@@ -271,7 +271,7 @@ module _ (laws : LawsForSeenLogs) (script : Script) (account : Account) (number 
       hand.asks_once shard other before rest a b
       (record { after = after; at = at_a; answers = inr (there (shard_log account shard) before (visit_entry a) after at_a); marked = marked_a })
       (record { after = later; at = at_b; answers = inr (there (shard_log account other) rest (visit_entry b) later at_b); marked = marked_b })
-      (ap (λ (b : Begun). b.stamp) one) lasts
+      (ap (λ (b : BegunRequest). b.stamp) one) lasts
 
   once-within : (shard : ℕ) (entries rest : List ShardEntry) → shard_log account shard ≡ entries ++ rest
       → AllPairs (λ (a b : ℕ × List Stamp). a ≢ b) (marked-of (shard_log account shard) entries)

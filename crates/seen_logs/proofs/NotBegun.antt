@@ -24,7 +24,7 @@ use Rattle.weave_entries.specs.declared.gate_log.GateDeed.{GateDeed}
 use Rattle.weave_entries.specs.declared.gate_log.GateDeed.TheVariants.{BeganTx, BeganProgram, Sent, Nop, Heard, Raised, Finished}
 use Rattle.weave_entries.specs.declared.shard_log.ShardEntry.{ShardEntry}
 use Rattle.weave_entries.specs.Logs.{AtEachEntry}
-use Rattle.weave_entries.specs.GateReplay.{Begun, ended_by, ended_in, program_by, programs_of, tx_by, txs_of}
+use Rattle.weave_entries.specs.GateReplay.{BegunRequest, ended_by, ended_in, program_by, programs_of, tx_by, txs_of}
 use Rattle.weave_entries.specs.GateRules.{EndsAs, IsGateLog}
 use Rattle.weave_entries.specs.ShardReplay.{Visit, reads_in, visit_by, visits_of}
 use Rattle.weave_account.specs.declared.account.Account.{Account}
@@ -43,7 +43,7 @@ use Rattle.weave_account.proofs.Replying.{place-of}
 
 -- no gatekeeper began the request as a program
 abbrev NotBegun : Account → ℕ → Type 0
-NotBegun seen r = (home : ℕ) (begun : Begun) → Contains (programs_of (gate_log seen home)) begun → begun.request ≢ r
+NotBegun seen r = (home : ℕ) (begun : BegunRequest) → Contains (programs_of (gate_log seen home)) begun → begun.request ≢ r
 
 module _ (shards : ℕ) (seen : Account) (refers : (shard : ℕ) → ShardRefersWithin shards seen shard) (r : ℕ) (none : NotBegun seen r) where
   no-visit : (shard : ℕ) → filter (λ (visit : Visit). visit.request == r) (visits_of (shard_log seen shard)) ≡ []
@@ -67,13 +67,13 @@ module _ (laws : LawsForSeenLogs) (script : Script) (account : Account)
     (legal : (home : ℕ) → IsGateLog home script.shards (gate_log account home))
     (begins : (home : ℕ) → AtEachEntry (λ before (entry : GateEntry). BeginsAs script account home before entry.deed) (gate_log account home)) where
   -- a transaction that was begun is one of the script
-  deed-change : (home : ℕ) (before : List GateEntry) (author : ℕ) (deed : GateDeed) (begun : Begun) → Contains (tx_by author deed) begun
+  deed-change : (home : ℕ) (before : List GateEntry) (author : ℕ) (deed : GateDeed) (begun : BegunRequest) → Contains (tx_by author deed) begun
       → BeginsAs script account home before deed
       → (request : Request) × (request_at script begun.request ≡ Some request) × IsTrue (is_change request.work)
   deed-change home before author (BeganTx q stamp) begun h right =
       let same = only (record { author = author; request = q; stamp = stamp }) begun h in
       let there = there-and (λ (request : Request). (request.gate == home) && is_change request.work) (request_at script q) right.own in
-      subst (λ (b : Begun). (request : Request) × (request_at script b.request ≡ Some request) × IsTrue (is_change request.work)) same
+      subst (λ (b : BegunRequest). (request : Request) × (request_at script b.request ≡ Some request) × IsTrue (is_change request.work)) same
       (there.0, there.1, (and_parts ((there.0).gate == home) (is_change (there.0).work) there.2).1)
   deed-change home before author (BeganProgram q stamp) begun h right = absurd (has_none begun h)
   deed-change home before author (Sent q messages) begun h right = absurd (has_none begun h)
@@ -82,7 +82,7 @@ module _ (laws : LawsForSeenLogs) (script : Script) (account : Account)
   deed-change home before author (Raised epoch) begun h right = absurd (has_none begun h)
   deed-change home before author (Finished q) begun h right = absurd (has_none begun h)
 
-  tx-change : (home : ℕ) (before after : List GateEntry) → gate_log account home ≡ before ++ after → (begun : Begun)
+  tx-change : (home : ℕ) (before after : List GateEntry) → gate_log account home ≡ before ++ after → (begun : BegunRequest)
       → Contains (txs_of before) begun
       → (request : Request) × (request_at script begun.request ≡ Some request) × IsTrue (is_change request.work)
   tx-change home before after at begun h =
@@ -141,7 +141,7 @@ module _ (laws : LawsForSeenLogs) (script : Script) (account : Account)
       → ProgramsClause script account
   all-in-turn refers of-begun r request program request_is work_is =
       let all = flat_map programs_of account.gates in
-      let is = λ (begun : Begun). begun.request == r in
+      let is = λ (begun : BegunRequest). begun.request == r in
       elim (cases_Bool (list_any is all)) [
         | inl some ↦
             let one = any_has is all some in

@@ -25,7 +25,7 @@ use Rattle.weave_entries.specs.declared.oracle_log.OracleDeed.TheVariants.{Settl
 use Rattle.weave_entries.specs.declared.shard_log.ShardEntry.{ShardEntry}
 use Rattle.weave_entries.specs.declared.shard_log.ShardDeed.{ShardDeed}
 use Rattle.weave_entries.specs.declared.shard_log.ShardDeed.TheVariants.{Arrived, Applied, Visited, Collected}
-use Rattle.weave_entries.specs.GateReplay.{Begun, clocks_by, clocks_in, ended_by, ended_in, program_by, programs_of}
+use Rattle.weave_entries.specs.GateReplay.{BegunRequest, clocks_by, clocks_in, ended_by, ended_in, program_by, programs_of}
 use Rattle.weave_entries.specs.ShardReplay.{Update, Visit, updates_of, visit_by, visits_of}
 use Rattle.weave_entries.specs.ShardRules.{IsShardLog}
 use Rattle.weave_entries.specs.StoreReplay.{commits_naming, commits_of, names_vertex}
@@ -56,13 +56,13 @@ module _ (laws : LawsForSeenLogs) (script : Script) (account : Account) (limits 
   -- Gatekeepers
 
   -- a program that was begun is one of the script
-  deed-program : (home : ℕ) (before : List GateEntry) (author : ℕ) (deed : GateDeed) (begun : Begun) → Contains (program_by author deed) begun
+  deed-program : (home : ℕ) (before : List GateEntry) (author : ℕ) (deed : GateDeed) (begun : BegunRequest) → Contains (program_by author deed) begun
       → BeginsAs script account home before deed
       → (request : Request) × (request_at script begun.request ≡ Some request) × IsTrue (is_look request.work)
   deed-program home before author (BeganProgram r stamp) begun h begins =
       let same = only (record { author = author; request = r; stamp = stamp }) begun h in
       let there = there-and (λ (request : Request). (request.gate == home) && is_look request.work) (request_at script r) begins.own in
-      subst (λ (b : Begun). (request : Request) × (request_at script b.request ≡ Some request) × IsTrue (is_look request.work)) same
+      subst (λ (b : BegunRequest). (request : Request) × (request_at script b.request ≡ Some request) × IsTrue (is_look request.work)) same
       (there.0, there.1, (and_parts ((there.0).gate == home) (is_look (there.0).work) there.2).1)
   deed-program home before author (BeganTx r stamp) begun h begins = absurd (has_none begun h)
   deed-program home before author (Sent r messages) begun h begins = absurd (has_none begun h)
@@ -71,7 +71,7 @@ module _ (laws : LawsForSeenLogs) (script : Script) (account : Account) (limits 
   deed-program home before author (Raised epoch) begun h begins = absurd (has_none begun h)
   deed-program home before author (Finished r) begun h begins = absurd (has_none begun h)
 
-  begun-program : (home : ℕ) (before after : List GateEntry) → gate_log account home ≡ before ++ after → (begun : Begun)
+  begun-program : (home : ℕ) (before after : List GateEntry) → gate_log account home ≡ before ++ after → (begun : BegunRequest)
       → Contains (programs_of before) begun
       → (request : Request) × (request_at script begun.request ≡ Some request) × IsTrue (is_look request.work)
   begun-program home before after at begun h =

@@ -5,7 +5,7 @@ use Rattle.std.proofs.lemmas.Bool.{cases_Bool, cases_lt}
 use Rattle.std.proofs.lemmas.List.{drop-append-le, length-append}
 use Rattle.weave_data.proofs.Members.{has_head, has_flat, has_none, has_read}
 use Rattle.vector_stamp.specs.declared.clock.Stamp.{Stamp}
-use Rattle.vector_stamp.specs.Precedence.{ByPair, Given, precedes}
+use Rattle.vector_stamp.specs.Precedence.{ByPair, GivenPair, precedes}
 use Rattle.vector_stamp.specs.Settling.{additions_from, places_of}
 use Rattle.weave_entries.specs.declared.gate_log.GateEntry.{GateEntry}
 use Rattle.weave_entries.specs.declared.oracle_log.OracleEntry.{OracleEntry}
@@ -25,7 +25,7 @@ use Rattle.weave_account.specs.GoesOn.{IsBeginningOf}
 use Rattle.weave_account.specs.Oracle.{seen_last}
 use Rattle.seen_logs.specs.LowerLaws.{LawsForSeenLogs}
 use Rattle.seen_logs.specs.References.{GateRefersAs, IsAskedAsSeen, OracleRefersAs, ShardRefersAs, StoreRefersAs}
-use Rattle.seen_logs.specs.Seen.{AddsAsSeen, AnswersFor, HasAsked, IsOwn, IsSeenByHand, IsWithin, VisitsItsOwn, VisitsOwnPrograms, since, visit_entry}
+use Rattle.seen_logs.specs.Seen.{AddsAsSeen, AnswersFor, HasAsked, IsOwn, IsSeenByHand, IsWithin, VisitsItsOwn, VisitsOwnPrograms, entries_since, visit_entry}
 use Rattle.seen_logs.proofs.Going.{asked-stays, gate-stays, oracle-stays, shard-stays, store-stays}
 use Rattle.seen_logs.proofs.Listed.{flat-on, has-on, longer}
 use Rattle.seen_logs.proofs.Placed.{in-front}
@@ -34,7 +34,7 @@ use Rattle.seen_logs.proofs.Within.{all-later}
 -- Lists
 
 -- what is left of a list goes on if the list does
-pub since-on : {A : Type 0} (start xs ys : List A) → length start ≤ length xs → IsBeginningOf xs ys → IsBeginningOf (since start xs) (since start ys)
+pub since-on : {A : Type 0} (start xs ys : List A) → length start ≤ length xs → IsBeginningOf xs ys → IsBeginningOf (entries_since start xs) (entries_since start ys)
 since-on start xs ys few on = (on.0, ap (drop (length start)) on.1 ∙ drop-append-le (length start) xs on.0 few)
 
 -- a place of a list that went on, if it is within what the list was
@@ -59,9 +59,9 @@ own-stays number start seen next starts on (Visited r stamp v updates settled) b
     let few = longer (gate_log start home) (gate_log seen home) (starts.gates home) in
     let more = since-on (gate_log start home) (gate_log seen home) (gate_log next home) few (on.gates home) in (
       home,
-      has-on (programs_of (since (gate_log start home) (gate_log seen home))) (programs_of (since (gate_log start home) (gate_log next home)))
-          (flat-on (λ (e : GateEntry). program_by e.author e.deed) (since (gate_log start home) (gate_log seen home))
-          (since (gate_log start home) (gate_log next home)) more) _ begun.1,
+      has-on (programs_of (entries_since (gate_log start home) (gate_log seen home))) (programs_of (entries_since (gate_log start home) (gate_log next home)))
+          (flat-on (λ (e : GateEntry). program_by e.author e.deed) (entries_since (gate_log start home) (gate_log seen home))
+          (entries_since (gate_log start home) (gate_log next home)) more) _ begun.1,
     )
 own-stays number start seen next starts on (Arrived home n message) begun = tt
 own-stays number start seen next starts on (Applied home n) begun = tt
@@ -165,8 +165,8 @@ module _ (laws : LawsForSeenLogs) (gates shards number : ℕ) (start seen next :
 -- What was asked for
 
 -- an entry of an oracle's log is right after some pairs
-right-after : (pairs : List Given) (log : List OracleEntry) → IsRightFrom pairs log → (entry : OracleEntry) → Contains log entry
-    → (earlier : List Given) × IsRightEntry earlier (settled_entry entry)
+right-after : (pairs : List GivenPair) (log : List OracleEntry) → IsRightFrom pairs log → (entry : OracleEntry) → Contains log entry
+    → (earlier : List GivenPair) × IsRightEntry earlier (settled_entry entry)
 right-after pairs [] right entry h = absurd (has_none entry h)
 right-after pairs (one ∷ log) right entry h =
     elim (has_read one log entry h) [
@@ -175,7 +175,7 @@ right-after pairs (one ∷ log) right entry h =
     ]
 
 -- an entry of one earlier event adds the pair of that one
-one-pair : (pairs : List Given) (author : ℕ) (earlier : List Stamp) (later : Stamp) (places : List ℕ) (event : Stamp)
+one-pair : (pairs : List GivenPair) (author : ℕ) (earlier : List Stamp) (later : Stamp) (places : List ℕ) (event : Stamp)
     → IsRightEntry pairs (record { author = author; earlier = earlier; later = later; places = places }) → earlier ≡ event ∷ []
     → Contains (pairs_of_entry (record { author = author; earlier = earlier; later = later; places = places })) (event, later)
 one-pair pairs author earlier later places event right is =

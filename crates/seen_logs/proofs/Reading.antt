@@ -16,7 +16,7 @@ use Rattle.weave_entries.specs.declared.gate_log.GateEntry.{GateEntry}
 use Rattle.weave_entries.specs.declared.gate_log.GateDeed.{GateDeed}
 use Rattle.weave_entries.specs.declared.gate_log.GateDeed.TheVariants.{BeganTx, BeganProgram, Sent, Nop, Heard, Raised, Finished}
 use Rattle.weave_entries.specs.declared.shard_log.ShardEntry.{ShardEntry}
-use Rattle.weave_entries.specs.GateReplay.{Begun, begun_by, begun_in, ended_by, ended_in, program_by, programs_of, tx_by}
+use Rattle.weave_entries.specs.GateReplay.{BegunRequest, begun_by, begun_in, ended_by, ended_in, program_by, programs_of, tx_by}
 use Rattle.weave_entries.specs.GateRules.{EndsAs}
 use Rattle.weave_entries.specs.ShardReplay.{Visit, reads_in, visit_by, visits_of}
 use Rattle.weave_entries.specs.ShardRules.{IsShardLog}
@@ -24,7 +24,7 @@ use Rattle.weave_account.specs.declared.account.Account.{Account}
 use Rattle.weave_account.specs.Account.{all_begun, gate_log, is_ended, reads_of, shard_log}
 use Rattle.weave_account.specs.Gatekeepers.{BeginEachOnce}
 use Rattle.seen_logs.specs.LowerLaws.{LawsForSeenLogs}
-use Rattle.seen_logs.specs.Seen.{GatesGoOn, ShardsGoOn, since, visit_entry}
+use Rattle.seen_logs.specs.Seen.{GatesGoOn, ShardsGoOn, entries_since, visit_entry}
 use Rattle.seen_logs.proofs.Asking.{program-begun}
 use Rattle.seen_logs.proofs.Closing.{IsEnd, begun-since, since-begun, since-start}
 use Rattle.seen_logs.proofs.Listed.{flat-on, has-on, longer}
@@ -100,8 +100,8 @@ module _ {gates shards hands : ℕ} {start : Account} {seen_by : ℕ → Account
     (once : BeginEachOnce closed) where
   -- Programs of hands
 
-  module _ (number : ℕ) (known : number < hands) (home : ℕ) (begun : Begun) (author_is : begun.author ≡ number)
-      (there : Contains (programs_of (since (gate_log start home) (gate_log (seen_by number) home))) begun) where
+  module _ (number : ℕ) (known : number < hands) (home : ℕ) (begun : BegunRequest) (author_is : begun.author ≡ number)
+      (there : Contains (programs_of (entries_since (gate_log start home) (gate_log (seen_by number) home))) begun) where
     began : Contains (all_begun closed) begun
     began = since-begun end number known home begun there
 
@@ -111,7 +111,7 @@ module _ {gates shards hands : ℕ} {start : Account} {seen_by : ℕ → Account
         let is-of = since-start end shard before (visit_entry visit) after at (omega (arith, starts, late)) in
         let other = begun-since end shard before visit after at is-of in
         let one = one-begin closed once _ _ (since-begun end visit.author is-of.known other.0 _ other.1) began same in
-        let authors : visit.author ≡ number = ap (λ (b : Begun). b.author) one ∙ author_is in
+        let authors : visit.author ≡ number = ap (λ (b : BegunRequest). b.author) one ∙ author_is in
         let less : length before < length (shard_log (seen_by number) shard) = subst
         (λ n. length before < length (shard_log (seen_by n) shard)) authors is-of.less in
         omega (arith, less, late)
@@ -127,13 +127,13 @@ module _ {gates shards hands : ℕ} {start : Account} {seen_by : ℕ → Account
         let tx = flat_has (λ (e : GateEntry). tx_by e.author e.deed) before _ ends.1 in
         let all = has_flat (λ (e : GateEntry). tx_by e.author e.deed) (gate_log closed home) tx.0 _
         (subst (λ l. Contains l tx.0) (sym at) (has-on before _ (record { author = author; deed = Sent request messages } ∷ after, refl) tx.0 tx.1)) tx.2 in
-        ap (λ (b : Begun). b.author) (one-begin closed once _ _ (tx-begun closed home _ all) began (only request r h ∙ same)) ∙ author_is
+        ap (λ (b : BegunRequest). b.author) (one-begin closed once _ _ (tx-begun closed home _ all) began (only request r h ∙ same)) ∙ author_is
     ends-own home before author (Finished request) after r at ends h same =
         let program = flat_has (λ (e : GateEntry). program_by e.author e.deed) before _ ends.1 in
         let all = has_flat (λ (e : GateEntry). program_by e.author e.deed) (gate_log closed home) program.0 _
         (subst (λ l. Contains l program.0) (sym at)
         (has-on before _ (record { author = author; deed = Finished request } ∷ after, refl) program.0 program.1)) program.2 in
-        ap (λ (b : Begun). b.author) (one-begin closed once _ _ (program-begun closed home _ all) began (only request r h ∙ same)) ∙ author_is
+        ap (λ (b : BegunRequest). b.author) (one-begin closed once _ _ (program-begun closed home _ all) began (only request r h ∙ same)) ∙ author_is
     ends-own home before author (BeganTx q stamp) after r at ends h same = absurd (has_none r h)
     ends-own home before author (BeganProgram q stamp) after r at ends h same = absurd (has_none r h)
     ends-own home before author (Nop shard n stamp low) after r at ends h same = absurd (has_none r h)
@@ -188,14 +188,14 @@ module _ {gates shards hands : ℕ} {start : Account} {seen_by : ℕ → Account
       (all-later start (seen_by 0) closed (end.of.seen 0 (omega (arith, some))).starts (end.of.within 0 (omega (arith, some)))).shards shard
 
   -- what was begun at the start was not begun again since
-  not-twice : (h home : ℕ) (x y : Begun) → Contains (begun_in (gate_log start h)) x → Contains (begun_in (since (gate_log start home) (gate_log closed home))) y
+  not-twice : (h home : ℕ) (x y : BegunRequest) → Contains (begun_in (gate_log start h)) x → Contains (begun_in (entries_since (gate_log start home) (gate_log closed home))) y
       → x.request ≢ y.request
   not-twice h home x y hx hy same =
       elim (cases_order h home) [
         | inl at_one ↦
             let log = gate_log start home in
             let more = start-within home in
-            let rest : since log (gate_log closed home) ≡ more.0 = ap (λ l. since log l) more.1 ∙ drop-append_seam log more.0 in
+            let rest : entries_since log (gate_log closed home) ≡ more.0 = ap (λ l. entries_since log l) more.1 ∙ drop-append_seam log more.0 in
             let parts : begun_in (gate_log closed home) ≡ begun_in log ++ begun_in more.0 =
             ap begun_in more.1 ∙ flat_map-append (λ (e : GateEntry). begun_by e.author e.deed) log more.0 in
             pairs_across R (begun_in log) (begun_in more.0) x y
@@ -205,21 +205,21 @@ module _ {gates shards hands : ℕ} {start : Account} {seen_by : ℕ → Account
         | inr (inr second) ↦ lists-across R begun_in refl closed.gates once home h second y x (in-since home y hy) (in-all h x hx) (sym same)
       ]
     where
-      R : Begun → Begun → Type 0
+      R : BegunRequest → BegunRequest → Type 0
       R a b = a.request ≢ b.request
 
-      in-all : (k : ℕ) (b : Begun) → Contains (begun_in (gate_log start k)) b → Contains (begun_in (gate_log closed k)) b
+      in-all : (k : ℕ) (b : BegunRequest) → Contains (begun_in (gate_log start k)) b → Contains (begun_in (gate_log closed k)) b
       in-all k b g =
           has-on (begun_in (gate_log start k)) (begun_in (gate_log closed k))
           (flat-on (λ (e : GateEntry). begun_by e.author e.deed) (gate_log start k) (gate_log closed k) (start-within k)) b g
 
-      in-since : (k : ℕ) (b : Begun) → Contains (begun_in (since (gate_log start k) (gate_log closed k))) b → Contains (begun_in (gate_log closed k)) b
+      in-since : (k : ℕ) (b : BegunRequest) → Contains (begun_in (entries_since (gate_log start k) (gate_log closed k))) b → Contains (begun_in (gate_log closed k)) b
       in-since k b g =
-          let entry = flat_has (λ (e : GateEntry). begun_by e.author e.deed) (since (gate_log start k) (gate_log closed k)) b g in
+          let entry = flat_has (λ (e : GateEntry). begun_by e.author e.deed) (entries_since (gate_log start k) (gate_log closed k)) b g in
           has_flat (λ (e : GateEntry). begun_by e.author e.deed) (gate_log closed k) entry.0 b
           (drop_has (length (gate_log start k)) (gate_log closed k) entry.0 entry.1) entry.2
 
-  module _ (home : ℕ) (begun : Begun) (there : Contains (begun_in (gate_log start home)) begun) where
+  module _ (home : ℕ) (begun : BegunRequest) (there : Contains (begun_in (gate_log start home)) begun) where
     none-since-start : NoneLater start closed begun.request
     none-since-start shard before visit after at late same =
         let is-of = since-start end shard before (visit_entry visit) after at late in
@@ -228,11 +228,11 @@ module _ {gates shards hands : ℕ} {start : Account} {seen_by : ℕ → Account
         let starts = longer _ _ ((end.of.seen visit.author is-of.known).starts.gates other.0) in
         let more = since-on (gate_log start other.0) (gate_log (seen_by visit.author) other.0) (gate_log closed other.0) starts on in
         let entry = flat_has (λ (e : GateEntry). program_by e.author e.deed)
-        (since (gate_log start other.0) (gate_log (seen_by visit.author) other.0)) _ other.1 in
-        let later = has-on (since (gate_log start other.0) (gate_log (seen_by visit.author) other.0))
-        (since (gate_log start other.0) (gate_log closed other.0)) more entry.0 entry.1 in
+        (entries_since (gate_log start other.0) (gate_log (seen_by visit.author) other.0)) _ other.1 in
+        let later = has-on (entries_since (gate_log start other.0) (gate_log (seen_by visit.author) other.0))
+        (entries_since (gate_log start other.0) (gate_log closed other.0)) more entry.0 entry.1 in
         not-twice home other.0 begun _ there
-        (has_flat (λ (e : GateEntry). begun_by e.author e.deed) (since (gate_log start other.0) (gate_log closed other.0)) entry.0 _ later
+        (has_flat (λ (e : GateEntry). begun_by e.author e.deed) (entries_since (gate_log start other.0) (gate_log closed other.0)) entry.0 _ later
         (Contains-append_right (tx_by (entry.0).author (entry.0).deed) (program_by (entry.0).author (entry.0).deed) _ entry.2)) (sym same)
 
     -- what was begun at the start has read what it had read then

@@ -70,6 +70,7 @@ module _ (laws : LawsForSeenLogs) (gates : ℕ) where
   deed-within before author (Applied gate number) visit h fits = absurd (has_none visit h)
   deed-within before author (Collected bound) visit h fits = absurd (has_none visit h)
 
+  -- a visit in a shard's log read after no more updates of its vertex than the log applied
   pub within : (log : List ShardEntry) → IsShardLog gates log → (visit : Visit) → Contains (visits_of log) visit
       → visit.updates ≤ length (updates_of visit.vertex log)
   within log legal visit h =

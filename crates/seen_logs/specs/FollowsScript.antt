@@ -7,7 +7,7 @@ use Rattle.program_defs.specs.declared.script.Work.TheVariants.{Change, Look}
 use Rattle.report_rules.specs.Lookups.{request_at}
 use Rattle.weave_entries.specs.declared.gate_log.GateEntry.{GateEntry}
 use Rattle.weave_entries.specs.Logs.{AtEachEntry}
-use Rattle.weave_entries.specs.GateReplay.{Begun, programs_of}
+use Rattle.weave_entries.specs.GateReplay.{BegunRequest, programs_of}
 use Rattle.weave_entries.specs.StoreReplay.{Judgement, judgements_of}
 use Rattle.weave_account.specs.declared.account.Account.{Account}
 use Rattle.weave_account.specs.Account.{gate_log, is_ended, reads_of}
@@ -34,7 +34,7 @@ pub record FollowsScript (script : Script) (account : Account) : Type 0 where
 -- What each program that a gatekeeper began has read are the vertices of its list of visits. `programs` follows from
 -- this, since no other program has read anything or has ended.
 abbrev pub BegunProgramsReadInTurn : Script → Account → Type 0
-BegunProgramsReadInTurn script account = (home : ℕ) (begun : Begun)
+BegunProgramsReadInTurn script account = (home : ℕ) (begun : BegunRequest)
     → Contains (programs_of (gate_log account home)) begun
     → (request : Request) (program : Program) → request_at script begun.request ≡ Some request
     → request.work ≡ Look program

@@ -2,6 +2,7 @@
 use Rattle.std.specs.Prelude.{◌≡◌, ◌≢◌, ℕ, ◌<◌, ◌≤◌, List, [], ◌∷◌, ◌++◌, map, take, length, AllPairs, Contains, Some}
 use Rattle.weave_data.specs.declared.name.Name.{Name}
 use Rattle.weave_data.specs.Names.{shard_of}
+use Rattle.weave_data.specs.Limits.{most_gates}
 use Rattle.vector_stamp.specs.declared.clock.Clock.{Clock}
 use Rattle.vector_stamp.specs.declared.clock.Stamp.{Stamp}
 use Rattle.vector_stamp.specs.Clocks.{clock_after_hearing, first_clock}
@@ -15,7 +16,7 @@ use Rattle.weave_entries.specs.declared.oracle_log.OracleEntry.{OracleEntry}
 use Rattle.weave_entries.specs.declared.shard_log.ShardEntry.{ShardEntry}
 use Rattle.weave_entries.specs.declared.shard_log.ShardDeed.TheVariants.{Applied}
 use Rattle.weave_entries.specs.declared.store_log.StoreEntry.{StoreEntry}
-use Rattle.weave_entries.specs.GateReplay.{Begun, addressed_to, clock_after, clock_of, flight_of, low_mark, running_of, stamps_of}
+use Rattle.weave_entries.specs.GateReplay.{BegunRequest, addressed_to, clock_after, clock_of, flight_of, low_mark, running_of, stamps_of}
 use Rattle.weave_entries.specs.GateRules.{EndsWhatItBegan, IsGateLog}
 use Rattle.weave_entries.specs.OracleReplay.{settled_entry}
 use Rattle.weave_entries.specs.ShardReplay.{arrived_at, processed_by, updates_in, updates_of}
@@ -58,22 +59,22 @@ pub record LawsForSeenLogs : Type 0 where
       → HasSeen shards store shard log → (v : Name) → shard_of v shards ≡ shard
       → updates_of v log ≡ map (update_of v) (take (length (updates_of v log)) (commits_naming v (commits_of store)))
   pub ids : (script : Script) (account : Account) → IsWithinLimits script → IsAccount script account
-      → (a b : Begun) → Contains (all_begun account) a → Contains (all_begun account) b → a.request ≢ b.request
+      → (a b : BegunRequest) → Contains (all_begun account) a → Contains (all_begun account) b → a.request ≢ b.request
       → id_of a.stamp ≢ id_of b.stamp
   -- Clocks
-  pub low_known : (account : Account) (stamp : Stamp) (running : List Begun) → IsKnown account stamp.clock
-      → ((begun : Begun) → Contains running begun → IsKnown account begun.stamp.clock)
+  pub low_known : (account : Account) (stamp : Stamp) (running : List BegunRequest) → IsKnown account stamp.clock
+      → ((begun : BegunRequest) → Contains running begun → IsKnown account begun.stamp.clock)
       → IsKnown account (low_mark stamp running)
-  pub flight_stamp : (log : List GateEntry) (flight : Begun) → flight_of log ≡ Some flight
+  pub flight_stamp : (log : List GateEntry) (flight : BegunRequest) → flight_of log ≡ Some flight
       → Contains (stamps_of log) flight.stamp
-  pub running_stamp : (log : List GateEntry) (program : Begun) → Contains (running_of log) program
+  pub running_stamp : (log : List GateEntry) (program : BegunRequest) → Contains (running_of log) program
       → Contains (stamps_of log) program.stamp
-  pub heard_known : (account : Account) (home : ℕ) → home < 8 → (clock heard : Clock) → IsKnown account clock
+  pub heard_known : (account : Account) (home : ℕ) → home < most_gates → (clock heard : Clock) → IsKnown account clock
       → IsKnown account heard → IsKnown account (clock_after_hearing home clock heard)
   pub replay_clock : (home : ℕ) (log : List GateEntry) (entry : GateEntry)
       → clock_of home (log ++ entry ∷ []) ≡ clock_after home (clock_of home log) entry.deed
   pub raised_count : (gate epoch : ℕ) → count_of gate (first_clock epoch) ≡ 0
   -- Begins
-  pub seen_ids : (shards : ℕ) (seen : Account) → length seen.gates ≤ 8
+  pub seen_ids : (shards : ℕ) (seen : Account) → length seen.gates ≤ most_gates
       → ((home : ℕ) → IsGateLog home shards (gate_log seen home))
-      → AllPairs (λ (a b : Begun). id_of a.stamp ≢ id_of b.stamp) (all_begun seen)
+      → AllPairs (λ (a b : BegunRequest). id_of a.stamp ≢ id_of b.stamp) (all_begun seen)

@@ -82,13 +82,13 @@ abbrev pub IsOwn : {E : Type 0} → ℕ → List E → List E → ℕ → Type 0
 IsOwn {E} number start before author = (author ≡ number) × (length start ≤ length before)
 
 -- the entries of a log since the start
-abbrev pub since : {E : Type 0} → List E → List E → List E
-since {E} start log = drop (length start) log
+abbrev pub entries_since : {E : Type 0} → List E → List E → List E
+entries_since {E} start log = drop (length start) log
 
 -- a visit is of a program that the hand began since the start
 abbrev pub VisitsItsOwn : ℕ → Account → Account → ShardDeed → Type 0
 VisitsItsOwn number start seen (Visited r stamp v updates settled) =
-    (home : ℕ) × Contains (programs_of (since (gate_log start home) (gate_log seen home)))
+    (home : ℕ) × Contains (programs_of (entries_since (gate_log start home) (gate_log seen home)))
     (record { author = number; request = r; stamp = stamp })
 VisitsItsOwn number start seen _ = ⊤
 

@@ -1,5 +1,6 @@
 //! What follows for what was seen of logs, as contracts over the logs alone.
 ghost use Rattle.std.specs.Prelude.{◌≡◌, ◌≢◌, ℕ, ◌<◌, ◌≤◌, List, [], ◌∷◌, length, Contains, slice_index_or};
+ghost use Rattle.weave_data.specs.Limits.{most_gates};
 ghost use Rattle.vector_stamp.specs.declared.clock.Clock.{Clock};
 ghost use Rattle.vector_stamp.specs.declared.clock.Stamp.{Stamp};
 ghost use Rattle.program_defs.specs.declared.script.Script.{Script};
@@ -14,7 +15,7 @@ ghost use Rattle.weave_entries.specs.declared.shard_log.ShardEntry.{ShardEntry};
 ghost use Rattle.weave_entries.specs.declared.store_log.StoreDeed.{StoreDeed};
 ghost use Rattle.weave_entries.specs.declared.store_log.StoreEntry.{StoreEntry};
 ghost use Rattle.weave_entries.specs.Logs.{AtEachEntry};
-ghost use Rattle.weave_entries.specs.GateReplay.{Begun, addressed_to, begun_in, clock_of, clocks_in, programs_of};
+ghost use Rattle.weave_entries.specs.GateReplay.{BegunRequest, addressed_to, begun_in, clock_of, clocks_in, programs_of};
 ghost use Rattle.weave_entries.specs.GateRules.{IsGateLog};
 ghost use Rattle.weave_entries.specs.OracleRules.{IsOracleLog};
 ghost use Rattle.weave_entries.specs.ShardReplay.{Visit};
@@ -33,7 +34,7 @@ ghost use Rattle.seen_logs.specs.Closed.{AreOfHands};
 ghost use Rattle.seen_logs.specs.Entries.{account_of_logs, gate_entries, gate_pairs, oracle_entries, oracle_pairs, shard_entries, shard_pairs, store_entries, store_pairs};
 ghost use Rattle.seen_logs.specs.FollowsScript.{BegunProgramsReadInTurn, FollowsScript};
 ghost use Rattle.seen_logs.specs.References.{GateRefersAs, IsAskedAsSeen, OracleRefersAs, ShardRefersAs, StoreRefersAs};
-ghost use Rattle.seen_logs.specs.Seen.{AddsAsSeen, AreLegal, GateRefersWithin, GatesGoOn, HasAsked, IsOwn, IsSeenByHand, IsWithin, OracleRefersWithin, ShardRefersWithin, ShardsGoOn, StoreRefersWithin, VisitsItsOwn, VisitsOwnPrograms, since, without_sessions};
+ghost use Rattle.seen_logs.specs.Seen.{AddsAsSeen, AreLegal, GateRefersWithin, GatesGoOn, HasAsked, IsOwn, IsSeenByHand, IsWithin, OracleRefersWithin, ShardRefersWithin, ShardsGoOn, StoreRefersWithin, VisitsItsOwn, VisitsOwnPrograms, entries_since, without_sessions};
 
 use crate::lower_laws::the_crates_below_keep_their_laws;
 use weave_account::laws::store_logs_have_passed;
@@ -203,7 +204,7 @@ pub fn clocks_count_within()
         → IsGateLog home shards (gate_log seen home)
         → (clock : Clock) → Contains (clocks_in (gate_log seen home)) clock → IsKnown seen clock }
     ensures own { (shards : ℕ) (seen : Account) (home : ℕ) → GateRefersWithin shards seen home
-        → home < 8 → IsKnown seen (clock_of home (gate_log seen home)) }
+        → home < most_gates → IsKnown seen (clock_of home (gate_log seen home)) }
 {
     the_crates_below_keep_their_laws();
 }
@@ -222,7 +223,7 @@ pub fn shards_have_seen()
     ensures store { (gates shards : ℕ) (seen : Account) (shard : ℕ) → IsStoreLog seen.store
         → IsShardLog gates (shard_log seen shard) → ShardRefersWithin shards seen shard
         → HasSeen shards seen.store shard (shard_log seen shard) }
-    ensures sent { (gates shards : ℕ) (seen : Account) (shard : ℕ) → gates ≤ 8
+    ensures sent { (gates shards : ℕ) (seen : Account) (shard : ℕ) → gates ≤ most_gates
         → ((home : ℕ) → IsGateLog home shards (gate_log seen home))
         → IsShardLog gates (shard_log seen shard) → ShardRefersWithin shards seen shard
         → HasSeenSent gates shards seen shard (shard_log seen shard) }
@@ -234,7 +235,7 @@ pub fn shards_have_seen()
 /// hand made and has seen. They may then be the start of another run.
 pub fn closed_logs_refer_within()
     ensures { (gates shards hands : ℕ) (start : Account) (seen_by : ℕ → Account) (closed : Account)
-        → length closed.gates ≤ 8 → AreLegal gates shards closed
+        → length closed.gates ≤ most_gates → AreLegal gates shards closed
         → AreOfHands shards hands start seen_by closed
         → (number : ℕ) → IsSeenByHand shards number closed closed }
 {
@@ -245,21 +246,21 @@ pub fn closed_logs_refer_within()
 /// hand has seen so. What began before the start has read what it had read then.
 pub fn programs_read_what_was_seen()
     ensures reads { (gates shards hands : ℕ) (start : Account) (seen_by : ℕ → Account) (closed : Account)
-        → length closed.gates ≤ 8 → AreLegal gates shards closed
+        → length closed.gates ≤ most_gates → AreLegal gates shards closed
         → AreOfHands shards hands start seen_by closed → BeginEachOnce closed
         → (number home r : ℕ) (stamp : Stamp) → number < hands
-        → Contains (programs_of (since (gate_log start home) (gate_log (seen_by number) home)))
+        → Contains (programs_of (entries_since (gate_log start home) (gate_log (seen_by number) home)))
         (record { author = number; request = r; stamp = stamp }) → reads_of closed r ≡ reads_of (seen_by number) r }
     ensures ended { (gates shards hands : ℕ) (start : Account) (seen_by : ℕ → Account) (closed : Account)
-        → length closed.gates ≤ 8 → AreLegal gates shards closed
+        → length closed.gates ≤ most_gates → AreLegal gates shards closed
         → AreOfHands shards hands start seen_by closed → BeginEachOnce closed
         → (number home r : ℕ) (stamp : Stamp) → number < hands
-        → Contains (programs_of (since (gate_log start home) (gate_log (seen_by number) home)))
+        → Contains (programs_of (entries_since (gate_log start home) (gate_log (seen_by number) home)))
         (record { author = number; request = r; stamp = stamp }) → is_ended closed r ≡ is_ended (seen_by number) r }
     ensures at_start { (gates shards hands : ℕ) (start : Account) (seen_by : ℕ → Account) (closed : Account)
-        → length closed.gates ≤ 8 → AreLegal gates shards closed
+        → length closed.gates ≤ most_gates → AreLegal gates shards closed
         → AreOfHands shards hands start seen_by closed → BeginEachOnce closed
-        → (home : ℕ) (begun : Begun) → Contains (begun_in (gate_log start home)) begun
+        → (home : ℕ) (begun : BegunRequest) → Contains (begun_in (gate_log start home)) begun
         → reads_of closed begun.request ≡ reads_of start begun.request }
 {
     the_crates_below_keep_their_laws();
@@ -269,7 +270,7 @@ pub fn programs_read_what_was_seen()
 /// has read nothing.
 pub fn only_begun_programs_read()
     ensures { (shards : ℕ) (seen : Account) → ((shard : ℕ) → ShardRefersWithin shards seen shard) → (r : ℕ)
-        → ((home : ℕ) (begun : Begun) → Contains (programs_of (gate_log seen home)) begun → begun.request ≢ r)
+        → ((home : ℕ) (begun : BegunRequest) → Contains (programs_of (gate_log seen home)) begun → begun.request ≢ r)
         → reads_of seen r ≡ [] }
 {}
 

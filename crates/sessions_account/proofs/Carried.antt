@@ -11,14 +11,14 @@ use Rattle.graph_ops.specs.Operations.{State}
 use Rattle.program_defs.specs.declared.script.Script.{Script}
 use Rattle.weave_entries.specs.declared.gate_log.GateEntry.{GateEntry}
 use Rattle.weave_entries.specs.declared.session_log.SessionEntry.{SessionEntry}
-use Rattle.weave_entries.specs.GateReplay.{Begun, begun_by, begun_in, ended_in}
+use Rattle.weave_entries.specs.GateReplay.{BegunRequest, begun_by, begun_in, ended_in}
 use Rattle.weave_entries.specs.SessionReplay.{replied_in}
 use Rattle.weave_entries.specs.StoreReplay.{Judgement}
 use Rattle.weave_account.specs.Account.{gate_log}
 use Rattle.weave_account.specs.Programs.{ReadsInTurn}
 use Rattle.weave_account.specs.Store.{InTurn}
 use Rattle.weaver_core.specs.declared.client.Client.{Client}
-use Rattle.weaver_core.specs.Clients.{log_of}
+use Rattle.weaver_core.specs.Sessions.{log_of_client}
 use Rattle.weaver_locks.specs.declared.shared.Shared.{Shared}
 use Rattle.weaver_locks.specs.Following.{VisitsItsOwnPrograms}
 use Rattle.weaver_locks.specs.Hands.{hand_number, made_by, seen_by, IsHand}
@@ -40,7 +40,7 @@ nothing-in (x ∷ xs) none = absurd (none x (has_head x xs))
 
 -- a hand that began and ended nothing, and judged nothing, is in step with logs that gained nothing
 nothing-logged : (script : Script) (hand_of : ℕ → ℕ) (number : ℕ) (gates : ℕ → List GateEntry)
-    → ((home : ℕ) (begun : Begun) → Contains (begun_in (gates home)) begun → ⊥)
+    → ((home : ℕ) (begun : BegunRequest) → Contains (begun_in (gates home)) begun → ⊥)
     → ((home r : ℕ) → Contains (ended_in (gates home)) r → ⊥) → AreLogged script hand_of number gates [] (λ s. [])
 nothing-logged script hand_of number gates unbegun unended = record {
   begun = λ home begun h. absurd (unbegun home begun h);
@@ -48,8 +48,8 @@ nothing-logged script hand_of number gates unbegun unended = record {
   ended = λ home r h. absurd (unended home r h);
   replied = λ s r h. absurd (has_none r h);
   judged = λ judged h. absurd (has_none judged h);
-  once = λ home. subst (AllPairs (λ (a b : Begun). a.request ≢ b.request)) (sym (nothing-in (begun_in (gates home)) (unbegun home)))
-      (pairs_none (λ (a b : Begun). a.request ≢ b.request));
+  once = λ home. subst (AllPairs (λ (a b : BegunRequest). a.request ≢ b.request)) (sym (nothing-in (begun_in (gates home)) (unbegun home)))
+      (pairs_none (λ (a b : BegunRequest). a.request ≢ b.request));
   in_turn = pairs_none (λ (a b : Judgement). InTurn script a.request b.request);
 }
 
@@ -68,7 +68,7 @@ none-gained shared script hand_of at is_hand landed keeps own = record {
   store = [];
   at_store = sym (append-nil (made_by at.hand).store);
   logs = λ s. [];
-  in_logs = λ s. sym (append-nil (log_of (at.clients s)));
+  in_logs = λ s. sym (append-nil (log_of_client (at.clients s)));
   logged = nothing-logged script hand_of (hand_number at.hand) (λ home. []) (λ home begun h. has_none begun h) (λ home r h. has_none r h);
   begins = λ home before entry after is mine.
       (let short = ap length is in let long = length-append before (entry ∷ after) in let late = mine.1 in absurd (omega (arith, short, long, late)));
@@ -87,7 +87,7 @@ module _ (laws : SessionsLaws) (shared : Shared) (script : Script) (hand_of : �
   at-gates : (home : ℕ) → gate_log (made_by new.hand) home ≡ gate_log (made_by old.hand) home ++ gates home
   at-gates home = (serves.carries.only.gates home).log
 
-  unbegun : (home : ℕ) (begun : Begun) → Contains (begun_in (gates home)) begun → ⊥
+  unbegun : (home : ℕ) (begun : BegunRequest) → Contains (begun_in (gates home)) begun → ⊥
   unbegun home begun h = none-begun gates (λ k entry. (serves.carries.only.gates k).pass entry) home begun h
 
   unended : (home r : ℕ) → Contains (ended_in (gates home)) r → ⊥
@@ -104,8 +104,8 @@ module _ (laws : SessionsLaws) (shared : Shared) (script : Script) (hand_of : �
   turns t r turn program look =
       let reads : own_reads new.hand r ≡ own_reads old.hand r =
       laws.reads.reads shared old.hand new.hand r is_hand serves.carries.hand (carry-unvisited old.hand new.hand serves.carries.only r) in
-      let same : log_of (new.clients t) ≡ log_of (old.clients t) = ap log_of (serves.same t) in
-      subst (λ (x : List (Name × State)). ReadsInTurn x program (Contains (replied_in (log_of (new.clients t))) r)) (sym reads)
+      let same : log_of_client (new.clients t) ≡ log_of_client (old.clients t) = ap log_of_client (serves.same t) in
+      subst (λ (x : List (Name × State)). ReadsInTurn x program (Contains (replied_in (log_of_client (new.clients t))) r)) (sym reads)
       (subst (λ (l : List SessionEntry). ReadsInTurn (own_reads old.hand r) program (Contains (replied_in l) r)) (sym same) (turn program look))
 
   -- an entry that the hand made begins nothing
@@ -121,6 +121,7 @@ module _ (laws : SessionsLaws) (shared : Shared) (script : Script) (hand_of : �
       ap (λ (n : ℕ). filter (λ (e : GateEntry). e.author == n) (gate_log (seen_by new.hand) home)) (sym serves.carries.only.number)
       ∙ sym (laws.phase.own_at_gate shared new.hand serves.carries.hand home) ∙ at-gates home
 
+  -- in a call for no session the hand's new entries match those of its sessions' logs, and it can go on with each
   pub carried : HasGained shared script hand_of old new
   carried = record {
     number_is = serves.carries.only.number;
@@ -135,7 +136,7 @@ module _ (laws : SessionsLaws) (shared : Shared) (script : Script) (hand_of : �
     store = [];
     at_store = serves.carries.only.store ∙ sym (append-nil (made_by old.hand).store);
     logs = λ s. [];
-    in_logs = λ s. ap log_of (serves.same s) ∙ sym (append-nil (log_of (old.clients s)));
+    in_logs = λ s. ap log_of_client (serves.same s) ∙ sym (append-nil (log_of_client (old.clients s)));
     logged = nothing-logged script hand_of number gates unbegun unended;
     begins = λ home before entry after at is. inl (begins-none home entry
         (own-among (λ (e : GateEntry). e.author) number (gate_log (seen_by old.hand) home) (gate_log (seen_by new.hand) home)

@@ -29,6 +29,7 @@ module _ (x : Run) (closed : Account) (end : IsClosedBy x.shared x.script x.star
     finishes = finishes x closed end hand h;
   }
 
+  -- the script was run by the hands from the start to the closed logs
   pub run-by-hands : IsRunByHands x.script (hands_of x.shared) x.start (seen_by_number x.hands) closed
   run-by-hands = record {
     at_start = x.served.at_start.is_account;
@@ -44,6 +45,7 @@ module _ (x : Run) (closed : Account) (end : IsClosedBy x.shared x.script x.star
     sessions = sessions-kept x closed end;
   }
 
+  -- the closed logs are an account of the script
   pub closed-account : IsAccount x.script closed
   closed-account =
       x.laws.phase.account x.script (hands_of x.shared) x.start (seen_by_number x.hands) closed x.served.at_start.limits end.legal end.of_hands run-by-hands

@@ -42,6 +42,7 @@ module _ (x : Run) (closed : Account) (end : IsClosedBy x.shared x.script x.star
     pub replied : Contains (replied_in (session_log closed session)) r
     pub of : IsRequestOf x.script session r
 
+  -- what a hand ended since the start has its reply in the log of one of its sessions
   pub ended-for : (hand : Hand) (h : Contains x.hands hand) (home r : ℕ) → Contains (ended_in ((part x hand h).gates home)) r → EndedFor r hand h
   ended-for hand h home r there =
       let one = (part x hand h).logged.ended home r there in

@@ -18,7 +18,7 @@ use Rattle.weave_entries.specs.declared.gate_log.GateDeed.{GateDeed}
 use Rattle.weave_entries.specs.declared.gate_log.GateDeed.TheVariants.{BeganTx, BeganProgram, Sent, Nop, Heard, Raised, Finished}
 use Rattle.weave_entries.specs.declared.session_log.SessionEntry.{SessionEntry}
 use Rattle.weave_entries.specs.Logs.{AtEachEntry}
-use Rattle.weave_entries.specs.GateReplay.{Begun, begun_by, begun_in, begun_stamp, clock_of}
+use Rattle.weave_entries.specs.GateReplay.{BegunRequest, begun_by, begun_in, begun_stamp, clock_of}
 use Rattle.weave_entries.specs.SessionReplay.{begins_in, next_request, session_of}
 use Rattle.weave_entries.specs.StoreReplay.{Judgement, judgements_of}
 use Rattle.weave_account.specs.declared.account.Account.{Account}
@@ -31,7 +31,7 @@ use Rattle.hands_account.specs.Runs.{WasGiven, own_begun, own_judgements}
 use Rattle.hands_account.proofs.Places.{pairs-append}
 use Rattle.seen_logs.specs.Seen.{IsOwn}
 use Rattle.seen_logs.proofs.Placed.{list-within}
-use Rattle.weaver_core.specs.Clients.{log_of}
+use Rattle.weaver_core.specs.Sessions.{log_of_client}
 use Rattle.weaver_locks.specs.declared.hand.Hand.{Hand}
 use Rattle.weaver_locks.specs.Hands.{hand_number, seen_by}
 use Rattle.workers_account.specs.Begins.{BeginsInTurn, IsBegunInTurn}
@@ -98,8 +98,9 @@ module _ (x : Run) (closed : Account) (end : IsClosedBy x.shared x.script x.star
   entry-begins home before entry (inl none) = nothing-begins x.script closed home before entry.author entry.deed none
   entry-begins home before entry (inr one) =
       let left = log-left x closed end one.0 hand h (given-now x hand h one.0 one.1) in
-      deed-begins x.laws.phase x.script closed (sessions-kept x closed end) one.0 (log_of ((history x hand h).left one.0)) left.is_log home before entry.deed one.2
+      deed-begins x.laws.phase x.script closed (sessions-kept x closed end) one.0 (log_of_client ((history x hand h).left one.0)) left.is_log home before entry.deed one.2
 
+  -- each request that the hand began since the start, it began as the script and the closed logs say
   pub begins : (home : ℕ) → AtEachEntry (λ before (entry : GateEntry). IsOwn number (gate_log x.start home) before entry.author
       → BeginsAs x.script closed home before entry.deed) (gate_log (seen_by hand) home)
   begins home before entry after at own =
@@ -109,7 +110,7 @@ module _ (x : Run) (closed : Account) (end : IsClosedBy x.shared x.script x.star
       ))
 
   -- what the hand began had not begun at the start
-  pub begun-new : (home : ℕ) (begun : Begun) → Contains (begun_in ((part x hand h).gates home)) begun → (other : Begun) → Contains (all_begun x.start) other
+  pub begun-new : (home : ℕ) (begun : BegunRequest) → Contains (begun_in ((part x hand h).gates home)) begun → (other : BegunRequest) → Contains (all_begun x.start) other
       → other.request ≢ begun.request
   begun-new home begun there other before same =
       let one = begun-for x closed end hand h home begun there in
@@ -122,10 +123,11 @@ module _ (x : Run) (closed : Account) (end : IsClosedBy x.shared x.script x.star
       let less = later-differs (session_log x.start t) ((part x hand h).logs t) rise other.request begun.request other.stamp begun.stamp early one.logged in
       omega (arith, less, same)
 
-  pub once : (home : ℕ) → AllPairs (λ (a b : Begun). a.request ≢ b.request) (begun_in (gate_log x.start home) ++ own_begun number x.start (seen_by hand) home)
+  -- at each gatekeeper, what was begun at the start and what the hand began since are all different requests
+  pub once : (home : ℕ) → AllPairs (λ (a b : BegunRequest). a.request ≢ b.request) (begun_in (gate_log x.start home) ++ own_begun number x.start (seen_by hand) home)
   once home =
-      let R = λ (a b : Begun). a.request ≢ b.request in
-      subst (λ (bs : List Begun). AllPairs R (begun_in (gate_log x.start home) ++ bs)) (sym (own-begun-is x hand h home))
+      let R = λ (a b : BegunRequest). a.request ≢ b.request in
+      subst (λ (bs : List BegunRequest). AllPairs R (begun_in (gate_log x.start home) ++ bs)) (sym (own-begun-is x hand h home))
       (pairs-append R (begun_in (gate_log x.start home)) (begun_in ((part x hand h).gates home))
       (list-within R begun_in refl x.start.gates x.served.at_start.is_account.gatekeepers.once home)
       ((part x hand h).logged.once home) (λ a b before since. begun-new home b since a (all-has x.start home a before)))
@@ -146,10 +148,12 @@ module _ (x : Run) (closed : Account) (end : IsClosedBy x.shared x.script x.star
             (begins-later (session_log x.start one.0) ((part x hand h).logs one.0) judged.request judged.stamp one.2.begun)),
       )
 
+  -- the hand judged, for each request, the operations that the script gives it
   pub work : (judged : Judgement) → Contains (own_judgements number x.start (seen_by hand)) judged
       → IsSomeAnd (request_at x.script judged.request) (λ (request : Request). request.work ≡ Change judged.ops)
   work judged there = (judged-for judged (subst (λ js. Contains js judged) (own-judgements-are x hand h) there)).2
 
+  -- of two requests of one session the hand judged the earlier one first
   pub in-turn : AllPairs (λ (a b : Judgement). InTurn x.script a.request b.request) (own_judgements number x.start (seen_by hand))
   in-turn = subst (AllPairs (λ (a b : Judgement). InTurn x.script a.request b.request)) (sym (own-judgements-are x hand h)) (part x hand h).logged.in_turn
 
@@ -161,6 +165,7 @@ module _ (x : Run) (closed : Account) (end : IsClosedBy x.shared x.script x.star
       let same = same_Some of.0 other (sym of.1 ∙ is) in
       ap (λ (q : Request). x.served.hand_of q.session) (sym same) ∙ ap x.served.hand_of of.2 ∙ hand-is
 
+  -- what the hand began or judged since the start is of its own sessions
   pub own-sessions : (r : ℕ) → WasGiven number x.start (seen_by hand) r
       → ForSome (request_at x.script r) (λ (request : Request). x.served.hand_of request.session ≡ number)
   own-sessions r (inl given) =

@@ -8,14 +8,14 @@ use Rattle.report_rules.specs.Lookups.{request_at}
 use Rattle.weave_entries.specs.declared.gate_log.GateEntry.{GateEntry}
 use Rattle.weave_entries.specs.declared.session_log.SessionEntry.{SessionEntry}
 use Rattle.weave_entries.specs.declared.store_log.StoreEntry.{StoreEntry}
-use Rattle.weave_entries.specs.GateReplay.{Begun, begun_by, begun_in, ended_in}
+use Rattle.weave_entries.specs.GateReplay.{BegunRequest, begun_by, begun_in, ended_in}
 use Rattle.weave_entries.specs.Logs.{AtEachEntry}
 use Rattle.weave_entries.specs.SessionReplay.{begins_in, replied_in}
 use Rattle.weave_entries.specs.StoreReplay.{Judgement, judgements_of}
 use Rattle.weave_account.specs.Account.{gate_log}
 use Rattle.weave_account.specs.Store.{InTurn}
 use Rattle.seen_logs.specs.Seen.{IsOwn, IsWithin}
-use Rattle.weaver_core.specs.Clients.{log_of}
+use Rattle.weaver_core.specs.Sessions.{log_of_client}
 use Rattle.weaver_locks.specs.declared.shared.Shared.{Shared}
 use Rattle.weaver_locks.specs.Following.{VisitsItsOwnPrograms}
 use Rattle.weaver_locks.specs.Hands.{hand_number, made_by, seen_by, IsHand}
@@ -39,20 +39,20 @@ OfSome hand_of number P = (session : ℕ) × HasSession hand_of number session �
 -- twice at a gatekeeper, and those of a session were judged in its order.
 pub record AreLogged (script : Script) (hand_of : ℕ → ℕ) (number : ℕ) (gates : ℕ → List GateEntry) (store : List StoreEntry)
     (logs : ℕ → List SessionEntry) : Type 0 where
-  pub begun : (home : ℕ) (begun : Begun) → Contains (begun_in (gates home)) begun
+  pub begun : (home : ℕ) (begun : BegunRequest) → Contains (begun_in (gates home)) begun
       → OfSome hand_of number (λ s. Contains (begins_in (logs s)) (begun.request, begun.stamp))
   pub at_gate : (s r : ℕ) (stamp : Stamp) → Contains (begins_in (logs s)) (r, stamp) → IsBegunAtItsGate script number gates r stamp
   pub ended : (home r : ℕ) → Contains (ended_in (gates home)) r → OfSome hand_of number (λ s. Contains (replied_in (logs s)) r)
   pub replied : (s r : ℕ) → Contains (replied_in (logs s)) r → (home : ℕ) × Contains (ended_in (gates home)) r
   pub judged : (judged : Judgement) → Contains (judgements_of store) judged
       → OfSome hand_of number (λ s. IsJudgedFor script (logs s) judged)
-  pub once : (home : ℕ) → AllPairs (λ (a b : Begun). a.request ≢ b.request) (begun_in (gates home))
+  pub once : (home : ℕ) → AllPairs (λ (a b : BegunRequest). a.request ≢ b.request) (begun_in (gates home))
   pub in_turn : AllPairs (λ (a b : Judgement). InTurn script a.request b.request) (judgements_of store)
 
 -- an entry begins nothing, or what one of the hand's sessions had next
 abbrev pub BeginsForSome : Script → (ℕ → ℕ) → ℕ → Stands → ℕ → List GateEntry → GateEntry → Type 0
 BeginsForSome script hand_of number at home before entry = (begun_by entry.author entry.deed ≡ [])
-    ⊎ OfSome hand_of number (λ s. BeginsInTurn script s (log_of (at.clients s)) home before entry.deed)
+    ⊎ OfSome hand_of number (λ s. BeginsInTurn script s (log_of_client (at.clients s)) home before entry.deed)
 
 -- the request is one of the session's
 abbrev pub IsRequestOf : Script → ℕ → ℕ → Type 0
@@ -72,7 +72,7 @@ pub record HasGained (shared : Shared) (script : Script) (hand_of : ℕ → ℕ)
   pub store : List StoreEntry
   pub at_store : (made_by new.hand).store ≡ (made_by old.hand).store ++ store
   pub logs : ℕ → List SessionEntry
-  pub in_logs : (s : ℕ) → log_of (new.clients s) ≡ log_of (old.clients s) ++ logs s
+  pub in_logs : (s : ℕ) → log_of_client (new.clients s) ≡ log_of_client (old.clients s) ++ logs s
   pub logged : AreLogged script hand_of (hand_number old.hand) gates store logs
   pub begins : (home : ℕ) → AtEachEntry (λ before (entry : GateEntry).
       IsOwn (hand_number old.hand) (gate_log (seen_by old.hand) home) before entry.author

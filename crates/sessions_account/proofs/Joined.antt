@@ -21,7 +21,7 @@ use Rattle.weave_entries.specs.StoreReplay.{Judgement, judgements_of}
 use Rattle.weave_account.specs.Account.{gate_log}
 use Rattle.weave_account.specs.Sessions.{requests_of_session}
 use Rattle.weave_account.specs.Store.{InTurn}
-use Rattle.weaver_core.specs.Clients.{log_of}
+use Rattle.weaver_core.specs.Sessions.{log_of_client}
 use Rattle.weaver_locks.specs.declared.shared.Shared.{Shared}
 use Rattle.weaver_locks.specs.Hands.{hand_number, made_by, seen_by}
 use Rattle.weaver_workers.specs.Keeping.{KeepsClient}
@@ -94,6 +94,7 @@ module _ (laws : PhaseLaws) (script : Script) (hand_of : ℕ → ℕ) (number : 
   judged-then : (s : ℕ) (judged : Judgement) → IsJudgedFor script (more_logs s) judged → IsJudgedFor script (logs s ++ more_logs s) judged
   judged-then s judged for = record { work = for.work; begun = begins-later (logs s) (more_logs s) judged.request judged.stamp for.begun }
 
+  -- if a hand's entries match its sessions' entries in each of two parts, they match in both together
   pub both-logged : AreLogged script hand_of number (λ home. gates home ++ more_gates home) (store ++ more_store) (λ s. logs s ++ more_logs s)
   both-logged = record {
     begun = λ home begun h. elim (either-made begun_of (gates home) (more_gates home) begun h) [
@@ -153,15 +154,15 @@ module _ (laws : PhaseLaws) (shared : Shared) (script : Script) (hand_of : ℕ �
   second-logged : AreLogged script hand_of number second.gates second.store second.logs
   second-logged = subst (λ (n : ℕ). AreLogged script hand_of n second.gates second.store second.logs) first.number_is second.logged
 
-  logs-are : (s : ℕ) → log_of (new.clients s) ≡ (log_of (old.clients s) ++ first.logs s) ++ second.logs s
+  logs-are : (s : ℕ) → log_of_client (new.clients s) ≡ (log_of_client (old.clients s) ++ first.logs s) ++ second.logs s
   logs-are s = second.in_logs s ∙ ap (λ l. l ++ second.logs s) (first.in_logs s)
 
   right : (s : ℕ) → HasSession hand_of number s
-      → IsSessionLog s (requests_of_session script s) ((log_of (old.clients s) ++ first.logs s) ++ second.logs s)
+      → IsSessionLog s (requests_of_session script s) ((log_of_client (old.clients s) ++ first.logs s) ++ second.logs s)
   right s given =
       let keeps : KeepsClient shared script s new.hand (new.clients s) = second.keeps s (given.0, given.1 ∙ sym (second.number_is ∙ first.number_is)) in
       subst (λ (l : List SessionEntry). IsSessionLog s (requests_of_session script s) l) (logs-are s)
-      (subst (λ (rs : List ℕ). IsSessionLog s rs (log_of (new.clients s))) keeps.requests keeps.at_end.right)
+      (subst (λ (rs : List ℕ). IsSessionLog s rs (log_of_client (new.clients s))) keeps.requests keeps.at_end.right)
 
   begins-still : (home : ℕ) (before : List GateEntry) (entry : GateEntry) → BeginsForSome script hand_of number mid home before entry
       → BeginsForSome script hand_of number new home before entry
@@ -169,7 +170,7 @@ module _ (laws : PhaseLaws) (shared : Shared) (script : Script) (hand_of : ℕ �
   begins-still home before entry (inr one) = inr (
     one.0,
     one.1,
-    deed-later script one.0 home before (log_of (mid.clients one.0)) (log_of (new.clients one.0))
+    deed-later script one.0 home before (log_of_client (mid.clients one.0)) (log_of_client (new.clients one.0))
         (second.logs one.0, second.in_logs one.0) entry.deed one.2,
   )
 
@@ -178,6 +179,7 @@ module _ (laws : PhaseLaws) (shared : Shared) (script : Script) (hand_of : ℕ �
   begins-now home before entry (inl none) = inl none
   begins-now home before entry (inr one) = inr (one.0, given-back one.0 one.1, one.2)
 
+  -- what a hand and its sessions gained in some calls, and then in others, they gained in all
   pub both-gain : HasGained shared script hand_of old new
   both-gain = record {
     number_is = second.number_is ∙ first.number_is;
@@ -192,8 +194,8 @@ module _ (laws : PhaseLaws) (shared : Shared) (script : Script) (hand_of : ℕ �
     store = first.store ++ second.store;
     at_store = second.at_store ∙ ap (λ l. l ++ second.store) first.at_store ∙ append_assoc (made_by old.hand).store first.store second.store;
     logs = λ s. first.logs s ++ second.logs s;
-    in_logs = λ s. logs-are s ∙ append_assoc (log_of (old.clients s)) (first.logs s) (second.logs s);
-    logged = both-logged laws script hand_of number first.gates second.gates first.store second.store (λ s. log_of (old.clients s))
+    in_logs = λ s. logs-are s ∙ append_assoc (log_of_client (old.clients s)) (first.logs s) (second.logs s);
+    logged = both-logged laws script hand_of number first.gates second.gates first.store second.store (λ s. log_of_client (old.clients s))
         first.logs second.logs right first.logged second-logged;
     begins = λ home before entry after at own. elim (less-or (length before) (length (gate_log (seen_by mid.hand) home))) [
       | inl less ↦ (let there = earlier-place (gate_log (seen_by mid.hand) home) (gate_log (seen_by new.hand) home) (second.more.gates home) before entry after at less in
@@ -209,5 +211,5 @@ module _ (laws : PhaseLaws) (shared : Shared) (script : Script) (hand_of : ℕ �
     where
       of-old : (s : ℕ) → HasSession hand_of number s → (r : ℕ) (stamp : Stamp) → Contains (begins_in (first.logs s)) (r, stamp) → IsRequestOf script s r
       of-old s given r stamp h =
-          begun-here laws script s ((log_of (old.clients s) ++ first.logs s) ++ second.logs s) (right s given) r stamp
-          (begins-on (log_of (old.clients s) ++ first.logs s) (second.logs s) r stamp (begins-later (log_of (old.clients s)) (first.logs s) r stamp h))
+          begun-here laws script s ((log_of_client (old.clients s) ++ first.logs s) ++ second.logs s) (right s given) r stamp
+          (begins-on (log_of_client (old.clients s) ++ first.logs s) (second.logs s) r stamp (begins-later (log_of_client (old.clients s)) (first.logs s) r stamp h))

@@ -24,6 +24,7 @@ module _ (laws : SessionsLaws) (shared : Shared) (script : Script) (upto : ℕ) 
   one-call old new is_hand landed keeps own (inl serves) = served laws shared script upto hand_of within locks old new keeps own serves
   one-call old new is_hand landed keeps own (inr serves) = carried laws shared script hand_of old new is_hand landed keeps own serves
 
+  -- in calls one after another a hand's new entries match those of its sessions, and it can go on with each session
   pub gained : (path : List Stands) (from at : Stands) → IsHand shared from.hand → HasLanded from.hand
       → KeepsClients shared script hand_of from → VisitsItsOwnPrograms shared from.hand
       → GoesThrough shared script upto hand_of from path at → HasGained shared script hand_of from at

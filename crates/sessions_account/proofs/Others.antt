@@ -10,7 +10,7 @@ use Rattle.vector_stamp.specs.declared.clock.Stamp.{Stamp}
 use Rattle.program_defs.specs.declared.script.Script.{Script}
 use Rattle.weave_entries.specs.declared.gate_log.GateEntry.{GateEntry}
 use Rattle.weave_entries.specs.declared.gate_log.GateDeed.{GateDeed}
-use Rattle.weave_entries.specs.GateReplay.{Begun, begun_by, begun_in, ended_by, ended_in}
+use Rattle.weave_entries.specs.GateReplay.{BegunRequest, begun_by, begun_in, ended_by, ended_in}
 use Rattle.weave_account.specs.Account.{gate_log}
 use Rattle.weaver_core.specs.declared.client.Client.{Client}
 use Rattle.weaver_core.specs.declared.walks.Running.{Running}
@@ -41,7 +41,7 @@ of-running shared script t hand client keeps one is =
 module _ (laws : SessionsLaws) (shared : Shared) (script : Script) (t : ℕ) (old new : Hand) (client : Client)
     (was : KeepsClient shared script t old client) (is_hand : IsHand shared new) (landed : HasLanded new)
     (gates : ℕ → List GateEntry) (at_gates : (home : ℕ) → gate_log (made_by new) home ≡ gate_log (made_by old) home ++ gates home)
-    (unbegun : (home : ℕ) (begun : Begun) → Contains (begun_in (gates home)) begun → IsRequestOf script t begun.request → ⊥)
+    (unbegun : (home : ℕ) (begun : BegunRequest) → Contains (begun_in (gates home)) begun → IsRequestOf script t begun.request → ⊥)
     (unended : (home r : ℕ) → Contains (ended_in (gates home)) r → IsRequestOf script t r → ⊥)
     (unvisited : (r : ℕ) → IsRequestOf script t r → MakesNoVisit old new r) where
   alone : (r : ℕ) → IsRequestOf script t r → LeavesAlone old new r
@@ -70,7 +70,7 @@ module _ (laws : SessionsLaws) (shared : Shared) (script : Script) (t : ℕ) (ol
     stamp_is = may.stamp_is;
     there = elim may.there [
       | inl own ↦ inl (subst (λ (l : List GateEntry). Contains (begun_in l) may.begun) (sym (at_gates may.home))
-          (subst (λ (bs : List Begun). Contains bs may.begun)
+          (subst (λ (bs : List BegunRequest). Contains bs may.begun)
           (sym (flat_map-append (λ (e : GateEntry). begun_by e.author e.deed) (gate_log (made_by old) may.home) (gates may.home)))
           (Contains-append_left (begun_in (gate_log (made_by old) may.home)) (begun_in (gates may.home)) may.begun own)))
       | inr started ↦ inr started
@@ -87,6 +87,7 @@ module _ (laws : SessionsLaws) (shared : Shared) (script : Script) (t : ℕ) (ol
     runs = laws.runs shared old new one was.is_hand is_hand (alone one.request (of-running shared script t old client was one is)) for.runs;
   }
 
+  -- the hand can go on with a session none of whose requests it began, ended or read for in the meantime
   pub keeps-on : KeepsClient shared script t new client
   keeps-on = record {
     is_hand = is_hand;

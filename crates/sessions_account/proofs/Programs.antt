@@ -20,7 +20,7 @@ use Rattle.weave_entries.specs.declared.gate_log.GateEntry.{GateEntry}
 use Rattle.weave_entries.specs.declared.gate_log.GateDeed.{GateDeed}
 use Rattle.weave_entries.specs.declared.gate_log.GateDeed.TheVariants.{BeganTx, BeganProgram, Sent, Nop, Heard, Raised, Finished}
 use Rattle.weave_entries.specs.declared.session_log.SessionEntry.{SessionEntry}
-use Rattle.weave_entries.specs.GateReplay.{Begun, ended_by, ended_in, program_by, programs_of}
+use Rattle.weave_entries.specs.GateReplay.{BegunRequest, ended_by, ended_in, program_by, programs_of}
 use Rattle.weave_entries.specs.GateRules.{EndsAs, IsGateLog}
 use Rattle.weave_entries.specs.SessionReplay.{SessionState, begins_in, replied_count, replied_in, reply_by, session_of}
 use Rattle.weave_account.specs.declared.account.Account.{Account}
@@ -29,10 +29,10 @@ use Rattle.weave_account.specs.Programs.{ReadsInTurn}
 use Rattle.weave_account.specs.Sessions.{requests_of_session}
 use Rattle.hands_account.specs.Runs.{FinishesItsOwn, FinishesOwnPrograms, IsOwnProgram}
 use Rattle.hands_account.proofs.Places.{has-on, since-place}
-use Rattle.seen_logs.specs.Seen.{since}
+use Rattle.seen_logs.specs.Seen.{entries_since}
 use Rattle.weaver_core.specs.declared.client.Client.{Client}
 use Rattle.weaver_core.specs.declared.walks.Running.{Running}
-use Rattle.weaver_core.specs.Clients.{log_of}
+use Rattle.weaver_core.specs.Sessions.{log_of_client}
 use Rattle.weaver_core.specs.Walks.{IsLookAt}
 use Rattle.weaver_hands.specs.Programs.{own_reads}
 use Rattle.weaver_locks.specs.declared.hand.Hand.{Hand}
@@ -63,19 +63,20 @@ module _ (x : Run) (closed : Account) (end : IsClosedBy x.shared x.script x.star
       ended-all closed home.0 r (has_flat (λ (e : GateEntry). ended_by e.deed) (gate_log closed home.0) from.0 r
       (has-on (gate_log (seen_by hand) home.0) (gate_log closed home.0) ((end.within hand h).gates home.0) from.0 from.1) from.2)
 
+  -- each program that the hand began since the start has read its vertices in turn, and all of them if it has ended
   pub programs : (r : ℕ) → IsOwnProgram number x.start (seen_by hand) r → (request : Request) (program : Program)
       → request_at x.script r ≡ Some request → request.work ≡ Look program
       → ReadsInTurn (reads_of (seen_by hand) r) program (IsTrue (is_ended (seen_by hand) r))
   programs r own request program at look =
-      let begun : Begun = record { author = number; request = r; stamp = own.1 } in
+      let begun : BegunRequest = record { author = number; request = r; stamp = own.1 } in
       let there = since-gained x hand h own.0 r own.1 own.2 in
       let one = begun-for x closed end hand h own.0 begun there in
       let looks : IsLookAt x.script r program = record { request = request; request_is = at; work_is = look } in
       let turn = (part x hand h).new_turns one.session (given-from x hand h one.session one.left.given) r own.1 one.logged program looks in
       let same : one.of.0 ≡ request = same_Some one.of.0 request (sym one.of.1 ∙ at) in
-      let log_is : session_log closed request.session ≡ log_of ((history x hand h).left one.session) =
+      let log_is : session_log closed request.session ≡ log_of_client ((history x hand h).left one.session) =
       ap (λ (q : Request). session_log closed q.session) (sym same) ∙ ap (session_log closed) one.of.2 ∙ one.left.is_log in
-      turn-same (own_reads hand r) (reads_of (seen_by hand) r) program (Contains (replied_in (log_of ((history x hand h).left one.session))) r)
+      turn-same (own_reads hand r) (reads_of (seen_by hand) r) program (Contains (replied_in (log_of_client ((history x hand h).left one.session))) r)
       (IsTrue (is_ended (seen_by hand) r)) (sym (all-own x closed end hand h own.0 r own.1 there))
       (λ ended. inl (subst (λ (l : List SessionEntry). Contains (replied_in l) r) log_is
       ((x.laws.phase.has_reply r (session_log closed request.session)).0
@@ -96,7 +97,7 @@ module _ (x : Run) (closed : Account) (end : IsClosedBy x.shared x.script x.star
       none-since one for =
           let home = one.stamp.home in
           let log = gate_log (start_of x.shared) home in
-          let nothing : since log (gate_log (seen_by from) home) ≡ [] =
+          let nothing : entries_since log (gate_log (seen_by from) home) ≡ [] =
           ap (λ (a : Account). drop (length log) (gate_log a home)) (history x hand h).may_begin.seen
           ∙ ap (drop (length log)) (sym (append-nil log)) ∙ drop-append_seam log [] in
           has_none (record { author = hand_number from; request = one.request; stamp = one.stamp })
@@ -109,7 +110,7 @@ module _ (x : Run) (closed : Account) (end : IsClosedBy x.shared x.script x.star
   -- a reply since then is of a request that began since then
   replied-new : (session : ℕ) (left : LogLeft x closed end session hand h) (r : ℕ) → Contains (replied_in ((part x hand h).logs session)) r
       → (stamp : Stamp) → Contains (begins_in (session_log x.start session)) (r, stamp) → ⊥
-  replied-new session left r since stamp before =
+  replied-new session left r entries_since stamp before =
       let client = (history x hand h).from.clients session in
       let keeps = keeps-first x.laws x.shared x.script x.start x.was x.served.hand_of x.served.at_start (history x hand h).from (history x hand h).may_begin
       session (given-from x hand h session left.given) in
@@ -119,7 +120,7 @@ module _ (x : Run) (closed : Account) (end : IsClosedBy x.shared x.script x.star
       let right = x.served.at_start.is_account.sessions.logs session in
       let state : session_of requests log ≡ client.session =
       ap (λ (l : List SessionEntry). session_of requests l) left.was_log
-      ∙ ap (λ (rs : List ℕ). session_of rs (log_of client)) (sym keeps.requests) ∙ sym keeps.at_end.state in
+      ∙ ap (λ (rs : List ℕ). session_of rs (log_of_client client)) (sym keeps.requests) ∙ sym keeps.at_end.state in
       let waits : (session_of requests log).waits ≡ false = ap (λ (s : SessionState). s.waits) state ∙ not-waiting session client keeps in
       let count : replied_count (session_of requests log) ≡ (session_of requests log).begun =
       ap (λ (b : Bool). if b then (session_of requests log).begun - 1 else (session_of requests log).begun) waits in
@@ -134,12 +135,12 @@ module _ (x : Run) (closed : Account) (end : IsClosedBy x.shared x.script x.star
       (pairs-take (λ (a b : ℕ). a < b) (replied_count (session_of requests whole)) requests (x.laws.phase.rise x.script session)) in
       let parts : replied_in whole ≡ replied_in log ++ replied_in gained =
       ap replied_in (gained-log x closed end session hand h left) ∙ flat_map-append (λ (e : SessionEntry). reply_by e.deed) log gained in
-      let less = pairs_across (λ (a b : ℕ). a < b) (replied_in log) (replied_in gained) r r (subst (AllPairs (λ (a b : ℕ). a < b)) parts rise) replied since in
+      let less = pairs_across (λ (a b : ℕ). a < b) (replied_in log) (replied_in gained) r r (subst (AllPairs (λ (a b : ℕ). a < b)) parts rise) replied entries_since in
       omega (arith, less)
 
   -- a program that the hand finished had not begun at the start
   finished-new : (home r : ℕ) (entry : GateEntry) → Contains ((part x hand h).gates home) entry → entry.deed ≡ Finished r
-      → (begun : Begun) → Contains (all_begun x.start) begun → begun.request ≡ r → ⊥
+      → (begun : BegunRequest) → Contains (all_begun x.start) begun → begun.request ≡ r → ⊥
   finished-new home r entry there deed-is begun before same =
       let ended : Contains (ended_in ((part x hand h).gates home)) r =
       has_flat (λ (e : GateEntry). ended_by e.deed) ((part x hand h).gates home) entry r there (subst (λ (d : GateDeed). Contains (ended_by d) r) (sym deed-is) (has_head r [])) in
@@ -148,6 +149,7 @@ module _ (x : Run) (closed : Account) (end : IsClosedBy x.shared x.script x.star
       replied-new one.session one.left r one.since begun.stamp
       (subst (λ (y : ℕ × ℕ). Contains (begins_in (session_log x.start y.1)) (y.0, begun.stamp)) (λ i. (same i, one.of.2 i)) early)
 
+  -- the hand has finished no programs but those that it began since the start
   pub finishes : FinishesOwnPrograms number x.start (seen_by hand)
   finishes home before entry after at own = by entry.deed refl
     where
@@ -164,19 +166,19 @@ module _ (x : Run) (closed : Account) (end : IsClosedBy x.shared x.script x.star
           let right = subst (λ (n : ℕ). IsGateLog home n log) x.served.at_start.locks.shards ((part x hand h).is_hand.legal.gate_logs home) in
           let rule = x.laws.phase.ends home x.script.shards log right before entry after at in
           let ends = subst (λ (d : GateDeed). EndsAs before entry.author d) deed-is rule in
-          let begun : Begun = record { author = entry.author; request = r; stamp = ends.0 } in
+          let begun : BegunRequest = record { author = entry.author; request = r; stamp = ends.0 } in
           let place = since-place (gate_log x.start home) log (seen-on x hand h home) before entry after at own.1 in
           let parts : programs_of before ≡ programs_of (gate_log x.start home) ++ programs_of place.0 =
           ap programs_of place.1 ∙ flat_map-append (λ (e : GateEntry). program_by e.author e.deed) (gate_log x.start home) place.0 in
-          elim (Contains-append_cases (programs_of (gate_log x.start home)) (programs_of place.0) begun (subst (λ (l : List Begun). Contains l begun) parts ends.1)) [
+          elim (Contains-append_cases (programs_of (gate_log x.start home)) (programs_of place.0) begun (subst (λ (l : List BegunRequest). Contains l begun) parts ends.1)) [
             | inl early ↦ absurd (finished-new home r entry there deed-is begun (all-has x.start home begun (program-begun (gate_log x.start home) begun early)) refl)
             | inr since-then ↦
-                let all : programs_of (since (gate_log x.start home) log) ≡ programs_of place.0 ++ programs_of (entry ∷ after) =
+                let all : programs_of (entries_since (gate_log x.start home) log) ≡ programs_of place.0 ++ programs_of (entry ∷ after) =
                 ap programs_of place.2 ∙ flat_map-append (λ (e : GateEntry). program_by e.author e.deed) place.0 (entry ∷ after) in (
                   home,
                   ends.0,
-                  subst (λ (n : ℕ). Contains (programs_of (since (gate_log x.start home) log)) (record { author = n; request = r; stamp = ends.0 })) own.0
-                      (subst (λ (l : List Begun). Contains l begun) (sym all)
+                  subst (λ (n : ℕ). Contains (programs_of (entries_since (gate_log x.start home) log)) (record { author = n; request = r; stamp = ends.0 })) own.0
+                      (subst (λ (l : List BegunRequest). Contains l begun) (sym all)
                       (Contains-append_left (programs_of place.0) (programs_of (entry ∷ after)) begun since-then)),
                 )
           ]

@@ -8,14 +8,14 @@ use Rattle.weave_data.proofs.Members.{cut_at, filter_has, has_filter, has_cut}
 use Rattle.program_defs.specs.declared.script.Script.{Script}
 use Rattle.weave_entries.specs.declared.gate_log.GateEntry.{GateEntry}
 use Rattle.weave_entries.specs.declared.store_log.StoreEntry.{StoreEntry}
-use Rattle.weave_entries.specs.GateReplay.{Begun, begun_in}
+use Rattle.weave_entries.specs.GateReplay.{BegunRequest, begun_in}
 use Rattle.weave_entries.specs.StoreReplay.{Judgement, judgements_of}
 use Rattle.weave_account.specs.declared.account.Account.{Account}
 use Rattle.weave_account.specs.Account.{gate_log}
 use Rattle.weave_account.specs.GoesOn.{IsBeginningOf}
 use Rattle.hands_account.specs.Runs.{own_begun, own_judgements}
 use Rattle.hands_account.proofs.Places.{earlier-place, in-back, onward}
-use Rattle.seen_logs.specs.Seen.{IsOwn, VisitsOwnPrograms, since, without_sessions}
+use Rattle.seen_logs.specs.Seen.{IsOwn, VisitsOwnPrograms, entries_since, without_sessions}
 use Rattle.weaver_core.specs.declared.client.Client.{Client}
 use Rattle.weaver_locks.specs.declared.hand.Hand.{Hand}
 use Rattle.weaver_locks.specs.declared.shared.Shared.{Shared}
@@ -66,6 +66,7 @@ module _ (x : Run) where
     pub number_is : hand_number hand ≡ number
     pub seen_is : seen_by_number x.hands number ≡ seen_by hand
 
+  -- there is a hand of each number, and what was seen by the number is what that hand has seen
   pub of-number : (number : ℕ) → number < hands_of x.shared → OfNumber number
   of-number number low =
       let one = x.laws.phase.found x.hands number (x.served.all number low) in
@@ -95,6 +96,7 @@ module _ (x : Run) where
     pub given-from : (s : ℕ) → HasSession x.served.hand_of number s → HasSession x.served.hand_of (hand_number from) s
     given-from s given = (given.0, given.1 ∙ sym (history hand h).number_is)
 
+    -- and the other way round, by the number that it has now
     pub given-now : (s : ℕ) → HasSession x.served.hand_of (hand_number from) s → HasSession x.served.hand_of number s
     given-now s given = (given.0, given.1 ∙ (history hand h).number_is)
 
@@ -135,14 +137,16 @@ module _ (x : Run) where
         ∙ (part hand h).at_store)
 
     -- so what the definitions on runs by hands say it began and judged is what it gained
-    pub since-is : (home : ℕ) → since (gate_log x.start home) (gate_log (seen_by hand) home) ≡ (seen-on home).0
+    pub since-is : (home : ℕ) → entries_since (gate_log x.start home) (gate_log (seen_by hand) home) ≡ (seen-on home).0
     since-is home = ap (drop (length (gate_log x.start home))) (seen-on home).1 ∙ drop-append_seam (gate_log x.start home) (seen-on home).0
 
+    -- what the hand began since the start at a gatekeeper is what it gained there
     pub own-begun-is : (home : ℕ) → own_begun number x.start (seen_by hand) home ≡ begun_in ((part hand h).gates home)
     own-begun-is home =
-        ap (λ log. filter (λ (b : Begun). b.author == number) (begun_in log)) (since-is home)
+        ap (λ log. filter (λ (b : BegunRequest). b.author == number) (begun_in log)) (since-is home)
         ∙ begun-by-author number (seen-on home).0 ∙ ap begun_in (own-since home)
 
+    -- what it judged since the start is what it gained at the store
     pub own-judgements-are : own_judgements number x.start (seen_by hand) ≡ judgements_of (part hand h).store
     own-judgements-are =
         ap (λ log. filter (λ (j : Judgement). j.author == number) (judgements_of log))

@@ -10,14 +10,14 @@ use Rattle.vector_stamp.specs.declared.clock.Stamp.{Stamp}
 use Rattle.program_defs.specs.declared.script.Script.{Script}
 use Rattle.program_defs.specs.Limits.{IsWithinLimits}
 use Rattle.weave_entries.specs.declared.session_log.SessionEntry.{SessionEntry}
-use Rattle.weave_entries.specs.GateReplay.{Begun, begun_in}
+use Rattle.weave_entries.specs.GateReplay.{BegunRequest, begun_in}
 use Rattle.weave_entries.specs.SessionReplay.{IsSessionLog, begins_in, replied_in}
 use Rattle.weave_entries.specs.StoreReplay.{Judgement}
 use Rattle.weave_account.specs.Programs.{ReadsInTurn}
 use Rattle.weave_account.specs.Sessions.{requests_of_session}
 use Rattle.weave_account.specs.Store.{InTurn}
 use Rattle.weaver_core.specs.declared.client.Client.{Client}
-use Rattle.weaver_core.specs.Clients.{log_of}
+use Rattle.weaver_core.specs.Sessions.{log_of_client}
 use Rattle.weaver_locks.specs.declared.shared.Shared.{Shared}
 use Rattle.weaver_locks.specs.Following.{VisitsItsOwnPrograms}
 use Rattle.weaver_locks.specs.Hands.{hand_number}
@@ -26,7 +26,7 @@ use Rattle.weaver_hands.specs.Programs.{own_reads}
 use Rattle.weaver_workers.specs.ClientWork.{Stand}
 use Rattle.weaver_workers.specs.Keeping.{AreLocksOf, KeepsClient}
 use Rattle.workers_account.specs.Followed.{IsFollowed}
-use Rattle.workers_account.specs.Gained.{Gained, IsInStep, IsJudgedFor}
+use Rattle.workers_account.specs.Gained.{GainedEntries, IsInStep, IsJudgedFor}
 use Rattle.workers_account.proofs.Ended.{replied-later}
 use Rattle.workers_account.proofs.OneGate.{at_one, at-each, at-it}
 use Rattle.workers_account.proofs.SessionLogs.{begins-later, begun-here, pairs-weaker, replied-here}
@@ -66,7 +66,7 @@ module _ (laws : SessionsLaws) (shared : Shared) (script : Script) (upto : ℕ) 
   abbrev step : IsInStep script number upto was is
   step = followed.in_step
 
-  abbrev gained : Gained was is
+  abbrev gained : GainedEntries was is
   gained = step.gained
 
   abbrev logs : ℕ → List SessionEntry
@@ -83,7 +83,7 @@ module _ (laws : SessionsLaws) (shared : Shared) (script : Script) (upto : ℕ) 
 
   -- the session's log is right
   abbrev log : List SessionEntry
-  log = log_of (new.clients s)
+  log = log_of_client (new.clients s)
 
   right : IsSessionLog s (requests_of_session script s) log
   right = subst (λ (rs : List ℕ). IsSessionLog s rs log) now.requests now.at_end.right
@@ -91,12 +91,12 @@ module _ (laws : SessionsLaws) (shared : Shared) (script : Script) (upto : ℕ) 
   begun-of : (r : ℕ) (stamp : Stamp) → Contains (begins_in gained.session) (r, stamp) → IsRequestOf script s r
   begun-of r stamp h = begun-here laws.phase script s log right r stamp
       (subst (λ (l : List SessionEntry). Contains (begins_in l) (r, stamp)) (sym gained.in_session)
-      (begins-later (log_of (old.clients s)) gained.session r stamp h))
+      (begins-later (log_of_client (old.clients s)) gained.session r stamp h))
 
   replied-of : (r : ℕ) → Contains (replied_in gained.session) r → IsRequestOf script s r
   replied-of r h = replied-here laws.phase script s log right r
       (subst (λ (l : List SessionEntry). Contains (replied_in l) r) (sym gained.in_session)
-      (replied-later (log_of (old.clients s)) gained.session r h))
+      (replied-later (log_of_client (old.clients s)) gained.session r h))
 
   logged : AreLogged script hand_of number gained.gates gained.store logs
   logged = record {
@@ -105,7 +105,7 @@ module _ (laws : SessionsLaws) (shared : Shared) (script : Script) (upto : ℕ) 
     ended = λ home r h. (s, serves.given, here (λ l. Contains (replied_in l) r) (step.in_step.ended home r h));
     replied = λ t r h. step.in_step.replied r (of-one replied_in refl t r h).1;
     judged = λ judged h. (s, serves.given, here (λ l. IsJudgedFor script l judged) (step.in_step.judged judged h));
-    once = λ home. pairs-weaker (λ (a b : Begun). a.request < b.request) (λ (a b : Begun). a.request ≢ b.request)
+    once = λ home. pairs-weaker (λ (a b : BegunRequest). a.request < b.request) (λ (a b : BegunRequest). a.request ≢ b.request)
         (λ a b less same. omega (arith, less, same)) (begun_in (gained.gates home)) (step.begun_rise home);
     in_turn = pairs-weaker (λ (a b : Judgement). a.request < b.request) (λ (a b : Judgement). InTurn script a.request b.request)
         (λ a b less same. less) _ step.judged_rise;
@@ -137,8 +137,8 @@ module _ (laws : SessionsLaws) (shared : Shared) (script : Script) (upto : ℕ) 
     turn-other r of turn program look =
         let reads : own_reads new.hand r ≡ own_reads old.hand r =
         laws.reads.reads shared old.hand new.hand r (keeps t given).is_hand serves.is_hand (unvisited r of) in
-        let same : log_of (new.clients t) ≡ log_of (old.clients t) = ap log_of (serves.others t other) in
-        subst (λ (x : List (Name × State)). ReadsInTurn x program (Contains (replied_in (log_of (new.clients t))) r)) (sym reads)
+        let same : log_of_client (new.clients t) ≡ log_of_client (old.clients t) = ap log_of_client (serves.others t other) in
+        subst (λ (x : List (Name × State)). ReadsInTurn x program (Contains (replied_in (log_of_client (new.clients t))) r)) (sym reads)
         (subst (λ (l : List SessionEntry). ReadsInTurn (own_reads old.hand r) program (Contains (replied_in l) r)) (sym same) (turn program look))
 
   -- All sessions
@@ -162,6 +162,7 @@ module _ (laws : SessionsLaws) (shared : Shared) (script : Script) (upto : ℕ) 
       let at = of-one begins_in refl t (r, stamp) h in
       subst (λ (k : ℕ). HasTurn script (of_session new k) r) (sym at.0) (followed.reads gained.session gained.in_session r stamp at.1)
 
+  -- in a call for a session the hand's new entries match those of its sessions' logs, and it can go on with each
   pub served : HasGained shared script hand_of old new
   served = record {
     number_is = followed.number_is;
@@ -175,8 +176,8 @@ module _ (laws : SessionsLaws) (shared : Shared) (script : Script) (upto : ℕ) 
     store = gained.store;
     at_store = gained.at_store;
     logs = logs;
-    in_logs = at-each s gained.session (λ t l. log_of (new.clients t) ≡ log_of (old.clients t) ++ l) gained.in_session
-        (λ t other. ap log_of (serves.others t other) ∙ sym (append-nil (log_of (old.clients t))));
+    in_logs = at-each s gained.session (λ t l. log_of_client (new.clients t) ≡ log_of_client (old.clients t) ++ l) gained.in_session
+        (λ t other. ap log_of_client (serves.others t other) ∙ sym (append-nil (log_of_client (old.clients t))));
     logged = logged;
     begins = λ home before entry after at mine. inr (s, serves.given, followed.begins home before entry after at mine);
     turns = turns;

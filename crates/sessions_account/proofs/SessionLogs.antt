@@ -14,7 +14,7 @@ use Rattle.program_defs.specs.declared.script.Request.{Request}
 use Rattle.report_rules.specs.Lookups.{request_at}
 use Rattle.weave_entries.specs.declared.gate_log.GateEntry.{GateEntry}
 use Rattle.weave_entries.specs.declared.session_log.SessionEntry.{SessionEntry}
-use Rattle.weave_entries.specs.GateReplay.{Begun, begun_by, begun_in}
+use Rattle.weave_entries.specs.GateReplay.{BegunRequest, begun_by, begun_in}
 use Rattle.weave_entries.specs.SessionReplay.{IsSessionLog, begins_in, session_stamp_of}
 use Rattle.weave_account.specs.declared.account.Account.{Account}
 use Rattle.weave_account.specs.Account.{all_begun, gate_log, session_log, stamp_of}
@@ -22,7 +22,7 @@ use Rattle.weave_account.specs.GoesOn.{IsBeginningOf}
 use Rattle.weave_account.specs.Sessions.{requests_of_session}
 use Rattle.hands_account.proofs.Places.{has-on}
 use Rattle.weaver_core.specs.declared.client.Client.{Client}
-use Rattle.weaver_core.specs.Clients.{log_of, requests_in}
+use Rattle.weaver_core.specs.Sessions.{log_of_client, requests_in}
 use Rattle.weaver_locks.specs.declared.hand.Hand.{Hand}
 use Rattle.weaver_locks.specs.Hands.{hand_number}
 use Rattle.workers_account.specs.Phase.{IsClosedBy}
@@ -36,7 +36,7 @@ use Rattle.sessions_account.proofs.Runs.{Run, gate-entry, gates-on, given-from, 
 -- a request with a stamp was begun at some gatekeeper
 pub record BeganAt (account : Account) (r : ℕ) (stamp : Stamp) : Type 0 where
   pub home : ℕ
-  pub begun : Begun
+  pub begun : BegunRequest
   pub there : Contains (begun_in (gate_log account home)) begun
   pub request_is : begun.request ≡ r
   pub stamp_is : begun.stamp ≡ stamp
@@ -47,18 +47,18 @@ module _ (x : Run) (closed : Account) (end : IsClosedBy x.shared x.script x.star
   -- the log of a client that is as it was
   same-log : (t : ℕ) → slice_get x.is t ≡ slice_get x.was t → session_log closed t ≡ session_log x.start t
   same-log t same =
-      let log : List Client → List SessionEntry = λ cs. get_or (map log_of cs) t [] in
-      let there : (cs : List Client) → log cs ≡ unwrap_or (option_map log_of (slice_get cs t)) [] = λ cs.
-      sym (unwrap_or-slice_get (map log_of cs) t []) ∙ ap (λ (o : Option (List SessionEntry)). unwrap_or o []) (slice_get-map log_of cs t) in
+      let log : List Client → List SessionEntry = λ cs. get_or (map log_of_client cs) t [] in
+      let there : (cs : List Client) → log cs ≡ unwrap_or (option_map log_of_client (slice_get cs t)) [] = λ cs.
+      sym (unwrap_or-slice_get (map log_of_client cs) t []) ∙ ap (λ (o : Option (List SessionEntry)). unwrap_or o []) (slice_get-map log_of_client cs t) in
       ap (λ (logs : List (List SessionEntry)). get_or logs t []) end.sessions
-      ∙ there x.is ∙ ap (λ (o : Option Client). unwrap_or (option_map log_of o) []) same ∙ sym (there x.was)
+      ∙ there x.is ∙ ap (λ (o : Option Client). unwrap_or (option_map log_of_client o) []) same ∙ sym (there x.was)
       ∙ ap (λ (logs : List (List SessionEntry)). get_or logs t []) (sym x.served.at_start.logs)
 
   -- a session of the hand: its log was that of its client, and is
   pub record LogLeft (t : ℕ) (hand : Hand) (h : Contains x.hands hand) : Type 0 where
     pub given : HasSession x.served.hand_of (hand_number hand) t
-    pub was_log : session_log x.start t ≡ log_of ((history x hand h).from.clients t)
-    pub is_log : session_log closed t ≡ log_of ((history x hand h).left t)
+    pub was_log : session_log x.start t ≡ log_of_client ((history x hand h).from.clients t)
+    pub is_log : session_log closed t ≡ log_of_client ((history x hand h).left t)
 
   abbrev pub log-left : (t : ℕ) (hand : Hand) (h : Contains x.hands hand) → HasSession x.served.hand_of (hand_number hand) t → LogLeft t hand h
   log-left t hand h given = record {
@@ -97,7 +97,7 @@ module _ (x : Run) (closed : Account) (end : IsClosedBy x.shared x.script x.star
         | inr one ↦
             let keeps = (part x one.0 one.1).keeps t one.2.given in
             subst (λ (l : List SessionEntry). IsSessionLog t (requests_of_session x.script t) l) (sym one.2.is_log)
-            (subst (λ (rs : List ℕ). IsSessionLog t rs (log_of ((history x one.0 one.1).left t))) keeps.requests keeps.at_end.right)
+            (subst (λ (rs : List ℕ). IsSessionLog t rs (log_of_client ((history x one.0 one.1).left t))) keeps.requests keeps.at_end.right)
       ]
 
   -- and goes on
@@ -111,14 +111,14 @@ module _ (x : Run) (closed : Account) (end : IsClosedBy x.shared x.script x.star
   -- From the gatekeepers to the sessions
 
   -- a request of the start that began there is in its session's log
-  pub start-logged : (begun : Begun) → Contains (all_begun x.start) begun → (request : Request) → request_at x.script begun.request ≡ Some request
+  pub start-logged : (begun : BegunRequest) → Contains (all_begun x.start) begun → (request : Request) → request_at x.script begun.request ≡ Some request
       → Contains (begins_in (session_log x.start request.session)) (begun.request, begun.stamp)
   start-logged begun h request at =
       stamp-from (session_log x.start request.session) begun.request begun.stamp
       (x.served.at_start.is_account.sessions.stamps begun.request request at ∙ stamp-is x.start x.served.at_start.is_account.gatekeepers.once begun h)
 
   -- what a hand began is of one of its sessions
-  pub record BegunFor (begun : Begun) (hand : Hand) (h : Contains x.hands hand) : Type 0 where
+  pub record BegunFor (begun : BegunRequest) (hand : Hand) (h : Contains x.hands hand) : Type 0 where
     pub session : ℕ
     pub left : LogLeft session hand h
     pub logged : Contains (begins_in ((part x hand h).logs session)) (begun.request, begun.stamp)
@@ -130,10 +130,12 @@ module _ (x : Run) (closed : Account) (end : IsClosedBy x.shared x.script x.star
       subst (λ (l : List SessionEntry). Contains (begins_in l) (r, stamp)) (sym (gained-log t hand h left))
       (begins-later (session_log x.start t) ((part x hand h).logs t) r stamp logged)
 
+  -- what a session's closed log has begun is a request of that session
   pub of-logged : (t : ℕ) (r : ℕ) (stamp : Stamp) → Contains (begins_in (session_log closed t)) (r, stamp) → IsRequestOf x.script t r
   of-logged t r stamp h = begun-here x.laws.phase x.script t (session_log closed t) (logs-right t) r stamp h
 
-  pub begun-for : (hand : Hand) (h : Contains x.hands hand) (home : ℕ) (begun : Begun) → Contains (begun_in ((part x hand h).gates home)) begun
+  -- what a hand began at a gatekeeper is of one of its sessions, whose log has the begin too
+  pub begun-for : (hand : Hand) (h : Contains x.hands hand) (home : ℕ) (begun : BegunRequest) → Contains (begun_in ((part x hand h).gates home)) begun
       → BegunFor begun hand h
   begun-for hand h home begun there =
       let one = (part x hand h).logged.begun home begun there in
@@ -151,7 +153,7 @@ module _ (x : Run) (closed : Account) (end : IsClosedBy x.shared x.script x.star
       subst (λ (l : List SessionEntry). Contains (begins_in l) (r, stamp)) (sym (logs-on t).1) (begins-on (session_log x.start t) (logs-on t).0 r stamp h)
 
   -- what began at the closed gatekeepers was logged by its session
-  pub logged : (home : ℕ) (begun : Begun) → Contains (begun_in (gate_log closed home)) begun → (request : Request) → request_at x.script begun.request ≡ Some request
+  pub logged : (home : ℕ) (begun : BegunRequest) → Contains (begun_in (gate_log closed home)) begun → (request : Request) → request_at x.script begun.request ≡ Some request
       → Contains (begins_in (session_log closed request.session)) (begun.request, begun.stamp)
   logged home begun h request at =
       let from = flat_has (λ (e : GateEntry). begun_by e.author e.deed) (gate_log closed home) begun h in
@@ -199,7 +201,7 @@ module _ (x : Run) (closed : Account) (end : IsClosedBy x.shared x.script x.star
       Contains (begun_in ((part x hand h).gates request.gate)) (record { author = author; request = r; stamp = stamp })) → BeganAt closed r stamp
   made-began hand h r stamp author None impossible = absurd impossible
   made-began hand h r stamp author (Some request) there =
-      let begun : Begun = record { author = author; request = r; stamp = stamp } in
+      let begun : BegunRequest = record { author = author; request = r; stamp = stamp } in
       let from = flat_has (λ (e : GateEntry). begun_by e.author e.deed) ((part x hand h).gates request.gate) begun there in
       record {
         home = request.gate;

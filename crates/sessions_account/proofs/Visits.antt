@@ -9,14 +9,14 @@ use Rattle.weave_entries.specs.declared.gate_log.GateEntry.{GateEntry}
 use Rattle.weave_entries.specs.declared.shard_log.ShardEntry.{ShardEntry}
 use Rattle.weave_entries.specs.declared.shard_log.ShardDeed.{ShardDeed}
 use Rattle.weave_entries.specs.declared.shard_log.ShardDeed.TheVariants.{Arrived, Applied, Visited, Collected}
-use Rattle.weave_entries.specs.GateReplay.{Begun, begun_by, begun_in, programs_of}
+use Rattle.weave_entries.specs.GateReplay.{BegunRequest, begun_by, begun_in, programs_of}
 use Rattle.weave_entries.specs.ShardReplay.{Visit, visit_by, visits_of}
 use Rattle.weave_account.specs.declared.account.Account.{Account}
 use Rattle.weave_account.specs.Account.{all_begun, gate_log, reads_of, shard_log}
 use Rattle.weave_account.specs.Shards.{ShardFitsAs}
 use Rattle.hands_account.proofs.ByHands.{start-or-hand, start-within}
 use Rattle.hands_account.proofs.Places.{has-on}
-use Rattle.seen_logs.specs.Seen.{VisitsItsOwn, since}
+use Rattle.seen_logs.specs.Seen.{VisitsItsOwn, entries_since}
 use Rattle.weaver_hands.specs.Programs.{own_reads}
 use Rattle.weaver_locks.specs.declared.hand.Hand.{Hand}
 use Rattle.weaver_locks.specs.Closing.{seen_by_number}
@@ -37,17 +37,17 @@ module _ (x : Run) where
     pub h : Contains x.hands hand
     pub number_is : hand_number hand ≡ author
     pub home : ℕ
-    pub begun : Begun
+    pub begun : BegunRequest
     pub there : Contains (begun_in ((part x hand h).gates home)) begun
     pub request_is : begun.request ≡ r
 
   -- what a hand began since the start, as it has seen it, it gained
   pub since-gained : (hand : Hand) (h : Contains x.hands hand) (home r : ℕ) (stamp : Stamp)
-      → Contains (programs_of (since (gate_log x.start home) (gate_log (seen_by hand) home))) (record { author = hand_number hand; request = r; stamp = stamp })
+      → Contains (programs_of (entries_since (gate_log x.start home) (gate_log (seen_by hand) home))) (record { author = hand_number hand; request = r; stamp = stamp })
       → Contains (begun_in ((part x hand h).gates home)) (record { author = hand_number hand; request = r; stamp = stamp })
   since-gained hand h home r stamp there =
-      let begun : Begun = record { author = hand_number hand; request = r; stamp = stamp } in
-      let more = since (gate_log x.start home) (gate_log (seen_by hand) home) in
+      let begun : BegunRequest = record { author = hand_number hand; request = r; stamp = stamp } in
+      let more = entries_since (gate_log x.start home) (gate_log (seen_by hand) home) in
       let from = flat_has (λ (e : GateEntry). begun_by e.author e.deed) more begun (program-begun more begun there) in
       let own = begun-author from.0.author from.0.deed begun from.2 in
       has_flat (λ (e : GateEntry). begun_by e.author e.deed) ((part x hand h).gates home) from.0 begun
@@ -57,14 +57,14 @@ module _ (x : Run) where
       from.2
 
   abbrev HadBegun : ℕ → Type 0
-  HadBegun r = (begun : Begun) × Contains (all_begun x.start) begun × (begun.request ≡ r)
+  HadBegun r = (begun : BegunRequest) × Contains (all_begun x.start) begun × (begun.request ≡ r)
 
   -- a visit of the start is of a program that had begun
   visit-before : (shard : ℕ) (before : List ShardEntry) (author : ℕ) (deed : ShardDeed) (visit : Visit) → Contains (visit_by author deed) visit
       → ShardFitsAs x.script x.start shard before deed → HadBegun visit.request
   visit-before shard before author (Visited r stamp v updates settled) visit h fits =
       let same = only (record { author = author; request = r; stamp = stamp; vertex = v; updates = updates; settled = settled }) visit h in
-      let begun : Begun = record { author = fits.author; request = r; stamp = stamp } in
+      let begun : BegunRequest = record { author = fits.author; request = r; stamp = stamp } in
       (begun, all-has x.start fits.home begun (program-begun (gate_log x.start fits.home) begun fits.begun), ap (λ (y : Visit). y.request) same)
   visit-before shard before author (Arrived home number message) visit h fits = absurd (has_none visit h)
   visit-before shard before author (Applied home number) visit h fits = absurd (has_none visit h)
@@ -76,7 +76,7 @@ module _ (x : Run) where
   visit-since author low (Visited r stamp v updates settled) visit h own =
       let same = only (record { author = author; request = r; stamp = stamp; vertex = v; updates = updates; settled = settled }) visit h in
       let one = of-number x author low in
-      let seen = subst (λ (y : ℕ × Account). Contains (programs_of (since (gate_log x.start own.0) (gate_log y.1 own.0))) (record { author = y.0; request = r; stamp = stamp }))
+      let seen = subst (λ (y : ℕ × Account). Contains (programs_of (entries_since (gate_log x.start own.0) (gate_log y.1 own.0))) (record { author = y.0; request = r; stamp = stamp }))
       (λ i. (sym one.number_is i, one.seen_is i)) own.1 in
       record {
         hand = one.hand;

@@ -1,12 +1,13 @@
 -- What a hand does for several sessions, one call after another, and what is left when all hands are done.
 use Rattle.std.specs.Prelude.{◌≡◌, ◌≢◌, ◌⊎◌, ℕ, ◌<◌, List, [], ◌∷◌, length, map, Contains, IsTrue, slice_get, Some}
 use Rattle.std.specs.Option.{ForSome}
+use Rattle.weave_data.specs.Limits.{most_sessions}
 use Rattle.vector_stamp.specs.declared.clock.Stamp.{Stamp}
 use Rattle.program_defs.specs.declared.script.Script.{Script}
 use Rattle.weave_entries.specs.SessionReplay.{begins_in, has_reply_in}
 use Rattle.weave_account.specs.declared.account.Account.{Account}
 use Rattle.weaver_core.specs.declared.client.Client.{Client}
-use Rattle.weaver_core.specs.Clients.{log_of, IsClientOf}
+use Rattle.weaver_core.specs.Sessions.{log_of_client, IsClientOf}
 use Rattle.weaver_locks.specs.declared.hand.Hand.{Hand}
 use Rattle.weaver_locks.specs.declared.shared.Shared.{Shared}
 use Rattle.weaver_locks.specs.Hands.{hand_number, seen_by, IsHand}
@@ -27,7 +28,7 @@ of_session at session = record { hand = at.hand; client = at.clients session }
 
 -- the hand of this number has this session; `hand_of` gives each session one hand
 abbrev pub HasSession : (ℕ → ℕ) → ℕ → ℕ → Type 0
-HasSession hand_of number session = (session < 64) × (hand_of session ≡ number)
+HasSession hand_of number session = (session < most_sessions) × (hand_of session ≡ number)
 
 -- A call for a session of the hand. Its next request was begun, when none of the session waited for its reply, at its
 -- own gatekeeper, after the session's last stamp, and judged with its own operations and sent if it is a transaction;
@@ -41,7 +42,7 @@ pub record ServesSession (shared : Shared) (script : Script) (upto : ℕ) (hand_
   pub is_hand : IsHand shared new.hand
   pub does : DoesOneCall shared script session upto (of_session old session) (of_session new session)
   pub runs : ForSome (new.clients session).running (IsRunning shared new.hand)
-  pub at_end : IsClientOf session (new.clients session).session (log_of (new.clients session))
+  pub at_end : IsClientOf session (new.clients session).session (log_of_client (new.clients session))
   pub others : (other : ℕ) → other ≢ session → new.clients other ≡ old.clients other
 
 -- Calls for no session: clocks were passed on, empty messages sent, messages brought or processed, or nothing done. A
@@ -66,8 +67,8 @@ pub record MayBegin (shared : Shared) (hand_of : ℕ → ℕ) (was : List Client
   pub client_was : (session : ℕ) → HasSession hand_of (hand_number from.hand) session
       → slice_get was session ≡ Some (from.clients session)
   pub answered : (session : ℕ) → HasSession hand_of (hand_number from.hand) session
-      → (r : ℕ) (stamp : Stamp) → Contains (begins_in (log_of (from.clients session))) (r, stamp)
-      → IsTrue (has_reply_in r (log_of (from.clients session)))
+      → (r : ℕ) (stamp : Stamp) → Contains (begins_in (log_of_client (from.clients session))) (r, stamp)
+      → IsTrue (has_reply_in r (log_of_client (from.clients session)))
 
 -- All that the hand did since the start. Its sessions' clients are left as these ones of the end.
 pub record IsHistoryOf (shared : Shared) (script : Script) (upto : ℕ) (hand_of : ℕ → ℕ) (was is : List Client)
@@ -90,6 +91,6 @@ pub record IsServedBy (shared : Shared) (script : Script) (upto : ℕ) (start : 
   pub all : (number : ℕ) → number < hands_of shared → Contains (map hand_number hands) number
   pub hand_of : ℕ → ℕ
   pub histories : (hand : Hand) → Contains hands hand → IsHistoryOf shared script upto hand_of was is hand
-  pub many : length is ≡ 64
-  pub sessions : (session : ℕ) → session < 64 → (slice_get is session ≡ slice_get was session)
+  pub many : length is ≡ most_sessions
+  pub sessions : (session : ℕ) → session < most_sessions → (slice_get is session ≡ slice_get was session)
       ⊎ ((hand : Hand) × Contains hands hand × (hand_of session ≡ hand_number hand))

@@ -8,7 +8,7 @@ use Rattle.weave_entries.specs.SessionReplay.{begins_in, has_reply_in}
 use Rattle.weave_account.specs.declared.account.Account.{Account}
 use Rattle.weaver_core.specs.declared.client.Client.{Client}
 use Rattle.weaver_core.specs.declared.walks.Running.{Running}
-use Rattle.weaver_core.specs.Clients.{log_of, IsClientOf}
+use Rattle.weaver_core.specs.Sessions.{log_of_client, IsClientOf}
 use Rattle.weaver_locks.specs.declared.hand.Hand.{Hand}
 use Rattle.weaver_locks.specs.declared.shared.Shared.{Shared}
 use Rattle.weaver_locks.specs.Hands.{seen_by, IsHand}
@@ -32,7 +32,7 @@ pub record SessionsLaws : Type 0 where
   pub goes_on : (shared : Shared) (script : Script) (number upto : ℕ) (old new : Stand) → IsWithinLimits script
       → AreLocksOf script shared → KeepsClient shared script number old.hand old.client → IsHand shared new.hand
       → ForSome new.client.running (IsRunning shared new.hand)
-      → IsClientOf number new.client.session (log_of new.client) → DoesOneCall shared script number upto old new
+      → IsClientOf number new.client.session (log_of_client new.client) → DoesOneCall shared script number upto old new
       → KeepsClient shared script number new.hand new.client
   pub landed : (old new : Hand) → OnlyCarries old new → HasLanded old → HasLanded new
   -- at the start no transaction of a hand is in flight
@@ -42,6 +42,6 @@ pub record SessionsLaws : Type 0 where
   pub ready : (script : Script) (start : Account) (shared : Shared) (clients : List Client) (hand : Hand) (session : ℕ)
       (client : Client) → IsPhaseStart script start shared clients → IsHand shared hand → seen_by hand ≡ start_of shared
       → slice_get clients session ≡ Some client
-      → ((r : ℕ) (stamp : Stamp) → Contains (begins_in (log_of client)) (r, stamp)
-      → IsTrue (has_reply_in r (log_of client)))
+      → ((r : ℕ) (stamp : Stamp) → Contains (begins_in (log_of_client client)) (r, stamp)
+      → IsTrue (has_reply_in r (log_of_client client)))
       → KeepsClient shared script session hand client

@@ -13,10 +13,9 @@ use Rattle.weave_account.specs.GoesOn.{IsBeginningOf}
 use Rattle.seen_logs.specs.Seen.{GatesGoOn, IsWithin}
 use Rattle.chronicle.specs.Logs.{Log}
 use Rattle.lock_row.proofs.Lists.{mapped_on}
-use Rattle.oracle_lock.specs.Entries.{paired_entry}
+use Rattle.seen_logs.specs.Entries.{oracle_entry, store_entry}
 use Rattle.oracle_lock.specs.Seen.{of_gates}
-use Rattle.shard_lock.specs.Entries.{store_entry}
-use Rattle.shard_lock.specs.Notes.{account_of, at_place}
+use Rattle.shard_lock.specs.Notes.{account_of_shard, at_place}
 
 -- the own log is in its place
 pub at_number : (number : ℕ) (own : List ShardEntry) → get_or (at_place number own) number [] ≡ own
@@ -56,10 +55,10 @@ shards_on number own more on k =
 -- more was seen
 pub grows : (number : ℕ) (own more : List ShardEntry) (gates later : List (List GateEntry)) (store last : Log StoreDeed)
     (oracle latest : Log OracleDeed) → IsBeginningOf own more → GatesGoOn (of_gates gates) (of_gates later) → IsPrefix store last
-    → IsPrefix oracle latest → IsWithin (account_of number own gates store oracle) (account_of number more later last latest)
+    → IsPrefix oracle latest → IsWithin (account_of_shard number own gates store oracle) (account_of_shard number more later last latest)
 grows number own more gates later store last oracle latest own_on gates_on store_on oracle_on = record {
   gates = gates_on;
   store = mapped_on store_entry store last store_on;
-  oracle = mapped_on paired_entry oracle latest oracle_on;
+  oracle = mapped_on oracle_entry oracle latest oracle_on;
   shards = shards_on number own more own_on;
 }

@@ -20,11 +20,11 @@ use Rattle.weave_account.specs.Account.{shard_log}
 use Rattle.weave_account.specs.Seen.{HasSeen}
 use Rattle.seen_logs.specs.References.{ArrivesAsSeen, ShardRefersAs}
 use Rattle.seen_logs.specs.Seen.{AreLegal, IsWithin}
-use Rattle.chronicle.specs.Passes.{noted}
+use Rattle.chronicle.specs.Passes.{seen_by_note}
 use Rattle.oracle_lock.specs.Seen.{gates_noted}
 use Rattle.shard_lock.specs.declared.notes.ShardNotes.{ShardNotes}
 use Rattle.shard_lock.specs.LowerLaws.{LawsForShardNotes}
-use Rattle.shard_lock.specs.Notes.{ShardIsKept, seen_of}
+use Rattle.shard_lock.specs.Notes.{ShardIsKept, seen_of_shard}
 use Rattle.shard_lock.proofs.Accounts.{at_number, at_shards, elsewhere, grows, same_on}
 
 abbrev entry_by : ℕ → ShardDeed → ShardEntry
@@ -43,15 +43,15 @@ module _ (laws : LawsForShardNotes) (shard : ShardView) (shards : ℕ) (notes : 
   more = added shard author deed
 
   abbrev before : Account
-  before = seen_of shard notes
+  before = seen_of_shard shard notes
 
   abbrev after : Account
-  after = seen_of more notes
+  after = seen_of_shard more notes
 
   goes : IsWithin before after
-  goes = grows shard.number shard.log more.log (gates_noted notes.gates.items) (gates_noted notes.gates.items) (noted notes.store) (noted notes.store)
-      (noted notes.oracle) (noted notes.oracle) (entry_by author deed ∷ [], refl) (λ k. same_on _) ([], append-nil (noted notes.store))
-      ([], append-nil (noted notes.oracle))
+  goes = grows shard.number shard.log more.log (gates_noted notes.gates.items) (gates_noted notes.gates.items) (seen_by_note notes.store) (seen_by_note notes.store)
+      (seen_by_note notes.oracle) (seen_by_note notes.oracle) (entry_by author deed ∷ [], refl) (λ k. same_on _) ([], append-nil (seen_by_note notes.store))
+      ([], append-nil (seen_by_note notes.oracle))
 
   legal : AreLegal shard.gates shards after
   legal = record {
@@ -90,7 +90,7 @@ module _ (laws : LawsForShardNotes) (shard : ShardView) (shards : ℕ) (notes : 
 module _ (laws : LawsForShardNotes) (old new : ShardView) (shards : ℕ) (notes : ShardNotes) (kept : ShardIsKept old shards notes)
     (rules : IsShardLog new.gates new.log) (author : ℕ) where
   -- with an entry that refers to what was seen
-  pub kept_then : (deed : ShardDeed) → AddsEntry old new author deed → ShardRefersAs (seen_of old notes) shards old.number old.log author deed
+  pub kept_then : (deed : ShardDeed) → AddsEntry old new author deed → ShardRefersAs (seen_of_shard old notes) shards old.number old.log author deed
       → ShardIsKept new shards notes
   kept_then deed adds refers =
       let is = is_added old new author deed adds in
@@ -101,24 +101,27 @@ module _ (laws : LawsForShardNotes) (old new : ShardView) (shards : ℕ) (notes 
   pub kept_still : new ≡ old → ShardIsKept new shards notes
   kept_still same = subst (λ (v : ShardView). ShardIsKept v shards notes) (sym same) kept
 
-  arrived_as : (home number : ℕ) (message : Message) → ArrivesAsSeen (seen_of old notes) shards old.number home number message
+  arrived_as : (home number : ℕ) (message : Message) → ArrivesAsSeen (seen_of_shard old notes) shards old.number home number message
       → (arrival : Arrival) → (arrival ≡ Kept → AddsEntry old new author (Arrived home number message)) → (arrival ≡ Repeat → new ≡ old)
       → ShardIsKept new shards notes
   arrived_as home number message arrives Kept adds same = kept_then (Arrived home number message) (adds refl) arrives
   arrived_as home number message arrives Repeat adds same = kept_still (same refl)
 
+  -- a shard that takes in a message whose sending and judgement were seen, new or repeated, keeps what its type keeps
   pub kept_arrived : {F : Type 0} (r : Result Arrival F) (home number : ℕ) (message : Message)
-      → ArrivesAsSeen (seen_of old notes) shards old.number home number message
+      → ArrivesAsSeen (seen_of_shard old notes) shards old.number home number message
       → IfOk r (λ (arrival : Arrival). arrival ≡ Kept → AddsEntry old new author (Arrived home number message))
       → IfOk r (λ (arrival : Arrival). arrival ≡ Repeat → new ≡ old) → OnErr r (new ≡ old) → ShardIsKept new shards notes
   kept_arrived (Ok arrival) home number message arrives adds same refused = arrived_as home number message arrives arrival adds same
   kept_arrived (Err fault) home number message arrives adds same refused = kept_still refused
 
+  -- so does one that processes a message, or can't
   pub kept_applied : {A F : Type 0} (r : Result A F) (home number : ℕ) → OnOk r (AddsEntry old new author (Applied home number)) → OnErr r (new ≡ old)
       → ShardIsKept new shards notes
   kept_applied (Ok done) home number adds refused = kept_then (Applied home number) adds tt
   kept_applied (Err fault) home number adds refused = kept_still refused
 
+  -- so does one that collects, or can't
   pub kept_collected : {A F : Type 0} (r : Result A F) (bound : Option Clock) → OnOk r (AddsEntry old new author (Collected bound)) → OnErr r (new ≡ old)
       → ShardIsKept new shards notes
   kept_collected (Ok done) bound adds refused = kept_then (Collected bound) adds tt
@@ -129,6 +132,6 @@ pub heads_pass : (laws : LawsForShardNotes) (shard : ShardView) (shards : ℕ) (
     → ForSome (head_of home shard.log) (λ (head : Message). waits_at head shard.log ≡ None → PassesAt shard.log head)
 heads_pass laws shard shards notes kept home head is waits =
     let own = at_number shard.number shard.log in
-    let has = laws.has_seen shard.gates shards (seen_of shard notes) shard.number kept.legal.store_log (kept.legal.shard_logs shard.number) kept.refers in
-    laws.passes shards (seen_of shard notes).store shard.number shard.log
-    (subst (λ (l : List ShardEntry). HasSeen shards (seen_of shard notes).store shard.number l) own has) home head is waits
+    let has = laws.has_seen shard.gates shards (seen_of_shard shard notes) shard.number kept.legal.store_log (kept.legal.shard_logs shard.number) kept.refers in
+    laws.passes shards (seen_of_shard shard notes).store shard.number shard.log
+    (subst (λ (l : List ShardEntry). HasSeen shards (seen_of_shard shard notes).store shard.number l) own has) home head is waits

@@ -18,7 +18,7 @@ use Rattle.weave_entries.specs.declared.gate_log.GateDeed.{GateDeed}
 use Rattle.weave_entries.specs.declared.gate_log.GateDeed.TheVariants.{BeganTx, BeganProgram, Sent, Nop, Heard, Raised, Finished}
 use Rattle.weave_entries.specs.declared.verdict.Verdict.{Verdict}
 use Rattle.weave_entries.specs.declared.verdict.Verdict.TheVariants.{Committed, Conflict, Refused}
-use Rattle.weave_entries.specs.GateReplay.{Begun, addressed_to, begun_by, begun_in, flight_after, flight_of, is_begun, messages_by, nop_message, program_by, programs_of, running_after, running_of, to_shard, tx_by, txs_of}
+use Rattle.weave_entries.specs.GateReplay.{BegunRequest, addressed_to, begun_by, begun_in, flight_after, flight_of, is_begun, messages_by, nop_message, program_by, programs_of, running_after, running_of, to_shard, tx_by, txs_of}
 use Rattle.weave_entries.specs.GateRules.{FitsAs, IsGateLog}
 use Rattle.weave_entries.specs.Sending.{message_to, messages_of, shards_named}
 use Rattle.weave_entries.proofs.OwnStamps.{program-begun, tx-begun}
@@ -26,12 +26,12 @@ use Rattle.weave_account.proofs.SeenIds.{IdsDiffer}
 use Rattle.weave_account.proofs.Beginning.{all-in}
 use Rattle.oracle_lock.specs.Seen.{of_gates}
 
-abbrev begun_with : ℕ → ℕ → Stamp → Begun
+abbrev begun_with : ℕ → ℕ → Stamp → BegunRequest
 begun_with author request stamp = record { author = author; request = request; stamp = stamp }
 
 -- What is running
 
-ran-or-began : (running : List Begun) (author : ℕ) (deed : GateDeed) (program : Begun) → Contains (running_after running author deed) program
+ran-or-began : (running : List BegunRequest) (author : ℕ) (deed : GateDeed) (program : BegunRequest) → Contains (running_after running author deed) program
     → Contains running program ⊎ Contains (program_by author deed) program
 ran-or-began running author (BeganProgram request stamp) program h = Contains-append_cases running (begun_with author request stamp ∷ []) program h
 ran-or-began running author (Finished request) program h = inl (filter_has (λ begun. not (is_begun author request begun)) running program h).0
@@ -41,7 +41,7 @@ ran-or-began running author (Nop shard number stamp low) program h = inl h
 ran-or-began running author (Heard clock) program h = inl h
 ran-or-began running author (Raised epoch) program h = inl h
 
-runs-from : (log : List GateEntry) (running : List Begun) (program : Begun)
+runs-from : (log : List GateEntry) (running : List BegunRequest) (program : BegunRequest)
     → Contains (fold (λ now (entry : GateEntry). running_after now entry.author entry.deed) running log) program
     → Contains running program ⊎ Contains (programs_of log) program
 runs-from [] running program h = inl h
@@ -54,7 +54,7 @@ runs-from (entry ∷ log) running program h = elim (runs-from log (running_after
 ]
 
 -- a program that is running was begun
-pub running-begun : (log : List GateEntry) (program : Begun) → Contains (running_of log) program → Contains (programs_of log) program
+pub running-begun : (log : List GateEntry) (program : BegunRequest) → Contains (running_of log) program → Contains (programs_of log) program
 running-begun log program h = elim (runs-from log [] program h) [ inl none ↦ absurd (has_none program none) | inr began ↦ began ]
 
 -- an entry doesn't finish what this author began under this number
@@ -62,10 +62,10 @@ abbrev LeavesOne : ℕ → ℕ → GateEntry → Type 0
 LeavesOne author request entry = entry.author ≡ author → entry.deed ≢ Finished request
 
 module _ (author request : ℕ) (stamp : Stamp) where
-  abbrev own : Begun
+  abbrev own : BegunRequest
   own = begun_with author request stamp
 
-  still-runs : (running : List Begun) (by : ℕ) (deed : GateDeed) → (by ≡ author → deed ≢ Finished request) → Contains running own
+  still-runs : (running : List BegunRequest) (by : ℕ) (deed : GateDeed) → (by ≡ author → deed ≢ Finished request) → Contains running own
       → Contains (running_after running by deed) own
   still-runs running by (BeganProgram r s) leaves h = Contains-append_left running (begun_with by r s ∷ []) own h
   still-runs running by (Finished r) leaves h =
@@ -78,7 +78,7 @@ module _ (author request : ℕ) (stamp : Stamp) where
   still-runs running by (Heard clock) leaves h = h
   still-runs running by (Raised epoch) leaves h = h
 
-  then-runs : (running : List Begun) (by : ℕ) (deed : GateDeed) → Contains (program_by by deed) own → Contains (running_after running by deed) own
+  then-runs : (running : List BegunRequest) (by : ℕ) (deed : GateDeed) → Contains (program_by by deed) own → Contains (running_after running by deed) own
   then-runs running by (BeganProgram r s) h = Contains-append_right running (begun_with by r s ∷ []) own h
   then-runs running by (Finished r) h = absurd (has_none own h)
   then-runs running by (BeganTx r s) h = absurd (has_none own h)
@@ -87,7 +87,7 @@ module _ (author request : ℕ) (stamp : Stamp) where
   then-runs running by (Heard clock) h = absurd (has_none own h)
   then-runs running by (Raised epoch) h = absurd (has_none own h)
 
-  runs-on : (log : List GateEntry) (running : List Begun) → ((entry : GateEntry) → Contains log entry → LeavesOne author request entry)
+  runs-on : (log : List GateEntry) (running : List BegunRequest) → ((entry : GateEntry) → Contains log entry → LeavesOne author request entry)
       → Contains running own ⊎ Contains (programs_of log) own
       → Contains (fold (λ now (entry : GateEntry). running_after now entry.author entry.deed) running log) own
   runs-on [] running leaves (inl h) = h
@@ -109,7 +109,7 @@ module _ (author request : ℕ) (stamp : Stamp) where
 
 -- What was sent
 
-flies-or-began : (flight : Option Begun) (author : ℕ) (deed : GateDeed) (tx : Begun) → flight_after flight author deed ≡ Some tx
+flies-or-began : (flight : Option BegunRequest) (author : ℕ) (deed : GateDeed) (tx : BegunRequest) → flight_after flight author deed ≡ Some tx
     → (flight ≡ Some tx) ⊎ Contains (tx_by author deed) tx
 flies-or-began flight author (BeganTx request stamp) tx e =
     let same : begun_with author request stamp ≡ tx = cc in inr (subst (λ b. Contains (begun_with author request stamp ∷ []) b) same (has_head _ []))
@@ -120,7 +120,7 @@ flies-or-began flight author (Heard clock) tx e = inl e
 flies-or-began flight author (Raised epoch) tx e = inl e
 flies-or-began flight author (Finished request) tx e = inl e
 
-flight-from : (log : List GateEntry) (flight : Option Begun) (tx : Begun)
+flight-from : (log : List GateEntry) (flight : Option BegunRequest) (tx : BegunRequest)
     → fold (λ now (entry : GateEntry). flight_after now entry.author entry.deed) flight log ≡ Some tx → (flight ≡ Some tx) ⊎ Contains (txs_of log) tx
 flight-from [] flight tx e = inl e
 flight-from (entry ∷ log) flight tx e = elim (flight-from log (flight_after flight entry.author entry.deed) tx e) [
@@ -132,11 +132,11 @@ flight-from (entry ∷ log) flight tx e = elim (flight-from log (flight_after fl
 ]
 
 -- the transaction in flight was begun
-flight-begun : (log : List GateEntry) (tx : Begun) → flight_of log ≡ Some tx → Contains (txs_of log) tx
+flight-begun : (log : List GateEntry) (tx : BegunRequest) → flight_of log ≡ Some tx → Contains (txs_of log) tx
 flight-begun log tx e = elim (flight-from log None tx e) [ inl none ↦ absurd (let clash : None ≡ Some tx = none in cc) | inr began ↦ began ]
 
 -- each message of a transaction has its stamp
-message-stamp : (shards : ℕ) (log : List GateEntry) (tx : Begun) (ops : List Op) (verdict : Verdict) (addressed : Addressed)
+message-stamp : (shards : ℕ) (log : List GateEntry) (tx : BegunRequest) (ops : List Op) (verdict : Verdict) (addressed : Addressed)
     → Contains (messages_of shards log tx ops verdict) addressed → tx.stamp ≡ addressed.message.stamp
 message-stamp shards log tx ops (Committed number answers counts) addressed h =
     let from = map_has (message_to shards log tx ops counts) (shards_named shards counts) addressed h in
@@ -146,7 +146,7 @@ message-stamp shards log tx ops (Refused op reason at) addressed h = absurd (has
 
 -- a message is empty, or of a transaction that was begun
 pub record IsOfTx (log : List GateEntry) (addressed : Addressed) : Type 0 where
-  pub tx : Begun
+  pub tx : BegunRequest
   pub begun : Contains (txs_of log) tx
   pub stamp_is : tx.stamp ≡ addressed.message.stamp
 
@@ -172,6 +172,7 @@ module _ (home shards shard : ℕ) where
   of-deed before author (Raised epoch) fits addressed h = absurd (has_none addressed h)
   of-deed before author (Finished request) fits addressed h = absurd (has_none addressed h)
 
+  -- each message that was sent to a shard is empty, or has the stamp of a transaction that was begun in the same log
   pub sent-of-tx : (log : List GateEntry) → IsGateLog home shards log → (addressed : Addressed) → Contains (addressed_to shard log) addressed
       → (addressed.message.parts ≡ []) ⊎ IsOfTx log addressed
   sent-of-tx log rules addressed h =
@@ -183,7 +184,7 @@ module _ (home shards shard : ℕ) where
             let begun = Contains-append_left (txs_of cut.before) (txs_of (from.0 ∷ cut.after)) of.tx of.begun in
             let whole : txs_of log ≡ txs_of cut.before ++ txs_of (from.0 ∷ cut.after)
             = ap (λ (l : List GateEntry). txs_of l) cut.is ∙ flat_map-append (λ (e : GateEntry). tx_by e.author e.deed) cut.before (from.0 ∷ cut.after) in
-            inr (record { tx = of.tx; begun = subst (λ (l : List Begun). Contains l of.tx) (sym whole) begun; stamp_is = of.stamp_is })
+            inr (record { tx = of.tx; begun = subst (λ (l : List BegunRequest). Contains l of.tx) (sym whole) begun; stamp_is = of.stamp_is })
       ]
 
 -- Different ids
@@ -203,7 +204,7 @@ module _ {A B : Type 0} (R : B → B → Type 0) (f : A → List B) where
       pairs_cons Across x xs (λ y there a b in_x in_y. pairs_across R (f x) (flat_map f xs) a b h in_x (has_flat f xs y b there in_y))
       (across-each xs (back (f x) (flat_map f xs) h))
 
-abbrev begun-at : GateEntry → List Begun
+abbrev begun-at : GateEntry → List BegunRequest
 begun-at entry = begun_by entry.author entry.deed
 
 -- the entries of all logs
@@ -213,14 +214,14 @@ entries-in logs = flat_map (λ (log : List GateEntry). log) logs
 all-begun : (logs : List (List GateEntry)) → flat_map begun_in logs ≡ flat_map begun-at (entries-in logs)
 all-begun [] = refl
 all-begun (log ∷ logs) =
-    ap (λ (l : List Begun). begun_in log ++ l) (all-begun logs) ∙ sym (flat_map-append begun-at log (entries-in logs))
+    ap (λ (l : List BegunRequest). begun_in log ++ l) (all-begun logs) ∙ sym (flat_map-append begun-at log (entries-in logs))
 
 in-entries : (logs : List (List GateEntry)) (home : ℕ) (entry : GateEntry) → Contains (get_or logs home []) entry → Contains (entries-in logs) entry
 in-entries [] home entry h = absurd (has_none entry h)
 in-entries (log ∷ logs) zero entry h = Contains-append_left log (entries-in logs) entry h
 in-entries (log ∷ logs) (suc home) entry h = Contains-append_right log (entries-in logs) entry (in-entries logs home entry h)
 
-not-both : (author : ℕ) (deed : GateDeed) (tx program : Begun) → Contains (tx_by author deed) tx → Contains (program_by author deed) program → ⊥
+not-both : (author : ℕ) (deed : GateDeed) (tx program : BegunRequest) → Contains (tx_by author deed) tx → Contains (program_by author deed) program → ⊥
 not-both author (BeganTx request stamp) tx program h g = has_none program g
 not-both author (BeganProgram request stamp) tx program h g = has_none tx h
 not-both author (Sent request messages) tx program h g = has_none tx h
@@ -230,7 +231,7 @@ not-both author (Raised epoch) tx program h g = has_none tx h
 not-both author (Finished request) tx program h g = has_none tx h
 
 -- a transaction and a program have different ids, if no two begins have the same id
-pub tx-and-program : (logs : List (List GateEntry)) → AllPairs IdsDiffer (flat_map begun_in logs) → (home other : ℕ) (tx program : Begun)
+pub tx-and-program : (logs : List (List GateEntry)) → AllPairs IdsDiffer (flat_map begun_in logs) → (home other : ℕ) (tx program : BegunRequest)
     → Contains (txs_of (get_or logs home [])) tx → Contains (programs_of (get_or logs other [])) program → id_of tx.stamp ≢ id_of program.stamp
 tx-and-program logs differ home other tx program h g =
     let one = flat_has (λ (e : GateEntry). tx_by e.author e.deed) (get_or logs home []) tx h in
@@ -249,11 +250,11 @@ tx-and-program logs differ home other tx program h g =
 -- What was begun at one gatekeeper
 
 -- a program that was begun is among all that was begun
-pub all-programs : (logs : List (List GateEntry)) (home : ℕ) (program : Begun) → Contains (programs_of (get_or logs home [])) program
+pub all-programs : (logs : List (List GateEntry)) (home : ℕ) (program : BegunRequest) → Contains (programs_of (get_or logs home [])) program
     → Contains (flat_map begun_in logs) program
 all-programs logs home program h = all-in (of_gates logs) home program (program-begun (get_or logs home []) program h)
 
 -- and so is a transaction
-pub all-txs : (logs : List (List GateEntry)) (home : ℕ) (tx : Begun) → Contains (txs_of (get_or logs home [])) tx
+pub all-txs : (logs : List (List GateEntry)) (home : ℕ) (tx : BegunRequest) → Contains (txs_of (get_or logs home [])) tx
     → Contains (flat_map begun_in logs) tx
 all-txs logs home tx h = all-in (of_gates logs) home tx (tx-begun (get_or logs home []) tx h)

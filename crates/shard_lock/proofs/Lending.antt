@@ -6,19 +6,19 @@ use Rattle.std.proofs.lemmas.List.{map-append}
 use Rattle.weave_data.proofs.Members.{has_head, has_none, has_read, has_tail, only}
 use Rattle.weave_data.specs.declared.name.Name.{Name}
 use Rattle.vector_stamp.specs.declared.clock.Stamp.{Stamp}
-use Rattle.vector_stamp.specs.Precedence.{Given}
+use Rattle.vector_stamp.specs.Precedence.{GivenPair}
 use Rattle.vector_stamp.specs.Seeing.{last_seen, seen_of}
 use Rattle.vector_stamp.specs.Settling.{SettledEntry, additions_from, places_of}
 use Rattle.weave_entries.specs.declared.gate_log.GateEntry.{GateEntry}
 use Rattle.weave_entries.specs.declared.oracle_log.OracleDeed.{OracleDeed}
 use Rattle.weave_entries.specs.declared.oracle_log.OracleEntry.{OracleEntry}
 use Rattle.weave_entries.specs.declared.shard_log.ShardEntry.{ShardEntry}
-use Rattle.weave_entries.specs.OracleReplay.{oracle_entry, settled_entry, pairs_of_log}
+use Rattle.weave_entries.specs.OracleReplay.{oracle_entry_of, settled_entry, pairs_of_log}
 use Rattle.weave_entries.specs.OracleRules.{IsOracleLog}
-use Rattle.weave_entries.specs.ShardRules.{entries_of_visit, kept_stamps, last_read, is_judge_asked, is_settled_by, pairs_after_visit, updates_read}
+use Rattle.weave_entries.specs.ShardRules.{entries_of_visit, kept_stamps, last_read, is_judge_asked_by_visit, is_settled_by, pairs_after_visit, updates_read}
 use Rattle.weave_account.specs.Account.{IsBegunStamp}
 use Rattle.chronicle.specs.Logs.{Follows, Log, entries_of}
-use Rattle.oracle_lock.specs.Entries.{oracle_pair, oracle_pairs, oracle_entries}
+use Rattle.seen_logs.specs.Entries.{oracle_pair, oracle_pairs, oracle_entries}
 use Rattle.oracle_lock.specs.Seen.{OracleIsKept, of_gates}
 use Rattle.oracle_lock.proofs.CallEntries.{call-by, call-events, none-by, KeepsGained}
 use Rattle.oracle_lock.proofs.Settling.{pairs_back}
@@ -39,7 +39,7 @@ last-in (suc zero) (update ∷ updates) event h =
     subst (λ (s : Stamp). Contains (update ∷ updates) s) (only update event h) (has_head update updates)
 last-in (suc (suc n)) (update ∷ updates) event h = has_tail update updates event (last-in (suc n) updates event h)
 
-module _ (pairs : List Given) (author : ℕ) (stamp : Stamp) (v : Name) (log : List ShardEntry) where
+module _ (pairs : List GivenPair) (author : ℕ) (stamp : Stamp) (v : Name) (log : List ShardEntry) where
   abbrev asked : List Stamp
   asked = last_read pairs stamp v log
 
@@ -55,13 +55,14 @@ module _ (pairs : List Given) (author : ℕ) (stamp : Stamp) (v : Name) (log : L
       ]
 
   module _ (before after : List OracleEntry)
-      (log_is : (entries : List SettledEntry) → map settled_entry after ≡ map settled_entry before ++ entries → after ≡ before ++ map oracle_entry entries) where
+      (log_is : (entries : List SettledEntry) → map settled_entry after ≡ map settled_entry before ++ entries → after ≡ before ++ map oracle_entry_of entries) where
     -- what a judge's log says of the oracle's
     pub logged : {A F : Type 0} (r : Result A F) → OnOk r (IsTrue true → map settled_entry after ≡ map settled_entry before ++ entries)
-        → OnOk r (after ≡ before ++ map oracle_entry entries)
+        → OnOk r (after ≡ before ++ map oracle_entry_of entries)
     logged (Ok state) h = log_is entries (h refl)
     logged (Err fault) h = tt
 
+    -- if the visit failed and left the judge's log as it was, the oracle's log is as it was
     pub not-logged : {A F : Type 0} (r : Result A F) → OnErr r (IsTrue true → map settled_entry after ≡ map settled_entry before)
         → OnErr r (after ≡ before)
     not-logged (Ok state) h = tt
@@ -82,12 +83,12 @@ module _ (pairs : List Given) (author : ℕ) (stamp : Stamp) (v : Name) (log : L
 -- The oracle's log in its hold
 
 -- what a visit adds to the oracle's log is of its author
-pub follows : {A F : Type 0} (number author : ℕ) (entered : Log OracleDeed) (before after : List OracleEntry) (pairs : List Given)
+pub follows : {A F : Type 0} (number author : ℕ) (entered : Log OracleDeed) (before after : List OracleEntry) (pairs : List GivenPair)
     (stamp : Stamp) (v : Name) (log : List ShardEntry) (r : Result A F) → author ≡ number → entered ≡ oracle_pairs before
-    → OnOk r (after ≡ before ++ map oracle_entry (entries_of_visit pairs author stamp v log)) → OnErr r (after ≡ before)
+    → OnOk r (after ≡ before ++ map oracle_entry_of (entries_of_visit pairs author stamp v log)) → OnErr r (after ≡ before)
     → Follows number entered (oracle_pairs after)
 follows number author entered before after pairs stamp v log (Ok state) same is logged kept =
-    let more = map oracle_entry (entries_of_visit pairs author stamp v log) in
+    let more = map oracle_entry_of (entries_of_visit pairs author stamp v log) in
     let asked = last_read pairs stamp v log in (
       oracle_pairs more,
       ap (λ (l : Log OracleDeed). l ++ oracle_pairs more) is ∙ (sym (map-append oracle_pair before more)
@@ -119,11 +120,11 @@ pub record VisitsLent (author request : ℕ) (stamp : Stamp) (v : Name) (old new
       ≡ state_of_updates (take (updates_read (pairs_of_log before) stamp v old.log) (updates_of v old.log)))
   pub entry : OnOk result (AddsEntry old new author (Visited request stamp v
       (updates_read (pairs_of_log before) stamp v old.log) (is_settled_by (pairs_of_log before) stamp v old.log)))
-  pub logged : OnOk result (after ≡ before ++ map oracle_entry
+  pub logged : OnOk result (after ≡ before ++ map oracle_entry_of
       (entries_of_visit (pairs_of_log before) author stamp v old.log))
   pub pairs : OnOk result (pairs_of_log after ≡ pairs_after_visit (pairs_of_log before) stamp v old.log)
   pub not_ready : IsSome (first_unready old.gates stamp old.log) → after ≡ before
-  pub not_asked : is_judge_asked stamp v old.log ≡ false → after ≡ before
+  pub not_asked : is_judge_asked_by_visit stamp v old.log ≡ false → after ≡ before
   pub refused : IfErr result (λ fault. IsRightlyUnread old.gates stamp old.log fault)
   pub unchanged : OnErr result (new ≡ old)
   pub oracle : OnErr result (after ≡ before)
@@ -131,7 +132,7 @@ pub record VisitsLent (author request : ℕ) (stamp : Stamp) (v : Name) (old new
 module _ (number author request : ℕ) (stamp : Stamp) (v : Name) (old new : ShardView) (had own entered has : Log OracleDeed)
     (before after : List OracleEntry) (result : Result State VisitFault) (same : author ≡ number) (is : entered ≡ oracle_pairs before)
     (left : has ≡ oracle_pairs after) where
-  abbrev pairs-before : List Given
+  abbrev pairs-before : List GivenPair
   pairs-before = pairs_of_log before
 
   still : after ≡ before → has ≡ oracle_pairs before
@@ -149,7 +150,7 @@ module _ (number author request : ℕ) (stamp : Stamp) (v : Name) (old new : Sha
     entry = subst (λ (n : ℕ). OnOk result (AddsEntry old new n (Visited request stamp v (updates_read pairs-before stamp v old.log)
         (is_settled_by pairs-before stamp v old.log)))) same lent.entry;
     logged = on-ok result (λ e. left ∙ (ap (λ (l : List OracleEntry). oracle_pairs l) e
-        ∙ ap (λ (n : ℕ). oracle_pairs (before ++ map oracle_entry
+        ∙ ap (λ (n : ℕ). oracle_pairs (before ++ map oracle_entry_of
         (entries_of_visit pairs-before n stamp v old.log))) same)) lent.logged;
     pairs = on-ok result (λ e. ap (λ (l : Log OracleDeed). pairs_of_log (oracle_entries l)) left ∙ (ap (λ (l : List OracleEntry). pairs_of_log l)
         (pairs_back after) ∙ e)) lent.pairs;

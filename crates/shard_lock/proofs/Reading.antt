@@ -10,13 +10,13 @@ use Rattle.weave_data.proofs.Members.{filter_has, has_head, has_map, map_has, ta
 use Rattle.weave_data.specs.Names.{shard_of}
 use Rattle.weave_data.specs.declared.name.Name.{Name}
 use Rattle.vector_stamp.specs.declared.clock.Stamp.{Stamp}
-use Rattle.vector_stamp.specs.Precedence.{Given, Precedes, precedes}
+use Rattle.vector_stamp.specs.Precedence.{GivenPair, Precedes, precedes}
 use Rattle.vector_stamp.specs.Seeing.{last_seen, seen_of}
 use Rattle.vector_stamp.specs.Settling.{SettledEntry, additions_from, entries_of_call, pairs_of, places_of}
 use Rattle.weave_entries.specs.declared.oracle_log.OracleEntry.{OracleEntry}
 use Rattle.weave_entries.specs.declared.shard_log.ShardEntry.{ShardEntry}
 use Rattle.weave_entries.specs.GateReplay.{programs_of}
-use Rattle.weave_entries.specs.OracleReplay.{oracle_entry, pairs_of_log}
+use Rattle.weave_entries.specs.OracleReplay.{oracle_entry_of, pairs_of_log}
 use Rattle.weave_entries.specs.ShardReplay.{Update, Visit, updates_of}
 use Rattle.weave_entries.specs.ShardRules.{IsKeptFor, entries_of_visit, is_settled_by, last_read, pairs_after_visit, update_stamps, updates_read}
 use Rattle.weave_entries.specs.StoreReplay.{commits_naming, commits_of, names_vertex}
@@ -30,13 +30,13 @@ use Rattle.shard_lock.specs.VisitLaws.{VisitLaws}
 use Rattle.vector_stamp.proofs.Seen.{last-cases}
 
 -- the judge's entry, if it had to put what was seen last before the program
-record Settles (pairs : List Given) (author : ℕ) (stamp : Stamp) (events : List Stamp) : Type 0 where
+record Settles (pairs : List GivenPair) (author : ℕ) (stamp : Stamp) (events : List Stamp) : Type 0 where
   entry : SettledEntry
   there : Contains (entries_of_call author events stamp (places_of (additions_from 0 pairs events stamp))) entry
   later_is : entry.later ≡ stamp
   earlier_is : entry.earlier ≡ events
 
-one-settles : (pairs : List Given) (author : ℕ) (stamp update : Stamp) → IsTrue (list_any (λ u. not (precedes pairs u stamp)) (update ∷ []))
+one-settles : (pairs : List GivenPair) (author : ℕ) (stamp update : Stamp) → IsTrue (list_any (λ u. not (precedes pairs u stamp)) (update ∷ []))
     → Settles pairs author stamp (update ∷ [])
 one-settles pairs author stamp update lacking = at (precedes pairs update stamp) refl lacking
   where
@@ -53,7 +53,7 @@ one-settles pairs author stamp update lacking = at (precedes pairs update stamp)
           earlier_is = refl;
         }
 
-settles : (pairs : List Given) (author : ℕ) (stamp : Stamp) (n : ℕ) (updates : List Stamp)
+settles : (pairs : List GivenPair) (author : ℕ) (stamp : Stamp) (n : ℕ) (updates : List Stamp)
     → IsTrue (list_any (λ u. not (precedes pairs u stamp)) (last_seen n updates)) → Settles pairs author stamp (last_seen n updates)
 settles pairs author stamp n updates lacking = elim (last-cases n updates) [
   | inl none ↦
@@ -64,7 +64,7 @@ settles pairs author stamp n updates lacking = elim (last-cases n updates) [
 
 module _ (laws : VisitLaws) (shards : ℕ) (seen : Account) (shard : ℕ) (log : List ShardEntry) (has : HasSeen shards seen.store shard log)
     (before : List OracleEntry) (author request : ℕ) (stamp : Stamp) (v : Name) (here : shard_of v shards ≡ shard) (base : IsKeptFor stamp v log) where
-  abbrev pairs : List Given
+  abbrev pairs : List GivenPair
   pairs = pairs_of_log before
 
   abbrev n : ℕ
@@ -74,7 +74,7 @@ module _ (laws : VisitLaws) (shards : ℕ) (seen : Account) (shard : ℕ) (log :
   last = last_read pairs stamp v log
 
   abbrev more : List OracleEntry
-  more = map oracle_entry (entries_of_visit pairs author stamp v log)
+  more = map oracle_entry_of (entries_of_visit pairs author stamp v log)
 
   abbrev pub visit : Visit
   visit = record { author = author; request = request; stamp = stamp; vertex = v; updates = n; settled = is_settled_by pairs stamp v log }
@@ -107,14 +107,14 @@ module _ (laws : VisitLaws) (shards : ℕ) (seen : Account) (shard : ℕ) (log :
         ∙ ap (option_map (λ (u : Update). u.stamp)) e in
         let back : n ≡ n - 1 + 1 = omega (arith, some) in
         let one : last ≡ update.stamp ∷ [] = last-is ∙ (ap (λ k. last_seen k stamps) back ∙ laws.named stamps update.stamp (n - 1) at) in
-        subst (λ (ps : List Given). Precedes ps update.stamp stamp) (sym pairs_are)
+        subst (λ (ps : List GivenPair). Precedes ps update.stamp stamp) (sym pairs_are)
         ((laws.tested (pairs_after_visit pairs stamp v log) update.stamp stamp).1
         (laws.all_precede pairs last stamp update.stamp (subst (λ (l : List Stamp). Contains l update.stamp) (sym one) (has_head update.stamp []))))
 
     before-skipped : ForSome (update_at v n log) (λ (update : Update). Precedence seen stamp update.stamp)
     before-skipped update e =
         let added = pairs_of (additions_from 0 pairs last stamp) stamp in
-        subst (λ (ps : List Given). Precedes ps stamp update.stamp) (sym pairs_are)
+        subst (λ (ps : List GivenPair). Precedes ps stamp update.stamp) (sym pairs_are)
         ((laws.tested (pairs_after_visit pairs stamp v log) stamp update.stamp).1
         (laws.grows pairs (pairs ++ added) (λ a b h. Contains-append_left pairs added (a, b) h) stamp update.stamp
         (laws.skipped pairs stamp v log n update (omega arith) e)))
@@ -124,10 +124,10 @@ module _ (laws : VisitLaws) (shards : ℕ) (seen : Account) (shard : ℕ) (log :
         let made = subst (Settles pairs author stamp) (sym last-is) (settles pairs author stamp n (update_stamps v log)
         (subst (λ (l : List Stamp). IsTrue (list_any (λ u. not (precedes pairs u stamp)) l)) last-is marked)) in
         record {
-          entry = oracle_entry made.entry;
-          is_there = subst (λ (l : List OracleEntry). Contains l (oracle_entry made.entry)) (sym oracle_is)
-              (Contains-append_right before more (oracle_entry made.entry)
-              (has_map oracle_entry (entries_of_visit pairs author stamp v log) made.entry made.there));
+          entry = oracle_entry_of made.entry;
+          is_there = subst (λ (l : List OracleEntry). Contains l (oracle_entry_of made.entry)) (sym oracle_is)
+              (Contains-append_right before more (oracle_entry_of made.entry)
+              (has_map oracle_entry_of (entries_of_visit pairs author stamp v log) made.entry made.there));
           later_is = made.later_is;
           earlier_is = made.earlier_is ∙ last-is;
         }

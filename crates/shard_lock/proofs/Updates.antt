@@ -16,7 +16,7 @@ use Rattle.weave_entries.specs.declared.message.Message.{Message}
 use Rattle.weave_entries.specs.declared.shard_log.ShardDeed.{ShardDeed}
 use Rattle.weave_entries.specs.declared.shard_log.ShardDeed.TheVariants.{Arrived, Applied, Visited, Collected}
 use Rattle.weave_entries.specs.declared.shard_log.ShardEntry.{ShardEntry}
-use Rattle.weave_entries.specs.GateReplay.{Begun, begun_in, programs_of, txs_of}
+use Rattle.weave_entries.specs.GateReplay.{BegunRequest, begun_in, programs_of, txs_of}
 use Rattle.weave_entries.specs.GateRules.{IsGateLog}
 use Rattle.weave_entries.specs.ShardReplay.{Arrival, Update, applied_messages, arrival_by, arrivals_of, arrived_at, processed_of, updates_in, updates_of}
 use Rattle.weave_entries.specs.ShardRules.{dropped_of, kept_stamps, update_stamps}
@@ -30,7 +30,7 @@ use Rattle.shard_lock.proofs.Begins.{all-programs, all-txs, sent-of-tx, tx-and-p
 -- the update is of a transaction that was begun
 pub record IsUpdateOfTx (seen : Account) (update : Update) : Type 0 where
   pub home : ℕ
-  pub tx : Begun
+  pub tx : BegunRequest
   pub begun : Contains (txs_of (gate_log seen home)) tx
   pub stamp_is : tx.stamp ≡ update.stamp
 
@@ -88,17 +88,17 @@ module _ (shards : ℕ) (seen : Account) (shard : ℕ) (log : List ShardEntry) (
       (drop_has (dropped_of v log) (update_stamps v log) stamp h) in
       (from.0, update-of-tx v from.0 from.1, from.2)
 
-  module _ (home : ℕ) (program : Begun) (begun : Contains (programs_of (gate_log seen home)) program) (v : Name) where
+  module _ (home : ℕ) (program : BegunRequest) (begun : Contains (programs_of (gate_log seen home)) program) (v : Name) where
     -- what is kept, and the program's stamp, were begun
     pub asked-begun : (event : Stamp) → Contains (program.stamp ∷ kept_stamps v log) event → IsBegunStamp seen event
     asked-begun event h = elim (has_read program.stamp (kept_stamps v log) event h) [
       | inl same ↦ subst (λ (s : Stamp). IsBegunStamp seen s) same
-          (has_map (λ (b : Begun). b.stamp) (flat_map begun_in seen.gates) program (all-programs seen.gates home program begun))
+          (has_map (λ (b : BegunRequest). b.stamp) (flat_map begun_in seen.gates) program (all-programs seen.gates home program begun))
       | inr kept ↦
           let of = kept-of-tx v event kept in
           let tx = of.1 in
           subst (λ (s : Stamp). IsBegunStamp seen s) (tx.stamp_is ∙ of.2)
-          (has_map (λ (b : Begun). b.stamp) (flat_map begun_in seen.gates) tx.tx (all-txs seen.gates tx.home tx.tx tx.begun))
+          (has_map (λ (b : BegunRequest). b.stamp) (flat_map begun_in seen.gates) tx.tx (all-txs seen.gates tx.home tx.tx tx.begun))
     ]
 
     -- and their ids differ

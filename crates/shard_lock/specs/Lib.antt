@@ -1,4 +1,3 @@
-pub mod Entries
 pub mod Frames
 pub mod Notes
 pub mod LowerLaws

@@ -11,11 +11,10 @@ use Rattle.seen_logs.specs.Seen.{AreLegal, ShardRefersWithin}
 use Rattle.chronicle.specs.declared.pass.Pass.{Pass}
 use Rattle.chronicle.specs.Frames.{Frame}
 use Rattle.chronicle.specs.Logs.{Log}
-use Rattle.chronicle.specs.Passes.{seen, noted, lock_noted}
-use Rattle.oracle_lock.specs.Entries.{oracle_entries}
+use Rattle.chronicle.specs.Passes.{seen_by_pass, seen_by_note, lock_noted}
+use Rattle.seen_logs.specs.Entries.{oracle_entries, store_entries}
 use Rattle.oracle_lock.specs.Seen.{gates_noted, gates_seen}
 use Rattle.shard_lock.specs.declared.notes.ShardNotes.{ShardNotes}
-use Rattle.shard_lock.specs.Entries.{store_entries}
 use Rattle.shard_lock.specs.Frames.{shard_frame}
 
 -- this log at its shard's place, and nothing of the other shards' logs
@@ -24,8 +23,8 @@ at_place zero own = own ∷ []
 at_place (suc number) own = [] ∷ at_place number own
 
 -- these logs as an account, with a shard's own log in its place
-abbrev pub account_of : ℕ → List ShardEntry → List (List GateEntry) → Log StoreDeed → Log OracleDeed → Account
-account_of number own gates store oracle = record {
+abbrev pub account_of_shard : ℕ → List ShardEntry → List (List GateEntry) → Log StoreDeed → Log OracleDeed → Account
+account_of_shard number own gates store oracle = record {
   gates = gates;
   store = store_entries store;
   oracle = oracle_entries oracle;
@@ -34,17 +33,20 @@ account_of number own gates store oracle = record {
 }
 
 -- what a shard has seen: its own log, whole, and of the other logs what its notes have
-abbrev pub seen_of : ShardView → ShardNotes → Account
-seen_of shard notes =
-    account_of shard.number shard.log (gates_noted notes.gates.items) (noted notes.store) (noted notes.oracle)
+abbrev pub seen_of_shard : ShardView → ShardNotes → Account
+seen_of_shard shard notes =
+    account_of_shard shard.number shard.log (gates_noted notes.gates.items) (seen_by_note notes.store)
+    (seen_by_note notes.oracle)
 
 -- what passes have seen, with a shard's own log in its place
-abbrev pub seen_by_passes : ℕ → List ShardEntry → List (Pass GateDeed) → Pass StoreDeed → Pass OracleDeed → Account
-seen_by_passes number own gates store oracle = account_of number own (gates_seen gates) (seen store) (seen oracle)
+abbrev pub seen_by_shard_passes : ℕ → List ShardEntry → List (Pass GateDeed) → Pass StoreDeed → Pass OracleDeed
+    → Account
+seen_by_shard_passes number own gates store oracle =
+    account_of_shard number own (gates_seen gates) (seen_by_pass store) (seen_by_pass oracle)
 
 -- the frame of a shard with notes
-abbrev pub frame_of : ShardView → ℕ → ShardNotes → Frame
-frame_of shard shards notes = shard_frame shard.number shard.gates shards (lock_noted notes.store)
+abbrev pub frame_of_shard : ShardView → ℕ → ShardNotes → Frame
+frame_of_shard shard shards notes = shard_frame shard.number shard.gates shards (lock_noted notes.store)
     (lock_noted notes.oracle) (map lock_noted notes.gates.items)
 
 -- a shard with notes as contracts see it
@@ -58,5 +60,5 @@ pub record NotedShardView : Type 0 where
 pub record ShardIsKept (shard : ShardView) (shards : ℕ) (notes : ShardNotes) : Type 0 where
   pub number : shard.number < shards
   pub gates : length notes.gates.items ≡ shard.gates
-  pub legal : AreLegal shard.gates shards (seen_of shard notes)
-  pub refers : ShardRefersWithin shards (seen_of shard notes) shard.number
+  pub legal : AreLegal shard.gates shards (seen_of_shard shard notes)
+  pub refers : ShardRefersWithin shards (seen_of_shard shard notes) shard.number

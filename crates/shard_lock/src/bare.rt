@@ -26,7 +26,7 @@ impl<G: Machine, S: Machine, O: Machine> Bare for BareShard<G, S, O> {
     ghost use Rattle.std.specs.Prelude.{map};
     ghost use Rattle.chronicle.specs.Locks.{lock_of, name_of};
     ghost use Rattle.lock_row.specs.Rows.{names_of};
-    ghost use Rattle.shard_lock.specs.Entries.{shard_pair};
+    ghost use Rattle.seen_logs.specs.Entries.{shard_pair};
     ghost use Rattle.shard_lock.specs.Frames.{shard_frame};
 
     ghost frame = { λ b _ _. shard_frame b.shard.number b.shard.gates b.shards (name_of (lock_of b.store.value))

@@ -12,8 +12,8 @@ ghost use Rattle.weave_account.specs.Account.{gate_log, shard_log};
 ghost use Rattle.seen_logs.specs.Seen.{AreLegal, ShardRefersWithin};
 ghost use Rattle.chronicle.specs.Logs.{Log};
 ghost use Rattle.shard_lock.specs.declared.notes.ShardNotes.{ShardNotes};
-ghost use Rattle.shard_lock.specs.Entries.{shard_entries, shard_pair};
-ghost use Rattle.shard_lock.specs.Notes.{ShardIsKept, seen_of};
+ghost use Rattle.seen_logs.specs.Entries.{shard_entries, shard_pair};
+ghost use Rattle.shard_lock.specs.Notes.{ShardIsKept, seen_of_shard};
 
 use crate::lower_laws::the_crates_below_keep_their_laws;
 
@@ -29,8 +29,8 @@ pub fn notes_of_whole_logs_are_enough()
     ensures { (shard : ShardView) (shards : ℕ) (notes : ShardNotes) (account : Account) → shard.number < shards
         → length notes.gates.items ≡ shard.gates → AreLegal shard.gates shards account
         → ShardRefersWithin shards account shard.number
-        → ((k : ℕ) → gate_log (seen_of shard notes) k ≡ gate_log account k)
-        → (seen_of shard notes).store ≡ account.store → (seen_of shard notes).oracle ≡ account.oracle
+        → ((k : ℕ) → gate_log (seen_of_shard shard notes) k ≡ gate_log account k)
+        → (seen_of_shard shard notes).store ≡ account.store → (seen_of_shard shard notes).oracle ≡ account.oracle
         → shard.log ≡ shard_log account shard.number → ShardIsKept shard shards notes }
 {
     the_crates_below_keep_their_laws();

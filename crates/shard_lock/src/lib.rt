@@ -11,10 +11,10 @@
 mod bare;
 pub mod laws;
 mod lower_laws;
-mod noted;
+mod noted_shard;
 mod notes;
 mod visiting;
 
 pub use bare::BareShard;
-pub use noted::NotedShard;
+pub use noted_shard::NotedShard;
 pub use notes::ShardNotes;

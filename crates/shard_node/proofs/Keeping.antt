@@ -14,8 +14,7 @@ use Rattle.weave_data.specs.declared.name.Name.{Name}
 use Rattle.vector_stamp.specs.declared.clock.Clock.{Clock}
 use Rattle.vector_stamp.specs.declared.clock.Stamp.{Stamp}
 use Rattle.version_chain.specs.Chains.{ChainView}
-use Rattle.shard_queue.specs.Incoming as incoming
-use Rattle.shard_queue.specs.Incoming.{Incoming, nothing_arrived, waiting_at, has_arrived, after_arrival, after_head, WaitingLaws}
+use Rattle.shard_queue.specs.Incoming.{Incoming, nothing_arrived, waiting_at, has_arrived, after_arrival, after_head, WaitingLaws, waiting_head}
 use Rattle.version_graph.specs.Graphs.{Chains, chain_of, after_parts}
 use Rattle.weave_entries.specs.declared.message.Message.{Message}
 use Rattle.weave_entries.specs.declared.shard_log.ShardEntry.{ShardEntry}
@@ -23,7 +22,7 @@ use Rattle.weave_entries.specs.declared.shard_log.ShardDeed.TheVariants.{Arrived
 use Rattle.weave_entries.specs.ShardReplay.{arrived_at, processed_by, processed_count, head_of, updates_in, updates_of, waits_at, dropped_after, bound_of}
 use Rattle.weave_entries.specs.ShardRules.{dropped_of, IsTakable, PassesAt, FitsShard, ArrivesOnce, IsReadRightly}
 use Rattle.shard_node.specs.declared.waiting.Waiting.{Waiting}
-use Rattle.shard_node.specs.Keeping.{chain_in_if, collected_if, head_in, LeadsTo, IsInboxOf, IsReplayOf}
+use Rattle.shard_node.specs.Keeping.{chain_in_if, collected_if, head_in, LeadsTo, IsInboxOf, IsShardReplay}
 use Rattle.shard_node.proofs.Leading.{stamp_in, stamp_at, leads-new, leads-some, leads-stamp, leads-message, leads-still}
 use Rattle.weave_entries.proofs.ShardLogs.{arrived-still, arrived-new, arrived-others, count-still, count-applied, updates-still, updates-applied, all-still, all-applied, dropped-push}
 use Rattle.shard_node.proofs.Updates.{chain_from, parts-on, still-few}
@@ -39,6 +38,7 @@ module _ (gate : ℕ) (log : List ShardEntry) (inbox : Incoming Waiting) (kept :
     | inr within ↦ let there : false ≡ true = sym (ap is_some none) ∙ kept.arrived number some within in absurd cc
   ]
 
+  -- a number from 1 has arrived in the inbox exactly if its message has arrived by the log
   pub has-arrived : (number : ℕ) → 1 ≤ number → has_arrived number inbox ≡ is_some (arrived_at gate number log)
   has-arrived number some = elim (leb_tells number inbox.processed) [
     | inl within ↦ rw within.0 (sym (kept.arrived number some (subst (λ n. number ≤ n) kept.processed within.1)))
@@ -46,14 +46,16 @@ module _ (gate : ℕ) (log : List ShardEntry) (inbox : Incoming Waiting) (kept :
   ]
 
   -- its head leads to the head of the channel
-  pub head-leads : LeadsTo log (incoming.head_of inbox) (head_of gate log)
+  pub head-leads : LeadsTo log (waiting_head inbox) (head_of gate log)
   head-leads = subst (λ (found : Option Waiting). LeadsTo log found (head_of gate log)) (sym (ap (λ n. waiting_at (n + 1) inbox) kept.processed)) (kept.waits (processed_count gate log + 1) (omega arith))
 
+  -- the head of the inbox, in the log, is the head of the channel
   pub head-is : head_in log inbox ≡ head_of gate log
-  head-is = leads-message log (incoming.head_of inbox) (head_of gate log) head-leads
+  head-is = leads-message log (waiting_head inbox) (head_of gate log) head-leads
 
-  pub head-stamp : option_map stamp_at (incoming.head_of inbox) ≡ option_map stamp_in (head_of gate log)
-  head-stamp = leads-stamp log (incoming.head_of inbox) (head_of gate log) head-leads
+  -- and its stamp is that of the channel's head
+  pub head-stamp : option_map stamp_at (waiting_head inbox) ≡ option_map stamp_in (head_of gate log)
+  head-stamp = leads-stamp log (waiting_head inbox) (head_of gate log) head-leads
 
   -- a number that waits leads to what it led to in a longer log, if that has the same message under it
   waits-still : (entry : ShardEntry) (number : ℕ) → processed_count gate log < number → arrived_at gate number (log ++ entry ∷ []) ≡ arrived_at gate number log → LeadsTo (log ++ entry ∷ []) (waiting_at number inbox) (arrived_at gate number (log ++ entry ∷ []))
@@ -140,7 +142,7 @@ few-by (Some bound) v log dropped few = few-dropped bound dropped (updates_of v 
 
 -- All that is kept
 
-module _ (gates : ℕ) (inboxes : List (Incoming Waiting)) (chains : Chains) (log : List ShardEntry) (kept : IsReplayOf gates inboxes chains log) where
+module _ (gates : ℕ) (inboxes : List (Incoming Waiting)) (chains : Chains) (log : List ShardEntry) (kept : IsShardReplay gates inboxes chains log) where
   -- a deed that drops nothing leaves the number dropped as it was
   dropped-same : (entry : ShardEntry) → ((v : Name) (dropped : ℕ) → dropped_after v log entry.deed dropped ≡ dropped) → (v : Name) → dropped_of v (log ++ entry ∷ []) ≡ dropped_of v log
   dropped-same entry still v = dropped-push v [] log entry 0 ∙ still v (dropped_of v log)
@@ -179,14 +181,14 @@ module _ (gates : ℕ) (inboxes : List (Incoming Waiting)) (chains : Chains) (lo
         → ArrivesOnce gates log gate number message → slice_get inboxes gate ≡ Some inbox
         → next ≡ after_arrival number waiting inbox
         → longer ≡ log ++ record { author = author; deed = Arrived gate number message } ∷ []
-        → IsReplayOf gates (slice_set inboxes gate next) chains longer
+        → IsShardReplay gates (slice_set inboxes gate next) chains longer
     keeps_arrived waiting place stamp once at is longer_is =
         let entry : ShardEntry = record { author = author; deed = Arrived gate number message } in
         let here : IsInboxOf gate (log ++ entry ∷ []) next = subst (IsInboxOf gate (log ++ entry ∷ [])) (sym is)
         (inbox-arrives gate log inbox
         (kept.channels gate inbox at) laws author number message waiting place stamp once.from_one once.new) in
         let still : (v : Name) (dropped : ℕ) → dropped_after v log entry.deed dropped ≡ dropped = λ v dropped. refl in
-        subst (λ (l : List ShardEntry). IsReplayOf gates (slice_set inboxes gate next) chains l) (sym longer_is) (record {
+        subst (λ (l : List ShardEntry). IsShardReplay gates (slice_set inboxes gate next) chains l) (sym longer_is) (record {
           some_gate = kept.some_gate;
           few_gates = kept.few_gates;
           count = length-set inboxes gate next ∙ kept.count;
@@ -215,7 +217,7 @@ module _ (gates : ℕ) (inboxes : List (Incoming Waiting)) (chains : Chains) (lo
         → number ≡ inbox.processed + 1 →
         ((v : Name) → chain_of after v ≡ after_parts message.stamp v (chain_of chains v) message.parts)
         → longer ≡ log ++ record { author = author; deed = Applied gate number } ∷ []
-        → IsReplayOf gates (slice_set inboxes gate next) after longer
+        → IsShardReplay gates (slice_set inboxes gate next) after longer
     keeps_applied after below is in_turn passes at next_is number_is applied longer_is =
         let channel = kept.channels gate inbox at in
         let entry : ShardEntry = record { author = author; deed = Applied gate (processed_count gate log + 1) } in
@@ -224,7 +226,7 @@ module _ (gates : ℕ) (inboxes : List (Incoming Waiting)) (chains : Chains) (lo
         let here : IsInboxOf gate (log ++ entry ∷ []) next = subst (IsInboxOf gate (log ++ entry ∷ [])) (sym next_is)
         (inbox-advances gate log inbox channel laws author message is) in
         let still : (v : Name) (dropped : ℕ) → dropped_after v log entry.deed dropped ≡ dropped = λ v dropped. refl in
-        subst (λ (l : List ShardEntry). IsReplayOf gates (slice_set inboxes gate next) after l) (sym whole) (record {
+        subst (λ (l : List ShardEntry). IsShardReplay gates (slice_set inboxes gate next) after l) (sym whole) (record {
           some_gate = kept.some_gate;
           few_gates = kept.few_gates;
           count = length-set inboxes gate next ∙ kept.count;
@@ -252,11 +254,11 @@ module _ (gates : ℕ) (inboxes : List (Incoming Waiting)) (chains : Chains) (lo
   pub keeps_visited : (author request : ℕ) (stamp : Stamp) (vertex : Name) (updates : ℕ) (settled : Bool) (longer : List ShardEntry)
       → IsReadRightly gates log stamp vertex updates settled
       → longer ≡ log ++ record { author = author; deed = Visited request stamp vertex updates settled } ∷ []
-      → IsReplayOf gates inboxes chains longer
+      → IsShardReplay gates inboxes chains longer
   keeps_visited author request stamp vertex updates settled longer right longer_is =
       let entry : ShardEntry = record { author = author; deed = Visited request stamp vertex updates settled } in
       let still : (v : Name) (dropped : ℕ) → dropped_after v log entry.deed dropped ≡ dropped = λ v dropped. refl in
-      subst (λ (l : List ShardEntry). IsReplayOf gates inboxes chains l) (sym longer_is) (record {
+      subst (λ (l : List ShardEntry). IsShardReplay gates inboxes chains l) (sym longer_is) (record {
         some_gate = kept.some_gate;
         few_gates = kept.few_gates;
         count = kept.count;
@@ -272,12 +274,12 @@ module _ (gates : ℕ) (inboxes : List (Incoming Waiting)) (chains : Chains) (lo
   pub keeps_collected : (author : ℕ) (bound : Option Clock) (after : Chains) (longer : List ShardEntry)
       → bound ≡ bound_of gates log → ((v : Name) → chain_of after v ≡ collected_if bound (chain_of chains v))
       → longer ≡ log ++ record { author = author; deed = Collected bound } ∷ []
-      → IsReplayOf gates inboxes after longer
+      → IsShardReplay gates inboxes after longer
   keeps_collected author bound after longer bound_is collected_are longer_is =
       let entry : ShardEntry = record { author = author; deed = Collected bound } in
       let dropped : (v : Name) → dropped_of v (log ++ entry ∷ []) ≡ dropped_after v log (Collected bound) (dropped_of v log) = λ v. dropped-push v [] log entry 0 in
       let same : (v : Name) → updates_of v (log ++ entry ∷ []) ≡ updates_of v log = λ v. updates-still log entry refl kept.all_arrived v in
-      subst (λ (l : List ShardEntry). IsReplayOf gates inboxes after l) (sym longer_is) (record {
+      subst (λ (l : List ShardEntry). IsShardReplay gates inboxes after l) (sym longer_is) (record {
         some_gate = kept.some_gate;
         few_gates = kept.few_gates;
         count = kept.count;
@@ -298,9 +300,9 @@ module _ (gates : ℕ) (inboxes : List (Incoming Waiting)) (chains : Chains) (lo
       })
 
 -- before the first entry nothing has arrived, and no vertex has updates
-pub keeps_none : (gates : ℕ) (inboxes : List (Incoming Waiting)) (chains : Chains) (log : List ShardEntry) → log ≡ [] → 1 ≤ gates → gates ≤ 8 → length inboxes ≡ gates → All (λ (inbox : Incoming Waiting). inbox ≡ nothing_arrived) inboxes → ((v : Name) → chain_of chains v ≡ None) → IsReplayOf gates inboxes chains log
+pub keeps_none : (gates : ℕ) (inboxes : List (Incoming Waiting)) (chains : Chains) (log : List ShardEntry) → log ≡ [] → 1 ≤ gates → gates ≤ 8 → length inboxes ≡ gates → All (λ (inbox : Incoming Waiting). inbox ≡ nothing_arrived) inboxes → ((v : Name) → chain_of chains v ≡ None) → IsShardReplay gates inboxes chains log
 keeps_none gates inboxes chains log log_is some few count empty none =
-    subst (λ (l : List ShardEntry). IsReplayOf gates inboxes chains l) (sym log_is) (record {
+    subst (λ (l : List ShardEntry). IsShardReplay gates inboxes chains l) (sym log_is) (record {
       some_gate = some;
       few_gates = few;
       count = count;

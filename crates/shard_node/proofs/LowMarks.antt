@@ -38,11 +38,13 @@ module _ (log : List ShardEntry) (author gate : ℕ) where
   abbrev applied : ShardEntry
   applied = record { author = author; deed = Applied gate (processed_count gate log + 1) }
 
+  -- the head that was processed is then the last processed message of its channel
   pub last-applied : last_of gate (log ++ applied ∷ []) ≡ head_of gate log
   last-applied =
       ap (λ n. arrived_at gate n (log ++ applied ∷ [])) (count-applied log author gate (processed_count gate log + 1) gate ∙ ap (λ (b : Bool). processed_count gate log + cond b 1 0) (eq-eqb gate gate refl))
       ∙ arrived-still log applied refl gate (processed_count gate log + 1)
 
+  -- the last processed messages of the other channels stay
   pub last-others : (other : ℕ) → other ≢ gate → last_of other (log ++ applied ∷ []) ≡ last_of other log
   last-others other differ =
       let count : processed_count other (log ++ applied ∷ []) ≡ processed_count other log = count-applied log author gate (processed_count gate log + 1) other ∙ ap (λ (b : Bool). processed_count other log + cond b 1 0) (ne_eqb gate other (λ same. differ (sym same))) ∙ omega arith in

@@ -14,18 +14,17 @@ use Rattle.graph_ops.specs.declared.part.Part.{Part}
 use Rattle.graph_ops.specs.Operations.{State}
 use Rattle.graph_ops.specs.VertexOps.{none_refused}
 use Rattle.vector_stamp.specs.declared.clock.Stamp.{Stamp}
-use Rattle.vector_stamp.specs.Precedence.{Given}
+use Rattle.vector_stamp.specs.Precedence.{GivenPair}
 use Rattle.vector_stamp.specs.Seeing.{seen_of}
-use Rattle.version_chain.specs.Chains.{ChainView, update_count, stamps_of, newest_state}
+use Rattle.version_chain.specs.Chains.{ChainView, update_count, stamps_of_versions, newest_state}
 use Rattle.version_graph.specs.Graphs.{Chains, chain_of, chain_or_new, AreNextUpdates}
-use Rattle.shard_queue.specs.Incoming as incoming
-use Rattle.shard_queue.specs.Incoming.{Incoming, has_arrived}
+use Rattle.shard_queue.specs.Incoming.{Incoming, has_arrived, waiting_head}
 use Rattle.weave_entries.specs.declared.message.Message.{Message}
 use Rattle.weave_entries.specs.declared.shard_log.ShardEntry.{ShardEntry}
 use Rattle.weave_entries.specs.ShardReplay.{Update, arrived_at, processed_count, head_of, last_of, updates_of, waits_at, state_of_updates, is_past, is_ready_for, first_unready, kept_of}
 use Rattle.weave_entries.specs.ShardRules.{dropped_of, update_stamps, kept_stamps, updates_read, PassesAt}
 use Rattle.shard_node.specs.declared.waiting.Waiting.{Waiting}
-use Rattle.shard_node.specs.Keeping.{versions_from, chain_in, head_in, first_differing, is_after, is_channel_ready, first_not_ready, IsInboxOf, IsReplayOf}
+use Rattle.shard_node.specs.Keeping.{versions_from, chain_in, head_in, first_differing, is_after, is_channel_ready, first_not_ready, IsInboxOf, IsShardReplay}
 use Rattle.weave_entries.proofs.ShardLogs.{processed_are_few}
 use Rattle.shard_node.proofs.Updates.{chain_from, or_new, count-is, newest-state-is, kept-stamps-are, length-versions}
 use Rattle.shard_node.proofs.Leading.{stamp_in, leads-some}
@@ -37,6 +36,7 @@ none_mapped f (Some x) none = absurd cc
 
 -- What became of a message
 
+-- a message that isn't there is none
 pub not_there : (x : Option Message) → is_some x ≡ false → x ≡ None
 not_there None none = refl
 not_there (Some message) none = absurd cc
@@ -65,19 +65,22 @@ unready-from place stamp (inbox ∷ inboxes) log each =
     unready-from (place + 1) stamp inboxes log (λ k one at. each (suc k) one at ∙ ap (is_ready_for stamp log) (omega arith)) in
     (λ i. cond (here i) (rest i) (Some place)) ∙ turned (is_ready_for stamp log place) (find (λ gate. not (is_ready_for stamp log gate)) (range_with_len (place + 1) (length inboxes))) (Some place)
 
-module _ (gates : ℕ) (inboxes : List (Incoming Waiting)) (chains : Chains) (log : List ShardEntry) (kept : IsReplayOf gates inboxes chains log) where
+module _ (gates : ℕ) (inboxes : List (Incoming Waiting)) (chains : Chains) (log : List ShardEntry) (kept : IsShardReplay gates inboxes chains log) where
   -- the inbox of a gatekeeper is in its place
   pub at_gate : (gate : ℕ) (inbox : Incoming Waiting) → gate < gates → inbox ≡ get_or inboxes gate inbox → slice_get inboxes gate ≡ Some inbox
   at_gate gate inbox below is = let count = kept.count in slice_get_read inboxes _ gate inbox refl (omega (arith, below, count)) is
 
+  -- a number from 1 has arrived in a gatekeeper's inbox exactly if its message has arrived by the log
   pub arrived-is : (gate number : ℕ) (inbox : Incoming Waiting) → slice_get inboxes gate ≡ Some inbox → 1 ≤ number → has_arrived number inbox ≡ is_some (arrived_at gate number log)
   arrived-is gate number inbox at some = has-arrived gate log inbox (kept.channels gate inbox at) number some
 
+  -- the first channel that isn't ready for a stamp by the inboxes is the first one by the log
   pub unready-is : (stamp : Stamp) → first_not_ready 0 stamp inboxes ≡ first_unready gates stamp log
   unready-is stamp =
       unready-from 0 stamp inboxes log (λ k inbox at. ready-is stamp k log inbox (kept.channels k inbox at) ∙ ap (is_ready_for stamp log) (omega arith))
       ∙ ap (λ n. find (λ gate. not (is_ready_for stamp log gate)) (range_with_len 0 n)) kept.count
 
+  -- the head of a gatekeeper's inbox, in the log, is the head of its channel
   pub inbox-head : (gate : ℕ) (inbox : Incoming Waiting) → slice_get inboxes gate ≡ Some inbox → head_in log inbox ≡ head_of gate log
   inbox-head gate inbox at = head-is gate log inbox (kept.channels gate inbox at)
 
@@ -86,13 +89,14 @@ module _ (gates : ℕ) (inboxes : List (Incoming Waiting)) (chains : Chains) (lo
   head-found gate inbox items found at same is = sym (inbox-head gate inbox at) ∙ ap (λ (l : List ShardEntry). head_in l inbox) (sym same) ∙ sym is
 
   -- and then something waits there
-  pub head-waits : (gate : ℕ) (inbox : Incoming Waiting) (head : Message) → slice_get inboxes gate ≡ Some inbox → head_of gate log ≡ Some head → is_some (incoming.head_of inbox) ≡ true
-  head-waits gate inbox head at is = leads-some log (incoming.head_of inbox) (head_of gate log) (head-leads gate log inbox (kept.channels gate inbox at)) ∙ ap is_some is
+  pub head-waits : (gate : ℕ) (inbox : Incoming Waiting) (head : Message) → slice_get inboxes gate ≡ Some inbox → head_of gate log ≡ Some head → is_some (waiting_head inbox) ≡ true
+  head-waits gate inbox head at is = leads-some log (waiting_head inbox) (head_of gate log) (head-leads gate log inbox (kept.channels gate inbox at)) ∙ ap is_some is
 
   -- its next number is one more than what was processed, which the log bounds
   pub number-is : (gate : ℕ) (inbox : Incoming Waiting) → slice_get inboxes gate ≡ Some inbox → inbox.processed ≡ processed_count gate log
   number-is gate inbox at = (kept.channels gate inbox at).processed
 
+  -- an inbox has processed at most as many messages as the log has entries
   pub processed-few : (gate : ℕ) (inbox : Incoming Waiting) → slice_get inboxes gate ≡ Some inbox → inbox.processed ≤ length log
   processed-few gate inbox at = let few = processed_are_few gate log in subst (λ n. n ≤ length log) (sym (number-is gate inbox at)) few
 
@@ -101,14 +105,16 @@ module _ (gates : ℕ) (inboxes : List (Incoming Waiting)) (chains : Chains) (lo
   chain-from : (v : Name) → chain_of chains v ≡ chain_from (dropped_of v log) (updates_of v log)
   chain-from v = kept.chains_are v
 
+  -- the chain of a vertex, or a new one if it has none, is that of the log
   pub seen-chain : (v : Name) → chain_or_new (chain_of chains v) ≡ chain_in v log
   seen-chain v = ap chain_or_new (chain-from v) ∙ or_new (dropped_of v log) (updates_of v log) (kept.some_kept v)
 
-  pub seen-stamps : (v : Name) → stamps_of (chain_or_new (chain_of chains v)).kept ≡ kept_stamps v log
-  seen-stamps v = ap (λ (chain : ChainView). stamps_of chain.kept) (seen-chain v) ∙ kept-stamps-are v log
+  -- the versions that it keeps have the stamps that the log says are kept
+  pub seen-stamps : (v : Name) → stamps_of_versions (chain_or_new (chain_of chains v)).kept ≡ kept_stamps v log
+  seen-stamps v = ap (λ (chain : ChainView). stamps_of_versions chain.kept) (seen-chain v) ∙ kept-stamps-are v log
 
   -- a program reads at most the updates that were applied
-  pub read-few : ((pairs : List Given) (program : Stamp) (updates : List Stamp) → seen_of pairs program updates ≤ length updates) → (pairs : List Given) (program : Stamp) (v : Name) → updates_read pairs program v log ≤ length (updates_of v log)
+  pub read-few : ((pairs : List GivenPair) (program : Stamp) (updates : List Stamp) → seen_of pairs program updates ≤ length updates) → (pairs : List GivenPair) (program : Stamp) (v : Name) → updates_read pairs program v log ≤ length (updates_of v log)
   read-few within pairs program v =
       let few = within pairs program (kept_stamps v log) in
       let some = kept.some_kept v in
@@ -117,6 +123,7 @@ module _ (gates : ℕ) (inboxes : List (Incoming Waiting)) (chains : Chains) (lo
   count-at : (v : Name) → update_count (chain_or_new (chain_of chains v)) ≡ length (updates_of v log)
   count-at v = ap (λ (chain : Option ChainView). update_count (chain_or_new chain)) (chain-from v) ∙ count-is (dropped_of v log) (updates_of v log) (kept.some_kept v)
 
+  -- a vertex's chain keeps as many versions as the log says
   pub kept-is : (v : Name) → length (chain_or_new (chain_of chains v)).kept ≡ kept_of v log
   kept-is v =
       ap (λ (chain : ChainView). length chain.kept) (seen-chain v)
@@ -125,6 +132,7 @@ module _ (gates : ℕ) (inboxes : List (Incoming Waiting)) (chains : Chains) (lo
 
   -- A head
 
+  -- the first vertex of a head whose count differs from its chain's updates is the one where it waits by the log
   pub waits-is : (head : Message) → first_differing chains head.parts ≡ waits_at head log
   waits-is head = (λ i. option_map (λ (part : Part). part.vertex) (find (λ (part : Part). not (part.before == count-at part.vertex i)) head.parts))
 

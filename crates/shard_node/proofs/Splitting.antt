@@ -8,7 +8,7 @@ use Rattle.weave_data.proofs.Members.{has_head}
 use Rattle.weave_data.specs.declared.name.Name.{Name}
 use Rattle.vector_stamp.specs.declared.clock.Stamp.{Stamp}
 use Rattle.vector_stamp.specs.Order.{stamp_before}
-use Rattle.vector_stamp.specs.Precedence.{Given, precedes}
+use Rattle.vector_stamp.specs.Precedence.{GivenPair, precedes}
 use Rattle.vector_stamp.specs.Seeing.{is_seen, seen_of, last_seen}
 use Rattle.vector_stamp.specs.Settling.{additions_from, pairs_of}
 use Rattle.weave_entries.specs.declared.shard_log.ShardEntry.{ShardEntry}
@@ -36,7 +36,7 @@ comes_later false true later unseen ordered = ordered refl
 comes_later false false true unseen ordered = refl
 comes_later false false false unseen ordered = absurd (unseen refl)
 
-module _ (pairs : List Given) (program : Stamp) (v : Name) (log : List ShardEntry) where
+module _ (pairs : List GivenPair) (program : Stamp) (v : Name) (log : List ShardEntry) where
   -- an update that is not read is preceded by the program
   pub later-skipped : ((update : Stamp) (updates : List Stamp) (place : ℕ) → seen_of pairs program updates ≤ place → slice_get updates place ≡ Some update → IsTrue (is_seen pairs program update) → ⊥) → ((a b : Stamp) → IsTrue (stamp_before a b) → IsTrue (precedes pairs a b)) → (place : ℕ) (later : Update) → updates_read pairs program v log ≤ place → slice_get (updates_of v log) place ≡ Some later → IsTrue (precedes pairs program later.stamp)
   later-skipped skipped ordered place later past at =

@@ -19,11 +19,11 @@ use Rattle.weave_entries.specs.declared.shard_log.ShardDeed.{ShardDeed}
 use Rattle.weave_entries.specs.declared.shard_log.ShardDeed.TheVariants.{Arrived, Applied, Visited, Collected}
 use Rattle.weave_entries.specs.ShardReplay.{Arrival, arrival_by, arrivals_of, arrived_at, processed_of, applied_messages, Update, updates_in, updates_of}
 use Rattle.weave_entries.specs.ShardRules.{dropped_of, update_stamps, kept_stamps}
-use Rattle.shard_node.specs.TestWords.{stamps_by, arrived_stamps}
+use Rattle.shard_node.specs.TestWords.{stamps_brought_by, arrived_stamps}
 
 -- Stamps
 
-brought : (deed : ShardDeed) (arrival : Arrival) → Contains (arrival_by deed) arrival → Contains (stamps_by deed) arrival.message.stamp
+brought : (deed : ShardDeed) (arrival : Arrival) → Contains (arrival_by deed) arrival → Contains (stamps_brought_by deed) arrival.message.stamp
 brought (Arrived gate number message) arrival has =
     subst (λ (one : Arrival). Contains (message.stamp ∷ []) one.message.stamp) (only (record { gate = gate; number = number; message = message }) arrival has) (has_head message.stamp [])
 brought (Applied gate number) arrival has = absurd (has_none arrival has)
@@ -35,9 +35,10 @@ arrived_has gate number log message is =
     let found = map_some (λ (arrival : Arrival). arrival.message) _ message is in
     let there = find_has _ (arrivals_of log) found.0 found.1 in
     let by = flat_has (λ (entry : ShardEntry). arrival_by entry.deed) log found.0 there.0 in
-    let brings : Contains (stamps_by by.0.deed) message.stamp = subst (λ (one : Message). Contains (stamps_by by.0.deed) one.stamp) found.2 (brought by.0.deed found.0 by.2) in
-    has_flat (λ (entry : ShardEntry). stamps_by entry.deed) log by.0 message.stamp by.1 brings
+    let brings : Contains (stamps_brought_by by.0.deed) message.stamp = subst (λ (one : Message). Contains (stamps_brought_by by.0.deed) one.stamp) found.2 (brought by.0.deed found.0 by.2) in
+    has_flat (λ (entry : ShardEntry). stamps_brought_by entry.deed) log by.0 message.stamp by.1 brings
 
+-- the stamp of each kept update of a vertex is that of a message that arrived
 pub update_arrived : (v : Name) (log : List ShardEntry) (stamp : Stamp) → Contains (kept_stamps v log) stamp → Contains (arrived_stamps log) stamp
 update_arrived v log stamp kept =
     let has = drop_has (dropped_of v log) (update_stamps v log) stamp kept in
@@ -48,11 +49,13 @@ update_arrived v log stamp kept =
     let same : message.0.stamp ≡ stamp = ap (λ (one : Update). one.stamp) part.2 ∙ update.2 in
     subst (Contains (arrived_stamps log)) same (arrived_has at.0.0 at.0.1 log message.0 at.2)
 
+-- if no message that arrived has the program's id, no kept update of a vertex has it
 pub all_others : (v : Name) (log : List ShardEntry) (program : Stamp) → All (λ (event : Stamp). id_of event ≢ id_of program) (arrived_stamps log) → All (λ (event : Stamp). id_of event ≢ id_of program) (kept_stamps v log)
 all_others v log program all k d below =
     let stamp = get_or (kept_stamps v log) k d in
     All-contains (λ (event : Stamp). id_of event ≢ id_of program) (arrived_stamps log) stamp all (update_arrived v log stamp (All-contains_itself (kept_stamps v log) k d below))
 
+-- if a program, all that arrived and what is known are coherent, so are it, a vertex's kept updates and what is known
 pub are_coherent_too : (v : Name) (log : List ShardEntry) (program : Stamp) (known : List Stamp) → AreCoherent (program ∷ arrived_stamps log ++ known) → AreCoherent (program ∷ kept_stamps v log ++ known)
 are_coherent_too v log program known all = record {
   homes = λ a has. all.homes a (among a has);
@@ -78,8 +81,10 @@ elsewhere-cons v part others parts is apart rest =
     ∙ itself v in absurd cc in
     subst (All (λ (one : Part). v ≢ one.vertex)) (sym is) (All-cons (λ (one : Part). v ≢ one.vertex) part others differ rest)
 
+-- if a part is of another vertex than all others, and the others are of vertices of their own, all parts are
 pub apart-cons : (part : Part) (others parts : List Part) → parts ≡ part ∷ others → All (λ (one : Part). part.vertex ≢ one.vertex) others → AllPairs (λ (one other : Part). one.vertex ≢ other.vertex) others → AllPairs (λ (one other : Part). one.vertex ≢ other.vertex) parts
 apart-cons part others parts is first rest = subst (AllPairs (λ (one other : Part). one.vertex ≢ other.vertex)) (sym is) (AllPairs-cons (λ (one other : Part). one.vertex ≢ other.vertex) part others first rest)
 
+-- if the count of the first part and those of the others are below the greatest number of 64 bits, so are all
 pub small-cons : (part : Part) (others parts : List Part) → parts ≡ part ∷ others → part.before < 2 ^ 64 - 1 → All (λ (one : Part). one.before < 2 ^ 64 - 1) others → All (λ (one : Part). one.before < 2 ^ 64 - 1) parts
 small-cons part others parts is first rest = subst (All (λ (one : Part). one.before < 2 ^ 64 - 1)) (sym is) (All-cons (λ (one : Part). one.before < 2 ^ 64 - 1) part others first rest)

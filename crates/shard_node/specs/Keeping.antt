@@ -4,15 +4,16 @@ use Rattle.std.specs.Option.{option_map, option_and_then}
 use Rattle.std.specs.List.{find}
 use Rattle.graph_ops.specs.declared.part.Part.{Part}
 use Rattle.graph_ops.specs.Operations.{State}
-use Rattle.graph_ops.specs.VertexOps.{state_after}
+use Rattle.graph_ops.specs.VertexOps.{state_after_ops}
 use Rattle.vector_stamp.specs.declared.clock.Clock.{Clock}
 use Rattle.vector_stamp.specs.declared.clock.Stamp.{Stamp}
 use Rattle.vector_stamp.specs.Order.{stamp_before}
 use Rattle.version_chain.specs.declared.version.Version.{Version}
 use Rattle.version_chain.specs.Chains.{ChainView, update_count}
-use Rattle.version_chain.specs.Collection.{collected}
+use Rattle.version_chain.specs.Collection.{collected_chain}
 use Rattle.weave_data.specs.declared.name.Name.{Name}
-use Rattle.shard_queue.specs.Incoming.{Incoming, head_of, waiting_at}
+use Rattle.weave_data.specs.Limits.{most_gates}
+use Rattle.shard_queue.specs.Incoming.{Incoming, waiting_head, waiting_at}
 use Rattle.version_graph.specs.Graphs.{Chains, chain_of, chain_or_new}
 use Rattle.weave_entries.specs.declared.message.Message.{Message}
 use Rattle.weave_entries.specs.declared.shard_log.ShardEntry.{ShardEntry}
@@ -26,7 +27,8 @@ use Rattle.shard_node.specs.declared.waiting.Waiting.{Waiting}
 abbrev pub versions_from : State → List Update → List Version
 versions_from state [] = []
 versions_from state (update ∷ updates) =
-    record { stamp = update.stamp; state = state_after update.ops state } ∷ versions_from (state_after update.ops state)
+    record { stamp = update.stamp; state = state_after_ops update.ops state }
+    ∷ versions_from (state_after_ops update.ops state)
     updates
 
 -- the chain of a vertex at the end of a log
@@ -43,7 +45,7 @@ chain_in_if v log = if length (updates_of v log) == 0 then None else Some (chain
 -- a chain, if there is one, after a collection by a bound, if there is one
 abbrev pub collected_if : Option Clock → Option ChainView → Option ChainView
 collected_if None chain = chain
-collected_if (Some bound) chain = option_map (collected bound) chain
+collected_if (Some bound) chain = option_map (collected_chain bound) chain
 
 -- the low mark of the last message that was processed on a channel
 abbrev pub low_of : List ShardEntry → ℕ → Option Clock
@@ -68,7 +70,7 @@ message_in log place = option_and_then (λ (entry : ShardEntry). message_by entr
 
 -- the head of an inbox, in the log
 abbrev pub head_in : List ShardEntry → Incoming Waiting → Option Message
-head_in log inbox = option_and_then (λ (waiting : Waiting). message_in log waiting.place) (head_of inbox)
+head_in log inbox = option_and_then (λ (waiting : Waiting). message_in log waiting.place) (waiting_head inbox)
 
 -- what waits leads to this message: the log has it at that place, with that stamp
 abbrev pub LeadsTo : List ShardEntry → Option Waiting → Option Message → Type 0
@@ -86,7 +88,7 @@ is_after stamp (Some other) = stamp_before stamp other
 -- the stamp of the last processed message of a channel, or of its head, is after this one
 abbrev pub is_channel_ready : Stamp → Incoming Waiting → Bool
 is_channel_ready stamp inbox =
-    is_after stamp inbox.last || is_after stamp (option_map (λ (waiting : Waiting). waiting.stamp) (head_of inbox))
+    is_after stamp inbox.last || is_after stamp (option_map (λ (waiting : Waiting). waiting.stamp) (waiting_head inbox))
 
 -- the place, counted on from this one, of the first channel that is not ready
 abbrev pub first_not_ready : ℕ → Stamp → List (Incoming Waiting) → Option ℕ
@@ -105,18 +107,18 @@ pub record IsInboxOf (gate : ℕ) (log : List ShardEntry) (inbox : Incoming Wait
   pub from_one : arrived_at gate 0 log ≡ None
 
 -- all that it keeps is what the replay of the log gives; of a vertex with updates it keeps at least the newest version
-pub record IsReplayOf (gates : ℕ) (inboxes : List (Incoming Waiting)) (chains : Chains) (log : List ShardEntry) : Type 0
-  where
-    pub some_gate : 1 ≤ gates
-    pub few_gates : gates ≤ 8
-    pub count : length inboxes ≡ gates
-    pub channels : (gate : ℕ) (inbox : Incoming Waiting) → slice_get inboxes gate ≡ Some inbox
-        → IsInboxOf gate log inbox
-    pub chains_are : (v : Name) → chain_of chains v ≡ chain_in_if v log
-    pub takable : (gate number : ℕ) (message : Message) → arrived_at gate number log ≡ Some message → IsTakable message
-    pub all_arrived : ProcessedArrived log
-    pub some_kept : (v : Name) → dropped_of v log ≤ length (updates_of v log) - 1
-    pub rules : IsShardLog gates log
+pub record IsShardReplay (gates : ℕ) (inboxes : List (Incoming Waiting)) (chains : Chains) (log : List ShardEntry)
+    : Type 0 where
+  pub some_gate : 1 ≤ gates
+  pub few_gates : gates ≤ most_gates
+  pub count : length inboxes ≡ gates
+  pub channels : (gate : ℕ) (inbox : Incoming Waiting) → slice_get inboxes gate ≡ Some inbox
+      → IsInboxOf gate log inbox
+  pub chains_are : (v : Name) → chain_of chains v ≡ chain_in_if v log
+  pub takable : (gate number : ℕ) (message : Message) → arrived_at gate number log ≡ Some message → IsTakable message
+  pub all_arrived : ProcessedArrived log
+  pub some_kept : (v : Name) → dropped_of v log ≤ length (updates_of v log) - 1
+  pub rules : IsShardLog gates log
 
 -- the low marks that it keeps are those of the last processed messages, by gatekeeper
 pub record AreLowMarks (gates : ℕ) (lows : List (Option Clock)) (log : List ShardEntry) : Type 0 where

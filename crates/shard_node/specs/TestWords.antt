@@ -7,12 +7,12 @@ use Rattle.weave_entries.specs.declared.shard_log.ShardDeed.{ShardDeed}
 use Rattle.weave_entries.specs.declared.shard_log.ShardDeed.TheVariants.{Arrived, Applied, Visited, Collected}
 
 -- the stamp that a deed brought
-abbrev pub stamps_by : ShardDeed → List Stamp
-stamps_by (Arrived gate number message) = message.stamp ∷ []
-stamps_by (Applied gate number) = []
-stamps_by (Visited request stamp vertex updates settled) = []
-stamps_by (Collected bound) = []
+abbrev pub stamps_brought_by : ShardDeed → List Stamp
+stamps_brought_by (Arrived gate number message) = message.stamp ∷ []
+stamps_brought_by (Applied gate number) = []
+stamps_brought_by (Visited request stamp vertex updates settled) = []
+stamps_brought_by (Collected bound) = []
 
 -- the stamps of all messages that arrived, in order
 abbrev pub arrived_stamps : List ShardEntry → List Stamp
-arrived_stamps log = flat_map (λ (entry : ShardEntry). stamps_by entry.deed) log
+arrived_stamps log = flat_map (λ (entry : ShardEntry). stamps_brought_by entry.deed) log

@@ -1,6 +1,6 @@
 //! The incoming channels of a shard.
 ghost use Rattle.std.specs.Prelude.{◌≡◌, ◌+◌, ◌<◌, ◌^◌, All, length, IfOk, IsSome, vec_len};
-ghost use Rattle.shard_queue.specs.Incoming.{nothing_arrived, head_of, after_head};
+ghost use Rattle.shard_queue.specs.Incoming.{nothing_arrived, waiting_head, after_head};
 ghost use Rattle.shard_node.specs.declared.waiting.Waiting.{Waiting};
 ghost use Rattle.shard_node.specs.Keeping.{is_channel_ready, first_not_ready};
 
@@ -51,7 +51,7 @@ pub(crate) fn first_unready(channels: &[Inbox<Waiting>], stamp: &Stamp) -> Optio
 
 /// Goes on to the next message of a channel, and answers the number of the one that was processed.
 pub(crate) fn pass_head(channel: &mut Inbox<Waiting>) -> u64
-    requires head { IsSome (head_of channel.old) }
+    requires head { IsSome (waiting_head channel.old) }
     requires number { channel.old.processed + 1 < u64.MAX }
     ensures number { result ≡ channel.old.processed + 1 }
     ensures next { channel.new ≡ after_head (λ (waiting : Waiting). waiting.stamp) channel.old }

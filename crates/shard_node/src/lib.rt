@@ -5,6 +5,8 @@
 //! waits, what was processed and the versions of each vertex are what the replay of the log gives.
 #![tactic(auto)]
 
+#[cfg(test)]
+mod bench;
 mod channels;
 mod fault;
 pub mod laws;

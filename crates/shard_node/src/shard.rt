@@ -2,15 +2,16 @@
 ghost use Rattle.std.specs.Prelude.{◌≡◌, ◌≢◌, ℕ, ◌+◌, ◌<◌, ◌≤◌, ◌∷◌, ◌++◌, ◌⊎◌, [], take, length, is_some, false, All, Contains, IsTrue, IsSome, Some, None, IfOk, IfErr, OnOk, OnErr, if◌then◌else◌};
 ghost use Rattle.std.specs.Option.{ForSome};
 ghost use Rattle.weave_data.specs.declared.name.Name.{Name};
+ghost use Rattle.weave_data.specs.Limits.{most_gates};
 ghost use Rattle.vector_stamp.specs.declared.clock.Stamp.{Stamp};
 ghost use Rattle.vector_stamp.specs.Order.{id_of};
 ghost use Rattle.vector_stamp.specs.Coherence.{AreCoherent};
 ghost use Rattle.vector_stamp.specs.Settling.{pairs_of};
-ghost use Rattle.version_chain.specs.Chains.{stamps_of};
+ghost use Rattle.version_chain.specs.Chains.{stamps_of_versions};
 ghost use Rattle.version_graph.specs.Graphs.{chain_of, chain_or_new};
 ghost use Rattle.version_chain.specs.Views.{has_unordered, view_of, put_before, entries_for, ReachesBack};
 ghost use Rattle.weave_entries.specs.ShardReplay.{arrived_at, processed_count, head_of, updates_of, waits_at, state_of_updates, first_unready, bound_of, kept_of};
-ghost use Rattle.weave_entries.specs.ShardRules.{kept_stamps, updates_read, is_settled_by, pairs_after_visit, entries_of_visit, is_judge_asked, IsKeptFor, IsTakable, PassesAt, IsShardLog};
+ghost use Rattle.weave_entries.specs.ShardRules.{kept_stamps, updates_read, is_settled_by, pairs_after_visit, entries_of_visit, is_judge_asked_by_visit, IsKeptFor, IsTakable, PassesAt, IsShardLog};
 ghost use Rattle.shard_node.specs.Keeping.{collected_if};
 ghost use Rattle.shard_node.specs.Shards.{AddsEntry, CanApplyHead, IsRightlyUnapplied, IsRightlyUnread};
 
@@ -45,13 +46,13 @@ pub struct Shard {
 
 impl Model for Shard {
     ghost use Rattle.shard_node.specs.Shards.{ShardView};
-    ghost use Rattle.shard_node.specs.Keeping.{AreLowMarks, IsReplayOf};
+    ghost use Rattle.shard_node.specs.Keeping.{AreLowMarks, IsShardReplay};
 
     ghost Value = { ShardView };
 
     ghost view = { λ s. record { number = s.number; gates = s.gates; log = s.log.items } };
 
-    ghost invariant = { λ s. IsReplayOf s.gates s.channels.items s.graph s.log.items
+    ghost invariant = { λ s. IsShardReplay s.gates s.channels.items s.graph s.log.items
         × AreLowMarks s.gates s.lows.items s.log.items };
 }
 
@@ -59,7 +60,7 @@ impl Shard {
     /// The shard of this number, before anything arrived. The one error is out of memory.
     pub fn new(alloc: Global, number: u32, gates: u32) -> Result<Shard, AllocError>
         requires some { 1 ≤ gates }
-        requires few { gates ≤ 8 }
+        requires few { gates ≤ most_gates }
         ensures { IfOk result (λ shard. shard ≡ record { number = number; gates = gates; log = [] }) }
     {
         Ok(Shard {
@@ -180,7 +181,7 @@ impl Shard {
             ≡ J.log_of judge.old ++ entries_of_visit (J.pairs judge.old) author stamp vertex self.old.log) }
         ensures not_logged { OnErr result (IsTrue J.keeps_log → J.log_of judge.new ≡ J.log_of judge.old) }
         ensures not_ready { IsSome (first_unready self.old.gates stamp self.old.log) → judge.new ≡ judge.old }
-        ensures not_asked { is_judge_asked stamp vertex self.old.log ≡ false → judge.new ≡ judge.old }
+        ensures not_asked { is_judge_asked_by_visit stamp vertex self.old.log ≡ false → judge.new ≡ judge.old }
         ensures refused { IfErr result (λ fault. IsRightlyUnread self.old.gates stamp self.old.log fault) }
         ensures unchanged { OnErr result (self.new ≡ self.old) }
     {
@@ -255,9 +256,9 @@ fn see<J: Judge>(
     judge: &mut J,
 ) -> Result<View, AllocError>
     requires other_ids { All (λ update. id_of update ≢ id_of stamp)
-        (stamps_of (chain_or_new (chain_of graph.now vertex)).kept) }
+        (stamps_of_versions (chain_or_new (chain_of graph.now vertex)).kept) }
     requires coherent { AreCoherent (stamp
-        ∷ stamps_of (chain_or_new (chain_of graph.now vertex)).kept ++ J.known judge.old) }
+        ∷ stamps_of_versions (chain_or_new (chain_of graph.now vertex)).kept ++ J.known judge.old) }
     requires base { ReachesBack stamp (chain_or_new (chain_of graph.now vertex)) }
     ensures view { IfOk result (λ view. view
         ≡ view_of (J.pairs judge.old) stamp (chain_or_new (chain_of graph.now vertex))) }
@@ -265,12 +266,12 @@ fn see<J: Judge>(
         ++ pairs_of (put_before (J.pairs judge.old) stamp (chain_or_new (chain_of graph.now vertex))) stamp) }
     ensures no_pair { OnErr result (J.pairs judge.new ≡ J.pairs judge.old) }
     ensures known { (event : Stamp) → Contains (J.known judge.new) event → Contains (J.known judge.old) event
-        ⊎ Contains (stamp ∷ stamps_of (chain_or_new (chain_of graph.now vertex)).kept) event }
+        ⊎ Contains (stamp ∷ stamps_of_versions (chain_or_new (chain_of graph.now vertex)).kept) event }
     ensures stay_known { (event : Stamp) → Contains (J.known judge.old) event → Contains (J.known judge.new) event }
     ensures logged { OnOk result (IsTrue J.keeps_log → J.log_of judge.new ≡ J.log_of judge.old
         ++ entries_for (J.pairs judge.old) author stamp (chain_or_new (chain_of graph.now vertex))) }
     ensures not_logged { OnErr result (IsTrue J.keeps_log → J.log_of judge.new ≡ J.log_of judge.old) }
-    ensures not_asked { has_unordered stamp (stamps_of (chain_or_new (chain_of graph.now vertex)).kept) ≡ false
+    ensures not_asked { has_unordered stamp (stamps_of_versions (chain_or_new (chain_of graph.now vertex)).kept) ≡ false
         → judge.new ≡ judge.old }
 {
     let Some(chain) = graph.chain(vertex) else {

@@ -14,7 +14,7 @@ use Rattle.std.proofs.lemmas.List.{append-nil}
 use Rattle.std.proofs.lemmas.Option.{slice_get_within, get_or_from_slice_get}
 use Rattle.vector_stamp.specs.declared.clock.Stamp.{Stamp}
 use Rattle.shard_queue.specs.Sent.{sent_as}
-use Rattle.shard_queue.specs.Incoming.{Incoming, Event, Arrives, TakesHead, nothing_arrived, head_of, has_arrived, after_head_if, after_event, inbox_after, taken, taken_by, processed_in, brings, AreOfSent, after_arrival, waiting_at, WaitingLaws}
+use Rattle.shard_queue.specs.Incoming.{Incoming, Event, Arrives, TakesHead, nothing_arrived, waiting_head, has_arrived, after_head_if, after_event, inbox_after, taken_messages, taken_by, processed_in, is_arrival_of, AreOfSent, after_arrival, waiting_at, WaitingLaws}
 use Rattle.shard_queue.proofs.Waiting.{put-there, put-others, take-others, AllWaiting, all-put, all-take, all-found}
 
 has_here : {X : Type 0} (x : X) (xs : List X) → Contains (x ∷ xs) x
@@ -53,7 +53,7 @@ module _ {M : Type 0} (stamp_of : M → Stamp) where
     | inr other ↦ rw other.0 (rw (put-others n k m inbox.waiting other.1) (sym (or-false (has_arrived n inbox))))
   ]
 
-  heads_at : (n : ℕ) (inbox : Incoming M) (head : Option M) → head_of inbox ≡ head → has_arrived n (after_head_if stamp_of head inbox) ≡ (has_arrived n inbox || false)
+  heads_at : (n : ℕ) (inbox : Incoming M) (head : Option M) → waiting_head inbox ≡ head → has_arrived n (after_head_if stamp_of head inbox) ≡ (has_arrived n inbox || false)
   heads_at n inbox None is = sym (or-false (has_arrived n inbox))
   heads_at n inbox (Some head) is = elim (eqb_tells n (inbox.processed + 1)) [
     | inl same ↦
@@ -64,21 +64,22 @@ module _ {M : Type 0} (stamp_of : M → Stamp) where
         rw (le-more n inbox.processed other.1) (rw (take-others n (inbox.processed + 1) inbox.waiting other.1) (sym (or-false (has_arrived n inbox))))
   ]
 
-  event_at : (n : ℕ) (inbox : Incoming M) (event : Event M) → has_arrived n (after_event stamp_of inbox event) ≡ (has_arrived n inbox || brings n event)
+  event_at : (n : ℕ) (inbox : Incoming M) (event : Event M) → has_arrived n (after_event stamp_of inbox event) ≡ (has_arrived n inbox || is_arrival_of n event)
   event_at n inbox (Arrives k m) = arrives_at n k m inbox (has_arrived k inbox) refl
-  event_at n inbox TakesHead = heads_at n inbox (head_of inbox) refl
+  event_at n inbox TakesHead = heads_at n inbox (waiting_head inbox) refl
 
-  arrived_on : (n : ℕ) (inbox : Incoming M) (events : List (Event M)) → has_arrived n (fold (after_event stamp_of) inbox events) ≡ (has_arrived n inbox || list_any (brings n) events)
+  arrived_on : (n : ℕ) (inbox : Incoming M) (events : List (Event M)) → has_arrived n (fold (after_event stamp_of) inbox events) ≡ (has_arrived n inbox || list_any (is_arrival_of n) events)
   arrived_on n inbox [] = sym (or-false (has_arrived n inbox))
   arrived_on n inbox (event ∷ events) =
       arrived_on n (after_event stamp_of inbox event) events
-      ∙ ap (λ (b : Bool). b || list_any (brings n) events) (event_at n inbox event)
-      ∙ or-assoc (has_arrived n inbox) (brings n event) (list_any (brings n) events)
+      ∙ ap (λ (b : Bool). b || list_any (is_arrival_of n) events) (event_at n inbox event)
+      ∙ or-assoc (has_arrived n inbox) (is_arrival_of n event) (list_any (is_arrival_of n) events)
 
-  pub has_arrived-brings : (n : ℕ) (events : List (Event M)) → 1 ≤ n → has_arrived n (inbox_after stamp_of events) ≡ list_any (brings n) events
+  -- a number from 1 has arrived after events exactly if one of them brings it
+  pub has_arrived-brings : (n : ℕ) (events : List (Event M)) → 1 ≤ n → has_arrived n (inbox_after stamp_of events) ≡ list_any (is_arrival_of n) events
   has_arrived-brings n events some = elim (leb_tells n 0) [
     | inl le ↦ absurd (omega (arith, le.1))
-    | inr over ↦ arrived_on n nothing_arrived events ∙ ap (λ (b : Bool). (b || false) || list_any (brings n) events) over.0
+    | inr over ↦ arrived_on n nothing_arrived events ∙ ap (λ (b : Bool). (b || false) || list_any (is_arrival_of n) events) over.0
   ]
 
   -- The order
@@ -98,11 +99,11 @@ module _ {M : Type 0} (stamp_of : M → Stamp) where
       let back : p + 1 - 1 ≡ p = omega arith in
       rw some (ap (slice_get sent) back)
 
-  head_sent : (sent : List M) (inbox : Incoming M) (head : M) → IsFed sent inbox → head_of inbox ≡ Some head → slice_get sent inbox.processed ≡ Some head
+  head_sent : (sent : List M) (inbox : Incoming M) (head : M) → IsFed sent inbox → waiting_head inbox ≡ Some head → slice_get sent inbox.processed ≡ Some head
   head_sent sent inbox head fed is =
       sym (sent_next sent inbox.processed) ∙ all-found (λ n m. sent_as n sent ≡ Some m) (inbox.processed + 1) head inbox.waiting fed.waits is
 
-  fed_head : (sent : List M) (inbox : Incoming M) (head : Option M) → IsFed sent inbox → head_of inbox ≡ head → IsFed sent (after_head_if stamp_of head inbox)
+  fed_head : (sent : List M) (inbox : Incoming M) (head : Option M) → IsFed sent inbox → waiting_head inbox ≡ head → IsFed sent (after_head_if stamp_of head inbox)
   fed_head sent inbox None fed is = fed
   fed_head sent inbox (Some head) fed is =
       let below : inbox.processed < length sent = slice_get_within sent inbox.processed head (head_sent sent inbox head fed is) in
@@ -110,7 +111,7 @@ module _ {M : Type 0} (stamp_of : M → Stamp) where
 
   fed_event : (sent : List M) (inbox : Incoming M) (event : Event M) → ((n : ℕ) (m : M) → event ≡ Arrives n m → sent_as n sent ≡ Some m) → IsFed sent inbox → IsFed sent (after_event stamp_of inbox event)
   fed_event sent inbox (Arrives n m) of fed = fed_arrival sent n m inbox (has_arrived n inbox) (of n m refl) fed
-  fed_event sent inbox TakesHead of fed = fed_head sent inbox (head_of inbox) fed refl
+  fed_event sent inbox TakesHead of fed = fed_head sent inbox (waiting_head inbox) fed refl
 
   processed_arrival : (n : ℕ) (m : M) (inbox : Incoming M) (before : Bool) → (cond before inbox (record inbox { waiting = insert_entry nat_cmp inbox.waiting n m })).processed ≡ inbox.processed
   processed_arrival n m inbox true = refl
@@ -122,13 +123,13 @@ module _ {M : Type 0} (stamp_of : M → Stamp) where
       let at : get_or sent p head ≡ head = get_or_from_slice_get sent p head head is in
       rw (add-one, take-suc sent p head below, at) refl
 
-  takes_head : (sent : List M) (inbox : Incoming M) (head : Option M) → IsFed sent inbox → head_of inbox ≡ head → take inbox.processed sent ++ taken head ≡ take (after_head_if stamp_of head inbox).processed sent
+  takes_head : (sent : List M) (inbox : Incoming M) (head : Option M) → IsFed sent inbox → waiting_head inbox ≡ head → take inbox.processed sent ++ taken_messages head ≡ take (after_head_if stamp_of head inbox).processed sent
   takes_head sent inbox None fed is = append-nil (take inbox.processed sent)
   takes_head sent inbox (Some head) fed is = take_next sent inbox.processed head (head_sent sent inbox head fed is)
 
   takes_event : (sent : List M) (inbox : Incoming M) (event : Event M) → IsFed sent inbox → take inbox.processed sent ++ taken_by inbox event ≡ take (after_event stamp_of inbox event).processed sent
   takes_event sent inbox (Arrives n m) fed = append-nil (take inbox.processed sent) ∙ ap (λ (p : ℕ). take p sent) (sym (processed_arrival n m inbox (has_arrived n inbox)))
-  takes_event sent inbox TakesHead fed = takes_head sent inbox (head_of inbox) fed refl
+  takes_event sent inbox TakesHead fed = takes_head sent inbox (waiting_head inbox) fed refl
 
   fed_on : (sent : List M) (inbox : Incoming M) (events : List (Event M)) → AreOfSent sent events → IsFed sent inbox → IsFed sent (fold (after_event stamp_of) inbox events)
   fed_on sent inbox [] of fed = fed
@@ -145,9 +146,11 @@ module _ {M : Type 0} (stamp_of : M → Stamp) where
   fed_nothing : (sent : List M) → IsFed sent nothing_arrived
   fed_nothing sent = record { within = omega arith; waits = tt }
 
+  -- if all that arrives was sent under its number, no more messages are processed than were sent
   pub processed-within : (sent : List M) (events : List (Event M)) → AreOfSent sent events → (inbox_after stamp_of events).processed ≤ length sent
   processed-within sent events of = (fed_on sent nothing_arrived events of (fed_nothing sent)).within
 
+  -- and those that are processed are the first ones that were sent, in order
   pub processed-sent : (sent : List M) (events : List (Event M)) → AreOfSent sent events → processed_in stamp_of nothing_arrived events ≡ take (inbox_after stamp_of events).processed sent
   processed-sent sent events of = takes_on sent nothing_arrived events of (fed_nothing sent)
 

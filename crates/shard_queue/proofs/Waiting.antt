@@ -14,6 +14,7 @@ pub data Compared (a b : ℕ) : Type 0 where
   IsEqual : a ≡ b → nat_cmp a b ≡ Equal → Compared a b
   IsGreater : b < a → nat_cmp a b ≡ Greater → Compared a b
 
+-- of two numbers the first is less, equal or greater, and the comparison says which
 pub compared : (a b : ℕ) → Compared a b
 compared a b = elim (cases_order a b) [
   | inl same ↦ IsEqual same (sym (nat_cmp_is a b Equal same))
@@ -21,9 +22,11 @@ compared a b = elim (cases_order a b) [
   | inr (inr more) ↦ IsGreater more (sym (nat_cmp_is a b Greater more))
 ]
 
+-- a number is found equal to itself
 pub at_itself : (a : ℕ) → is_eq (nat_cmp a a) ≡ true
 at_itself a = ap is_eq (sym (nat_cmp_is a a Equal refl))
 
+-- a number is not found equal to another one
 pub at_other : (a b : ℕ) → a ≢ b → is_eq (nat_cmp a b) ≡ false
 at_other a b other = elim (compared a b) [
   | IsLess less is ↦ ap is_eq is
@@ -75,6 +78,7 @@ module _ {M : Type 0} where
   AllWaiting P [] = Unit {0}
   AllWaiting P (e ∷ es) = P e.0 e.1 × AllWaiting P es
 
+  -- what holds of all that waits, and of a message, holds of all with that message put there
   pub all-put : (P : ℕ → M → Type 0) (n : ℕ) (m : M) (es : List (ℕ × M)) → P n m → AllWaiting P es → AllWaiting P (insert_entry nat_cmp es n m)
   all-put P n m [] here all = (here, tt)
   all-put P n m (e ∷ es) here all = elim (compared n e.0) [
@@ -83,6 +87,7 @@ module _ {M : Type 0} where
     | IsGreater more is ↦ rw is (all.0, all-put P n m es here all.1)
   ]
 
+  -- what holds of all that waits still holds when one is taken away
   pub all-take : (P : ℕ → M → Type 0) (n : ℕ) (es : List (ℕ × M)) → AllWaiting P es → AllWaiting P (remove_entry (is_at (nat_cmp n)) es)
   all-take P n [] all = tt
   all-take P n (e ∷ es) all = elim (at_number n e.0) [

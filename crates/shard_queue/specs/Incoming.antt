@@ -29,8 +29,8 @@ module _ {M : Type 0} where
   waiting_at number inbox = lookup (is_at (nat_cmp number)) inbox.waiting
 
   -- the head: the next message, if it has arrived
-  abbrev pub head_of : Incoming M → Option M
-  head_of inbox = waiting_at (inbox.processed + 1) inbox
+  abbrev pub waiting_head : Incoming M → Option M
+  waiting_head inbox = waiting_at (inbox.processed + 1) inbox
 
   -- whether the message of a number, from 1, has arrived: it was processed, or it waits
   abbrev pub has_arrived : ℕ → Incoming M → Bool
@@ -46,7 +46,7 @@ module _ {M : Type 0} where
   abbrev pub after_head : (M → Stamp) → Incoming M → Incoming M
   after_head stamp_of inbox = record {
     processed = inbox.processed + 1;
-    last = option_map stamp_of (head_of inbox);
+    last = option_map stamp_of (waiting_head inbox);
     waiting = remove_entry (is_at (nat_cmp (inbox.processed + 1))) inbox.waiting;
   }
 
@@ -58,21 +58,21 @@ module _ {M : Type 0} where
   -- after an event
   abbrev pub after_event : (M → Stamp) → Incoming M → Event M → Incoming M
   after_event stamp_of inbox (Arrives number message) = after_arrival number message inbox
-  after_event stamp_of inbox TakesHead = after_head_if stamp_of (head_of inbox) inbox
+  after_event stamp_of inbox TakesHead = after_head_if stamp_of (waiting_head inbox) inbox
 
   -- after events, from the start
   abbrev pub inbox_after : (M → Stamp) → List (Event M) → Incoming M
   inbox_after stamp_of events = fold (after_event stamp_of) nothing_arrived events
 
   -- a message, as a list of one, or none
-  abbrev pub taken : Option M → List M
-  taken None = []
-  taken (Some head) = head ∷ []
+  abbrev pub taken_messages : Option M → List M
+  taken_messages None = []
+  taken_messages (Some head) = head ∷ []
 
   -- what an event processes
   abbrev pub taken_by : Incoming M → Event M → List M
   taken_by inbox (Arrives number message) = []
-  taken_by inbox TakesHead = taken (head_of inbox)
+  taken_by inbox TakesHead = taken_messages (waiting_head inbox)
 
   -- what events process, in order
   abbrev pub processed_in : (M → Stamp) → Incoming M → List (Event M) → List M
@@ -81,9 +81,9 @@ module _ {M : Type 0} where
       taken_by inbox event ++ processed_in stamp_of (after_event stamp_of inbox event) events
 
   -- whether an event brings the message of this number
-  abbrev pub brings : ℕ → Event M → Bool
-  brings number (Arrives other message) = number == other
-  brings number TakesHead = false
+  abbrev pub is_arrival_of : ℕ → Event M → Bool
+  is_arrival_of number (Arrives other message) = number == other
+  is_arrival_of number TakesHead = false
 
   -- what arrives is what was sent under that number; it may come in any order, again, or never
   abbrev pub AreOfSent : List M → List (Event M) → Type 0

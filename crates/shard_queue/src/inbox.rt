@@ -1,6 +1,6 @@
 //! The receiving end of a channel.
 ghost use Rattle.std.specs.Prelude.{◌≡◌, ◌+◌, ◌<◌, ◌≤◌, ◌↔◌, IfOk, IsSome, OnOk, OnErr, None, option_copied, if◌then◌else◌};
-ghost use Rattle.shard_queue.specs.Incoming.{nothing_arrived, head_of, has_arrived, after_arrival, after_head};
+ghost use Rattle.shard_queue.specs.Incoming.{nothing_arrived, waiting_head, has_arrived, after_arrival, after_head};
 
 use std::alloc::{AllocError, Global};
 use std::collections::BTreeMap;
@@ -72,14 +72,14 @@ impl<M: Stamped + Drop> Inbox<M> {
 
     /// The next message in order of numbers, or `None` if it has not arrived.
     pub fn head(&self) -> Option<&M>
-        ensures { option_copied result ≡ head_of self.now }
+        ensures { option_copied result ≡ waiting_head self.now }
     {
         self.waiting.get(&self.next)
     }
 
     /// Goes on to the next number: the head was processed, and is dropped. It takes no memory.
     pub fn advance(&mut self)
-        requires head { IsSome (head_of self.old) }
+        requires head { IsSome (waiting_head self.old) }
         requires number { self.old.processed + 1 < u64.MAX }
         ensures { self.new ≡ after_head M.stamp_of self.old }
     {

@@ -18,7 +18,7 @@ use Rattle.weave_entries.specs.declared.gate_log.GateEntry.{GateEntry}
 use Rattle.weave_entries.specs.declared.gate_log.GateDeed.{GateDeed}
 use Rattle.weave_entries.specs.declared.session_log.SessionEntry.{SessionEntry}
 use Rattle.weave_entries.specs.declared.session_log.SessionDeed.TheVariants as session
-use Rattle.weave_entries.specs.GateReplay.{Begun, begun_by, begun_in, clocks_by, clocks_in, ended_by, ended_in}
+use Rattle.weave_entries.specs.GateReplay.{BegunRequest, begun_by, begun_in, clocks_by, clocks_in, ended_by, ended_in}
 use Rattle.weave_entries.specs.GateRules.{FitsAs, HearsAs}
 use Rattle.weave_entries.specs.SessionReplay.{BeginsNext, FitsSession, begin_by, begins_in, has_begun_in, has_reply_in, replied_in, reply_by, session_of, session_stamp_of}
 use Rattle.report_rules.specs.Lookups.{is_in, request_at}
@@ -52,9 +52,11 @@ module _ (log : List SessionEntry) (author r : ℕ) (stamp : Stamp) where
   begins-push : begins_in with-begin ≡ begins_in log ++ (r, stamp) ∷ []
   begins-push = flat_map-append (λ (e : SessionEntry). begin_by e.deed) log (record { author = author; deed = session.Begun r stamp } ∷ [])
 
+  -- a request has begun in a session's log exactly if the log has a stamp of it
   pub begun-agree : has_begun_in r log ≡ is_some (session_stamp_of r log)
   begun-agree = any-find (is-of r) (begins_in log) ∙ sym (is-some-map (λ (begun : ℕ × Stamp). begun.1) (find (is-of r) (begins_in log)))
 
+  -- a request that had not begun has the stamp with which one more entry begins it
   pub stamp-begun : has_begun_in r log ≡ false → session_stamp_of r with-begin ≡ Some stamp
   stamp-begun none =
       let nothing : find (is-of r) (begins_in log) ≡ None = no-some (λ (begun : ℕ × Stamp). begun.1) (find (is-of r) (begins_in log)) (sym begun-agree ∙ none) in
@@ -62,6 +64,7 @@ module _ (log : List SessionEntry) (author r : ℕ) (stamp : Stamp) where
       ∙ ap (option_map (λ (begun : ℕ × Stamp). begun.1)) (find-append (is-of r) (begins_in log) ((r, stamp) ∷ [])
       ∙ ap (λ o. option_or o (find (is-of r) ((r, stamp) ∷ []))) nothing ∙ ap (λ b. cond b (Some (r, stamp)) None) (eq-eqb r r refl))
 
+  -- the begin of a request leaves the stamps of all others in the session's log as they were
   pub stamp-other : (q : ℕ) → q ≢ r → session_stamp_of q with-begin ≡ session_stamp_of q log
   stamp-other q differ =
       ap (λ bs. option_map (λ (begun : ℕ × Stamp). begun.1) (find (is-of q) bs)) begins-push
@@ -85,15 +88,17 @@ module _ (laws : LawsForSteps) (script : Script) (account : Account) (limits : I
   abbrev pub sentry : SessionEntry
   sentry = record { author = s; deed = session.Begun r stamp }
 
-  abbrev pub new : Begun
+  abbrev pub new : BegunRequest
   new = record { author = author; request = r; stamp = stamp }
 
   abbrev pub next : Account
   next = with_session_deed (with_gate_deed account g author deed) s (session.Begun r stamp)
 
+  -- after the begin the gatekeeper's log has one more entry, that of the begin
   pub log-here : gate_log next g ≡ log ++ entry ∷ []
   log-here = set-here account.gates g (gate-within is g inside) entry
 
+  -- the logs of all other gatekeepers stay
   pub log-there : (home : ℕ) → home ≢ g → gate_log next home ≡ gate_log account home
   log-there = set-there account.gates g (gate-within is g inside) entry
 
@@ -103,6 +108,7 @@ module _ (laws : LawsForSteps) (script : Script) (account : Account) (limits : I
   session-there : (i : ℕ) → i ≢ s → session_log next i ≡ session_log account i
   session-there = set-there account.sessions s within-s sentry
 
+  -- each log is the beginning of the same log after the begin
   pub on : GoesOn account next
   on =
       goes-further account (with_gate_deed account g author deed) next (with-gate-deed account g author deed (gate-within is g inside))
@@ -114,32 +120,36 @@ module _ (laws : LawsForSteps) (script : Script) (account : Account) (limits : I
   set = flat-more begun_in account.gates g (log ++ entry ∷ []) (new ∷ []) (gate-within is g inside)
       (flat_map-append (λ (e : GateEntry). begun_by e.author e.deed) log (entry ∷ []) ∙ ap (λ bs. begun_in log ++ (bs ++ [])) one)
 
-  fresh : (b : Begun) → Contains (all_begun account) b → b.request ≢ r
-  fresh b h same = find_lacks (λ (b : Begun). b.request == r) (all_begun account) b (nothing (find (λ (b : Begun). b.request == r) (all_begun account)) unbegun) h (eq-eqb b.request r same)
+  fresh : (b : BegunRequest) → Contains (all_begun account) b → b.request ≢ r
+  fresh b h same = find_lacks (λ (b : BegunRequest). b.request == r) (all_begun account) b (nothing (find (λ (b : BegunRequest). b.request == r) (all_begun account)) unbegun) h (eq-eqb b.request r same)
     where
-      nothing : (o : Option Begun) → option_map (λ (b : Begun). b.stamp) o ≡ None → o ≡ None
+      nothing : (o : Option BegunRequest) → option_map (λ (b : BegunRequest). b.stamp) o ≡ None → o ≡ None
       nothing None e = refl
       nothing (Some x) e = cc
 
-  before-has : (b : Begun) → Contains set.front b → Contains (all_begun account) b
+  before-has : (b : BegunRequest) → Contains set.front b → Contains (all_begun account) b
   before-has b h = subst (λ bs. Contains bs b) (sym set.was) (Contains-append_left set.front set.back b h)
 
-  after-has : (b : Begun) → Contains set.back b → Contains (all_begun account) b
+  after-has : (b : BegunRequest) → Contains set.back b → Contains (all_begun account) b
   after-has b h = subst (λ bs. Contains bs b) (sym set.was) (Contains-append_right set.front set.back b h)
 
-  pub once-next : AllPairs (λ (a b : Begun). a.request ≢ b.request) (all_begun next)
-  once-next = subst (AllPairs (λ (a b : Begun). a.request ≢ b.request)) (sym set.now)
-      (pairs-into (λ (a b : Begun). a.request ≢ b.request) set.front new set.back (subst (AllPairs (λ (a b : Begun). a.request ≢ b.request)) set.was is.gatekeepers.once)
+  -- after the begin of a request that had not begun, still none was begun twice
+  pub once-next : AllPairs (λ (a b : BegunRequest). a.request ≢ b.request) (all_begun next)
+  once-next = subst (AllPairs (λ (a b : BegunRequest). a.request ≢ b.request)) (sym set.now)
+      (pairs-into (λ (a b : BegunRequest). a.request ≢ b.request) set.front new set.back (subst (AllPairs (λ (a b : BegunRequest). a.request ≢ b.request)) set.was is.gatekeepers.once)
       (λ b h. fresh b (before-has b h)) (λ b h same. fresh b (after-has b h) (sym same)))
 
+  -- the request then has the stamp of its begin
   pub stamp-new : stamp_of next r ≡ Some stamp
-  stamp-new = ap (option_map (λ (b : Begun). b.stamp)) (ap (find (λ (b : Begun). b.request == r)) set.now
-      ∙ find-here (λ (b : Begun). b.request == r) set.front new set.back (λ b h. ne_eqb b.request r (fresh b (before-has b h))) (eq-eqb r r refl))
+  stamp-new = ap (option_map (λ (b : BegunRequest). b.stamp)) (ap (find (λ (b : BegunRequest). b.request == r)) set.now
+      ∙ find-here (λ (b : BegunRequest). b.request == r) set.front new set.back (λ b h. ne_eqb b.request r (fresh b (before-has b h))) (eq-eqb r r refl))
 
+  -- the stamps of all other requests stay
   pub stamp-old : (q : ℕ) → q ≢ r → stamp_of next q ≡ stamp_of account q
-  stamp-old q differ = ap (option_map (λ (b : Begun). b.stamp)) (ap (find (λ (b : Begun). b.request == q)) set.now
-      ∙ find-into (λ (b : Begun). b.request == q) set.front new set.back (ne_eqb r q (λ same. differ (sym same))) ∙ ap (find (λ (b : Begun). b.request == q)) (sym set.was))
+  stamp-old q differ = ap (option_map (λ (b : BegunRequest). b.stamp)) (ap (find (λ (b : BegunRequest). b.request == q)) set.now
+      ∙ find-into (λ (b : BegunRequest). b.request == q) set.front new set.back (ne_eqb r q (λ same. differ (sym same))) ∙ ap (find (λ (b : BegunRequest). b.request == q)) (sym set.was))
 
+  -- clocks that were known are known after the begin
   pub known-next : (clock : Clock) → IsKnown account clock → IsKnown next clock
   known-next = laws.accounts.stay_clocks script account next on
 
@@ -162,6 +172,7 @@ module _ (laws : LawsForSteps) (script : Script) (account : Account) (limits : I
 
   -- The account goes on
 
+  -- the logs stay an account if the begin fits its gatekeeper, its clocks and its session, and ends no request
   pub begin-goes-on : FitsAs g script.shards log author deed → BeginsAs script next g log deed → ((clock : Clock) → Contains (clocks_by deed) clock → IsKnown next clock) → HearsAs g log deed
       → SendsAs next script.shards log author deed → ended_by deed ≡ [] → ((request : Request) → request_at script r ≡ Some request → request.session ≡ s)
       → BeginsNext (session_of (requests_of_session script s) slog) r stamp → has_begun_in r slog ≡ false → IsAccount script next

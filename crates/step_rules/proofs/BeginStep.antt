@@ -25,7 +25,7 @@ use Rattle.weave_entries.specs.declared.gate_log.GateDeed.{GateDeed}
 use Rattle.weave_entries.specs.declared.gate_log.GateDeed.TheVariants.{BeganTx, BeganProgram}
 use Rattle.weave_entries.specs.declared.session_log.SessionEntry.{SessionEntry}
 use Rattle.weave_entries.specs.declared.session_log.SessionDeed.TheVariants as session
-use Rattle.weave_entries.specs.GateReplay.{Begun, begun_by, begun_stamp, clock_after_last, clock_of, clocks_by, ended_by, flight_of, stamps_by, stamps_of, ticks_of}
+use Rattle.weave_entries.specs.GateReplay.{BegunRequest, begun_by, begun_stamp, clock_after_last, clock_of, clocks_by, ended_by, flight_of, stamps_by, stamps_of, ticks_of}
 use Rattle.weave_entries.specs.GateRules.{FitsAs, HearsAs, IsBegunAt}
 use Rattle.weave_entries.specs.SessionReplay.{BeginsNext, next_request, session_of}
 use Rattle.weave_account.specs.declared.account.Account.{Account}
@@ -112,7 +112,7 @@ module _ (script : Script) (state : CoreState) (basis : Basis script state) (r :
 
   known-last : ForSome last (λ one. IsKnown account one.clock)
   known-last old e =
-      let begun = map_has (λ (b : Begun). b.stamp) (all_begun account) old (basis.further.accounts.last script account basis.limits is s old e) in
+      let begun = map_has (λ (b : BegunRequest). b.stamp) (all_begun account) old (basis.further.accounts.last script account basis.limits is s old e) in
       subst (λ (t : Stamp). IsKnown account t.clock) begun.2 (basis.laws.accounts.known_begun script account basis.limits is begun.0 begun.1)
 
   hears : ForSome last (λ one. IsTrue (counts_no_more g clock one.clock))
@@ -191,7 +191,7 @@ module _ (script : Script) (state : CoreState) (basis : Basis script state) (r :
       begun-core small (BeganTx r stamp) refl refl refl refl (λ b. record { alone = none-flies (flight_of log) alone; begun = b }) tt
       (begins-request small (BeganTx r stamp) refl refl refl refl (λ b. record { alone = none-flies (flight_of log) alone; begun = b }) tt is_change (ap is_change w)) tt
     where
-      none-flies : (o : Option Begun) → is_some o ≡ false → o ≡ None
+      none-flies : (o : Option BegunRequest) → is_some o ≡ false → o ≡ None
       none-flies None e = refl
       none-flies (Some b) e = cc
   begin-work small (Look program) w alone =
@@ -199,6 +199,7 @@ module _ (script : Script) (state : CoreState) (basis : Basis script state) (r :
       (begins-request small (BeganProgram r stamp) refl refl refl refl (λ b. b) tt is_look (ap is_look w)) tt
 
 module _ (script : Script) (state : CoreState) (basis : Basis script state) where
+  -- a `begin` that is done keeps a core, if the numbers of its stamp have 64 bits
   pub begin-keeps : (r : ℕ) → IsSmall script state (Begin r) → answer_of script state (Begin r) ≡ Ok → IsCore script (state_with script state (Begin r))
   begin-keeps r small ok = by (request_at script r) refl ok
     where

@@ -6,44 +6,45 @@ use Rattle.weave_data.proofs.Members.{flat_has, has_flat}
 use Rattle.weave_data.proofs.Ordered.{pairs_cases}
 use Rattle.program_defs.specs.declared.script.Script.{Script}
 use Rattle.weave_entries.specs.declared.gate_log.GateEntry.{GateEntry}
-use Rattle.weave_entries.specs.GateReplay.{Begun, begun_by, begun_in, flight_of, tx_by, program_by, programs_of, txs_of}
+use Rattle.weave_entries.specs.GateReplay.{BegunRequest, begun_by, begun_in, flight_of, tx_by, program_by, programs_of, txs_of}
 use Rattle.weave_account.specs.declared.account.Account.{Account}
 use Rattle.weave_account.specs.Account.{gate_log, all_begun}
 use Rattle.weave_account.specs.Gatekeepers.{BeginEachOnce}
 use Rattle.weave_account.specs.IsAccount.{IsAccount}
 use Rattle.program_defs.specs.Limits.{IsWithinLimits}
-use Rattle.step_rules.specs.LowerLaws.{LawsForSteps, Further}
+use Rattle.step_rules.specs.LowerLaws.{LawsForSteps, FurtherLowerLaws}
 
 -- a transaction that was begun is one of what was begun
-pub tx-begun : (log : List GateEntry) (b : Begun) → Contains (txs_of log) b → Contains (begun_in log) b
+pub tx-begun : (log : List GateEntry) (b : BegunRequest) → Contains (txs_of log) b → Contains (begun_in log) b
 tx-begun log b h =
     let from = flat_has (λ (e : GateEntry). tx_by e.author e.deed) log b h in
     has_flat (λ (e : GateEntry). begun_by e.author e.deed) log from.0 b from.1 (Contains-append_left (tx_by from.0.author from.0.deed) (program_by from.0.author from.0.deed) b from.2)
 
 -- and so is a program
-pub program-begun : (log : List GateEntry) (b : Begun) → Contains (programs_of log) b → Contains (begun_in log) b
+pub program-begun : (log : List GateEntry) (b : BegunRequest) → Contains (programs_of log) b → Contains (begun_in log) b
 program-begun log b h =
     let from = flat_has (λ (e : GateEntry). program_by e.author e.deed) log b h in
     has_flat (λ (e : GateEntry). begun_by e.author e.deed) log from.0 b from.1 (Contains-append_right (tx_by from.0.author from.0.deed) (program_by from.0.author from.0.deed) b from.2)
 
 -- what was begun at a gatekeeper that is there is among all that was begun
-pub all-in : (account : Account) (home : ℕ) (b : Begun) → home < length account.gates → Contains (begun_in (gate_log account home)) b → Contains (all_begun account) b
+pub all-in : (account : Account) (home : ℕ) (b : BegunRequest) → home < length account.gates → Contains (begun_in (gate_log account home)) b → Contains (all_begun account) b
 all-in account home b within h = has_flat begun_in account.gates (gate_log account home) b (Contains-get_or account.gates home [] within) h
 
 -- one request is begun once
-pub one-begun : (account : Account) → BeginEachOnce account → (a b : Begun) → Contains (all_begun account) a → Contains (all_begun account) b → a.request ≡ b.request → a ≡ b
-one-begun account once a b ha hb same = elim (pairs_cases (λ (x y : Begun). x.request ≢ y.request) (all_begun account) once a b ha hb) [
+pub one-begun : (account : Account) → BeginEachOnce account → (a b : BegunRequest) → Contains (all_begun account) a → Contains (all_begun account) b → a.request ≡ b.request → a ≡ b
+one-begun account once a b ha hb same = elim (pairs_cases (λ (x y : BegunRequest). x.request ≢ y.request) (all_begun account) once a b ha hb) [
   | inl one ↦ one
   | inr (inl differ) ↦ absurd (differ same)
   | inr (inr differ) ↦ absurd (differ (sym same))
 ]
 
-module _ (laws : LawsForSteps) (further : Further) (script : Script) (account : Account) (limits : IsWithinLimits script) (is : IsAccount script account) (home : ℕ) (inside : home < script.gates) where
+module _ (laws : LawsForSteps) (further : FurtherLowerLaws) (script : Script) (account : Account) (limits : IsWithinLimits script) (is : IsAccount script account) (home : ℕ) (inside : home < script.gates) where
+  -- a gatekeeper of the script has its log in the account
   pub inside-log : home < length account.gates
   inside-log = let many = is.gatekeepers.as_many in omega (arith, inside, many)
 
   -- what is in flight was begun
-  pub flight-begun : (flight : Begun) → flight_of (gate_log account home) ≡ Some flight → Contains (all_begun account) flight
+  pub flight-begun : (flight : BegunRequest) → flight_of (gate_log account home) ≡ Some flight → Contains (all_begun account) flight
   flight-begun flight flies =
       let tx = (laws.logs.open_flight home script.shards (gate_log account home) (is.gatekeepers.logs home) (further.accounts.each_once script account limits is home) flight).0 flies in
       all-in account home flight inside-log (tx-begun (gate_log account home) flight tx.0)

@@ -25,7 +25,7 @@ use Rattle.report_rules.specs.declared.report.StepAnswer.TheVariants.{Ok}
 use Rattle.weave_entries.specs.declared.message.Message.{Message}
 use Rattle.weave_entries.specs.declared.session_log.SessionEntry.{SessionEntry}
 use Rattle.weave_entries.specs.declared.session_log.SessionDeed.TheVariants as session
-use Rattle.weave_entries.specs.GateReplay.{Begun, channel_of, flight_of, program_begun}
+use Rattle.weave_entries.specs.GateReplay.{BegunRequest, channel_of, flight_of, program_begun}
 use Rattle.weave_entries.specs.SessionReplay.{has_reply_in, replied_in, reply_by}
 use Rattle.weave_entries.specs.StoreReplay.{Judgement}
 use Rattle.weave_account.specs.declared.account.Account.{Account}
@@ -143,11 +143,11 @@ module _ (laws : LawsForSteps) (script : Script) (limits : IsWithinLimits script
       adds-entry laws script account (after_begin account r request) request.session (record { author = request.session; deed = session.Begun r (stamp_to_begin account request) }) (IsStep (Begin r)) (session-within r request at) refl
       (λ q other there h. absurd (has_none q h)) (λ q other there same. absurd (let no : Begin r ≡ Reply q = same in cc))
 
-  judges : (flight : Option Begun) → (after_judge script account flight).sessions ≡ account.sessions
+  judges : (flight : Option BegunRequest) → (after_judge script account flight).sessions ≡ account.sessions
   judges None = refl
   judges (Some flight) = refl
 
-  sends : (home : ℕ) (flight : Option Begun) (judged : Option Judgement) → (after_send script account home flight judged).sessions ≡ account.sessions
+  sends : (home : ℕ) (flight : Option BegunRequest) (judged : Option Judgement) → (after_send script account home flight judged).sessions ≡ account.sessions
   sends home None judged = refl
   sends home (Some flight) None = refl
   sends home (Some flight) (Some judged) = refl
@@ -160,7 +160,7 @@ module _ (laws : LawsForSteps) (script : Script) (limits : IsWithinLimits script
   delivers home s number None = refl
   delivers home s number (Some message) = refl
 
-  visits : (r : ℕ) (begun : Option Begun) (next : Option Name) → (after_visit script account r begun next).sessions ≡ account.sessions
+  visits : (r : ℕ) (begun : Option BegunRequest) (next : Option Name) → (after_visit script account r begun next).sessions ≡ account.sessions
   visits r None next = refl
   visits r (Some begun) None = refl
   visits r (Some begun) (Some v) = refl
@@ -169,7 +169,7 @@ module _ (laws : LawsForSteps) (script : Script) (limits : IsWithinLimits script
   at-visit r None = refl
   at-visit r (Some request) = visits r (program_begun r (gate_log account request.gate)) (next_vertex account r request.work)
 
-  finishes : (r home : ℕ) (begun : Option Begun) → (with_finish account r home begun).sessions ≡ account.sessions
+  finishes : (r home : ℕ) (begun : Option BegunRequest) → (with_finish account r home begun).sessions ≡ account.sessions
   finishes r home None = refl
   finishes r home (Some begun) = refl
 
@@ -297,6 +297,7 @@ module _ (laws : LawsForSteps) (script : Script) (limits : IsWithinLimits script
   all-replied = by_last (λ steps. IsReplied steps (trace_of script steps)) at-first
       (λ steps step so_far. subst (IsReplied (steps ++ step ∷ [])) (sym (fold-append (traced_after script) (trace_start script) steps (step ∷ []))) (one-more steps (trace_of script steps) step so_far))
 
+  -- after steps from the empty logs a request has its reply exactly if a `reply` of it was done among them
   pub replied-exactly : (steps : List Step) (r : ℕ) (request : Request) → request_at script r ≡ Some request
       → IsTrue (has_reply (trace_of script steps).state.account r request) ↔ IsReplyDone steps (trace_of script steps).answers r
   replied-exactly steps r request at = let all = all-replied steps in (all.has r request at, all.from r request at)

@@ -1,5 +1,5 @@
 -- Numbers in a list, by the test and by membership.
--- Used by FinishStep, GateStep and ReplyStep.
+-- Used by FinishStep, QuietGateEntry and ReplyStep.
 use Rattle.std.proofs.Common.{ℕ, List, Contains, IsTrue, refl, sym, subst}
 use Rattle.std.specs.Prelude.{nat_eq}
 use Rattle.std.proofs.lemmas.Bool.{eqb-true, eq-eqb}

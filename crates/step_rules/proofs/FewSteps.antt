@@ -27,7 +27,7 @@ use Rattle.weave_entries.specs.declared.gate_log.GateEntry.{GateEntry}
 use Rattle.weave_entries.specs.declared.gate_log.GateDeed.{GateDeed}
 use Rattle.weave_entries.specs.declared.gate_log.GateDeed.TheVariants.{BeganTx, BeganProgram, Sent, Nop as Empty, Heard, Raised, Finished}
 use Rattle.weave_entries.specs.declared.message.Message.{Message}
-use Rattle.weave_entries.specs.GateReplay.{Begun, channel_of, clock_after_last, clock_of, flight_of, low_mark, next_number, next_stamp, program_begun, running_of, stamps_by, stamps_of, ticks_of}
+use Rattle.weave_entries.specs.GateReplay.{BegunRequest, channel_of, clock_after_last, clock_of, flight_of, low_mark, next_number, next_stamp, program_begun, running_of, stamps_by, stamps_of, ticks_of}
 use Rattle.weave_entries.specs.Sending.{messages_of}
 use Rattle.weave_entries.specs.StoreReplay.{Judgement}
 use Rattle.weave_account.specs.declared.account.Account.{Account}
@@ -38,7 +38,7 @@ use Rattle.step_rules.specs.CoreState.{CoreState, start_state, with_gate_deed}
 use Rattle.step_rules.specs.Answers.{answer_of}
 use Rattle.step_rules.specs.Entries.{account_with, after_begin, after_deliver, after_hear, after_judge, after_reply, after_send, after_visit, after_work, at_request, begin_deed, judgement_in_flight, stamp_to_begin, state_with, with_finish}
 use Rattle.step_rules.specs.IsCore.{AreSteps, IsCore, IsSmall, IsStepOf}
-use Rattle.step_rules.specs.LowerLaws.{LawsForSteps, Further}
+use Rattle.step_rules.specs.LowerLaws.{LawsForSteps, FurtherLowerLaws}
 use Rattle.step_rules.specs.Requests.{has_ended, last_begun, next_vertex}
 use Rattle.step_rules.specs.Trace.{is_ok, state_after}
 use Rattle.step_rules.proofs.Starting.{start-is-core}
@@ -211,11 +211,11 @@ module _ (script : Script) (state : CoreState) (limits : IsWithinLimits script) 
   begins-few r (Some request) at =
       adds-deed account request.gate 0 (begin_deed r (stamp_to_begin account request) request.work) (home-within limits core r request at) (begins-little r (stamp_to_begin account request) request.work)
 
-  judges-few : (flight : Option Begun) → AddsFew account (after_judge script account flight)
+  judges-few : (flight : Option BegunRequest) → AddsFew account (after_judge script account flight)
   judges-few None = adds-none account
   judges-few (Some flight) = λ home. inl refl
 
-  sends-few : (home : ℕ) → home < script.gates → (flight : Option Begun) (judged : Option Judgement) → AddsFew account (after_send script account home flight judged)
+  sends-few : (home : ℕ) → home < script.gates → (flight : Option BegunRequest) (judged : Option Judgement) → AddsFew account (after_send script account home flight judged)
   sends-few home inside None judged = adds-none account
   sends-few home inside (Some flight) None = adds-none account
   sends-few home inside (Some flight) (Some judged) =
@@ -229,7 +229,7 @@ module _ (script : Script) (state : CoreState) (limits : IsWithinLimits script) 
   delivers-few home shard number None = adds-none account
   delivers-few home shard number (Some message) = λ other. inl refl
 
-  visits-few : (r : ℕ) (begun : Option Begun) (next : Option Name) → AddsFew account (after_visit script account r begun next)
+  visits-few : (r : ℕ) (begun : Option BegunRequest) (next : Option Name) → AddsFew account (after_visit script account r begun next)
   visits-few r None next = adds-none account
   visits-few r (Some begun) None = adds-none account
   visits-few r (Some begun) (Some v) = λ home. inl refl
@@ -238,7 +238,7 @@ module _ (script : Script) (state : CoreState) (limits : IsWithinLimits script) 
   at-visit r None = adds-none account
   at-visit r (Some request) = visits-few r (program_begun r (gate_log account request.gate)) (next_vertex account r request.work)
 
-  finishes-few : (r : ℕ) (request : Request) → request_at script r ≡ Some request → (begun : Option Begun) → AddsFew account (with_finish account r request.gate begun)
+  finishes-few : (r : ℕ) (request : Request) → request_at script r ≡ Some request → (begun : Option BegunRequest) → AddsFew account (with_finish account r request.gate begun)
   finishes-few r request at None = adds-none account
   finishes-few r request at (Some begun) = adds-deed account request.gate begun.author (Finished r) (home-within limits core r request at) (λ epoch h. cc)
 
@@ -278,10 +278,10 @@ module _ (script : Script) (state : CoreState) (limits : IsWithinLimits script) 
       at true = step-few step range
       at false = adds-none account
 
-  module _ (laws : LawsForSteps) (further : Further) (n : ℕ) (few : IsFew n account) (below : n + 1 < 2 ^ 64) where
+  module _ (laws : LawsForSteps) (further : FurtherLowerLaws) (n : ℕ) (few : IsFew n account) (below : n + 1 < 2 ^ 64) where
     known-last : (session : ℕ) → ForSome (last_begun account session) (λ one. IsKnown account one.clock)
     known-last session old e =
-        let begun = map_has (λ (b : Begun). b.stamp) (all_begun account) old (further.accounts.last script account limits core.account session old e) in
+        let begun = map_has (λ (b : BegunRequest). b.stamp) (all_begun account) old (further.accounts.last script account limits core.account session old e) in
         subst (λ (t : Stamp). IsKnown account t.clock) begun.2 (laws.accounts.known_begun script account limits core.account begun.0 begun.1)
 
     heard-known : (g : ℕ) → g < 8 → (last : Option Stamp) → ForSome last (λ one. IsKnown account one.clock) → IsKnown account (clock_after_last g (clock_of g (gate_log account g)) last)
@@ -296,6 +296,7 @@ module _ (script : Script) (state : CoreState) (limits : IsWithinLimits script) 
         tick-small n account few below request.gate (clock_after_last request.gate (clock_of request.gate (gate_log account request.gate)) (last_begun account request.session))
         (heard-known request.gate (omega (arith, inside, gates)) (last_begun account request.session) (known-last request.session))
 
+    -- a request begun now has a stamp of 64 bits if gatekeepers made few entries, none to an epoch past 1,000,000
     pub step-small : (step : Step) → IsSmall script state step
     step-small (Begin r) = stamp-small r
     step-small (Judge g) = tt
@@ -312,7 +313,7 @@ module _ (script : Script) (state : CoreState) (limits : IsWithinLimits script) 
 
 -- All steps
 
-module _ (laws : LawsForSteps) (further : Further) (script : Script) (limits : IsWithinLimits script) where
+module _ (laws : LawsForSteps) (further : FurtherLowerLaws) (script : Script) (limits : IsWithinLimits script) where
   are-steps : (steps : List Step) (n : ℕ) (state : CoreState) → IsCore script state → IsFew n state.account → n + length steps < 2 ^ 64 → ((step : Step) → Contains steps step → IsStepOf script step) → AreSteps script state steps
   are-steps [] n state core few below each = tt
   are-steps (step ∷ steps) n state core few below each =
@@ -325,5 +326,6 @@ module _ (laws : LawsForSteps) (further : Further) (script : Script) (limits : I
             (few-after n state.account (state_after script state step).account few (after-few script state limits core step range)) (omega (arith, below)) (λ one h. each one (has_tail step steps one h)),
       )
 
+  -- steps of a script, fewer than 2 to the 64, give stamps of 64 bits one after another from the empty logs
   pub few-are-steps : (steps : List Step) → ((step : Step) → Contains steps step → IsStepOf script step) → length steps < 2 ^ 64 → AreSteps script (start_state script) steps
   few-are-steps steps each below = are-steps steps 0 (start_state script) (start-is-core laws.accounts.empty script) (few-at-first script) (omega (arith, below)) each

@@ -38,6 +38,7 @@ pub is-some-map : {A B : Type 0} (f : A → B) (o : Option A) → is_some (optio
 is-some-map f None = refl
 is-some-map f (Some x) = refl
 
+-- an option with nothing to fall back on stays as it is
 pub or-none : {A : Type 0} (o : Option A) → option_or o None ≡ o
 or-none None = refl
 or-none (Some x) = refl

@@ -19,7 +19,7 @@ use Rattle.weave_entries.specs.declared.gate_log.GateEntry.{GateEntry}
 use Rattle.weave_entries.specs.declared.gate_log.GateDeed.TheVariants.{Finished}
 use Rattle.weave_entries.specs.declared.session_log.SessionEntry.{SessionEntry}
 use Rattle.weave_entries.specs.declared.session_log.SessionDeed.TheVariants as session
-use Rattle.weave_entries.specs.GateReplay.{Begun, begun_by, begun_in, clocks_by, clocks_in, ended_by, ended_in}
+use Rattle.weave_entries.specs.GateReplay.{BegunRequest, begun_by, begun_in, clocks_by, clocks_in, ended_by, ended_in}
 use Rattle.weave_entries.specs.GateRules.{Finishes, FitsAs, HearsAs}
 use Rattle.weave_entries.specs.SessionReplay.{FitsSession, RepliesToLast, begin_by, begins_in, has_reply_in, replied_in, reply_by, session_of, session_stamp_of}
 use Rattle.report_rules.specs.Lookups.{request_at}
@@ -57,6 +57,7 @@ module _ (laws : LawsForSteps) (script : Script) (account : Account) (limits : I
   abbrev pub next : Account
   next = with_session_deed (with_gate_deed account g author (Finished r)) s (session.Replied r)
 
+  -- each log is the beginning of the same log after the program is finished and has its reply
   pub on : GoesOn account next
   on =
       goes-further account (with_gate_deed account g author (Finished r)) next (with-gate-deed account g author (Finished r) (gate-within is g inside))
@@ -68,10 +69,10 @@ module _ (laws : LawsForSteps) (script : Script) (account : Account) (limits : I
   all-same = flat-set begun_in account.gates g (log ++ entry ∷ []) (gate-within is g inside) (flat_map-append (λ (e : GateEntry). begun_by e.author e.deed) log (entry ∷ []) ∙ append-nil (begun_in log))
 
   stamp-same : (q : ℕ) → stamp_of next q ≡ stamp_of account q
-  stamp-same q = ap (λ all. option_map (λ (begun : Begun). begun.stamp) (find (λ (begun : Begun). begun.request == q) all)) all-same
+  stamp-same q = ap (λ all. option_map (λ (begun : BegunRequest). begun.stamp) (find (λ (begun : BegunRequest). begun.request == q) all)) all-same
 
-  once-next : AllPairs (λ (a b : Begun). a.request ≢ b.request) (all_begun next)
-  once-next = subst (AllPairs (λ (a b : Begun). a.request ≢ b.request)) (sym all-same) is.gatekeepers.once
+  once-next : AllPairs (λ (a b : BegunRequest). a.request ≢ b.request) (all_begun next)
+  once-next = subst (AllPairs (λ (a b : BegunRequest). a.request ≢ b.request)) (sym all-same) is.gatekeepers.once
 
   -- What has ended is one more
 

@@ -1,5 +1,5 @@
 -- The clauses of an account that stay while other logs go on.
--- Used by BeginAccount, FinishStep, GateStep, JudgeStep, ReplyStep, ShardStep and VisitStep.
+-- Used by BeginAccount, FinishStep, JudgeStep, QuietGateEntry, ReplyStep, ShardStep and VisitStep.
 use Rattle.std.proofs.Common.{◌≡◌, ◌≢◌, ℕ, List, AllPairs, Contains, sym, subst}
 use Rattle.std.specs.List.{flat_map}
 use Rattle.vector_stamp.specs.declared.clock.Stamp.{Stamp}

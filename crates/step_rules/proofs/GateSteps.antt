@@ -23,7 +23,7 @@ use Rattle.step_rules.specs.Answers.{answer_of}
 use Rattle.step_rules.specs.Entries.{state_with, after_hear}
 use Rattle.step_rules.specs.IsCore.{IsCore}
 use Rattle.step_rules.proofs.Basis.{Basis}
-use Rattle.step_rules.proofs.GateStep.{known-after, gate-goes-on}
+use Rattle.step_rules.proofs.QuietGateEntry.{known-after, gate-goes-on}
 
 module _ (script : Script) (state : CoreState) (basis : Basis script state) where
   abbrev account : Account
@@ -38,7 +38,7 @@ module _ (script : Script) (state : CoreState) (basis : Basis script state) wher
     notices = λ clock h. known-after basis.laws script account basis.limits basis.core.account g inside author deed none clock (basis.core.notices clock h);
   }
 
-  -- the gatekeeper's clock is a notice
+  -- a `say` at a gatekeeper of the script keeps a core
   pub say-keeps : (g : ℕ) → g < script.gates → IsCore script (state_with script state (Say g))
   say-keeps g inside = record {
     account = basis.core.account;
@@ -56,7 +56,7 @@ module _ (script : Script) (state : CoreState) (basis : Basis script state) wher
       at true e = cc
       at false e = (n - 1, slice_get_within xs (n - 1) x e, get_or_from_slice_get xs (n - 1) x x e)
 
-  -- a notice is heard
+  -- a `hear` that is done at a gatekeeper of the script keeps a core
   pub hear-keeps : (g n : ℕ) → g < script.gates → answer_of script state (Hear g n) ≡ Ok → IsCore script (state_with script state (Hear g n))
   hear-keeps g n inside ok = at (sent_as n state.notices) refl ok
     where
@@ -69,7 +69,7 @@ module _ (script : Script) (state : CoreState) (basis : Basis script state) wher
           (λ c h. subst (IsKnown (with_gate_deed account g 0 (gate.Heard clock))) (only clock c h) (known-after basis.laws script account basis.limits basis.core.account g inside 0 (gate.Heard clock) refl clock known))
           (basis.further.accounts.may_be_heard script account basis.limits basis.core.account g clock inside known) tt (λ r request program there look h. has_none r h))
 
-  -- the epoch is raised
+  -- an `epoch` that is done at a gatekeeper of the script keeps a core
   pub epoch-keeps : (g epoch : ℕ) → g < script.gates → answer_of script state (Epoch g epoch) ≡ Ok → IsCore script (state_with script state (Epoch g epoch))
   epoch-keeps g epoch inside ok = at (nat_lt (clock_of g (gate_log account g)).epoch epoch) refl ok
     where

@@ -16,7 +16,7 @@ use Rattle.graph_ops.specs.declared.op.Reason.{Reason}
 use Rattle.graph_ops.specs.declared.tx.Got.{Got}
 use Rattle.vector_stamp.specs.declared.clock.Stamp.{Stamp}
 use Rattle.vector_stamp.specs.Order.{id_of, stamp_before}
-use Rattle.vector_stamp.specs.Precedence.{Given, Precedes, ByStamps, precedes}
+use Rattle.vector_stamp.specs.Precedence.{GivenPair, Precedes, ByStamps, precedes}
 use Rattle.program_defs.specs.declared.script.Request.{Request}
 use Rattle.program_defs.specs.declared.script.Script.{Script}
 use Rattle.program_defs.specs.declared.script.Step.TheVariants.{Judge}
@@ -30,7 +30,7 @@ use Rattle.weave_entries.specs.declared.store_log.StoreEntry.{StoreEntry}
 use Rattle.weave_entries.specs.declared.store_log.StoreDeed.TheVariants.{Judged}
 use Rattle.weave_entries.specs.declared.verdict.Verdict.{Verdict}
 use Rattle.weave_entries.specs.declared.verdict.Verdict.TheVariants.{Committed, Conflict, Refused}
-use Rattle.weave_entries.specs.GateReplay.{Begun, flight_of, txs_of}
+use Rattle.weave_entries.specs.GateReplay.{BegunRequest, flight_of, txs_of}
 use Rattle.weave_entries.specs.OracleReplay.{pairs_of_log, settled_entry}
 use Rattle.weave_entries.specs.OracleRules.{IsOracleLog}
 use Rattle.weave_entries.specs.StoreReplay.{Commit, Judgement, commit_by, graph_committed, judged_by, judgement_of, judgements_of}
@@ -54,7 +54,7 @@ use Rattle.step_rules.proofs.Commits.{all-from, commit-stamp, in-reverse}
 use Rattle.step_rules.proofs.Verdicts.{IsSettled, all-precede, asked-is, none-refused, settles}
 
 module _ (script : Script) (state : CoreState) (basis : Basis script state) (g : ℕ) (inside : g < script.gates)
-    (flight : Begun) (flies : flight_of (gate_log state.account g) ≡ Some flight) (unjudged : judgement_of flight.request state.account.store ≡ None) where
+    (flight : BegunRequest) (flies : flight_of (gate_log state.account g) ≡ Some flight) (unjudged : judgement_of flight.request state.account.store ≡ None) where
   abbrev account : Account
   account = state.account
 
@@ -70,7 +70,7 @@ module _ (script : Script) (state : CoreState) (basis : Basis script state) (g :
   abbrev commits : List Commit
   commits = commits_in account
 
-  abbrev pairs : List Given
+  abbrev pairs : List GivenPair
   pairs = pairs_in account
 
   abbrev lasts : List LastCommit
@@ -261,6 +261,7 @@ module _ (script : Script) (state : CoreState) (basis : Basis script state) (g :
         programs = λ r request program at look. (let read = is.programs r request program at look in record { once = read.once; first_ones = read.first_ones; whole = read.whole });
       }
 
+  -- the judgement, by the rule of the store, of a transaction in flight that has no verdict keeps a core
   pub judged-keeps : IsCore script (record { account = with_judgement account flight ops; notices = state.notices })
   judged-keeps = record {
     account = judges-on;
@@ -269,10 +270,11 @@ module _ (script : Script) (state : CoreState) (basis : Basis script state) (g :
   }
 
 module _ (script : Script) (state : CoreState) (basis : Basis script state) where
+  -- a `judge` that is done keeps a core
   pub judge-keeps : (g : ℕ) → g < script.gates → answer_of script state (Judge g) ≡ answer.Ok → IsCore script (state_with script state (Judge g))
   judge-keeps g inside ok = at (flight_of (gate_log state.account g)) refl ok
     where
-      at : (o : Option Begun) → flight_of (gate_log state.account g) ≡ o → answer_of_judge state.account o ≡ answer.Ok → IsCore script (record { account = after_judge script state.account o; notices = state.notices })
+      at : (o : Option BegunRequest) → flight_of (gate_log state.account g) ≡ o → answer_of_judge state.account o ≡ answer.Ok → IsCore script (record { account = after_judge script state.account o; notices = state.notices })
       at None e ok = cc
       at (Some flight) e ok = by-judgement (judgement_of flight.request state.account.store) refl ok
         where

@@ -5,7 +5,7 @@ pub mod FindLists
 mod Frames
 mod Within
 mod SetLogs
-mod GateStep
+mod QuietGateEntry
 mod GateSteps
 pub mod SessionTurns
 mod Begun

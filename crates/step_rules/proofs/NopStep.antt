@@ -14,7 +14,7 @@ use Rattle.report_rules.specs.declared.report.StepAnswer.TheVariants.{Ok, Busy}
 use Rattle.weave_entries.specs.declared.gate_log.GateEntry.{GateEntry}
 use Rattle.weave_entries.specs.declared.gate_log.GateDeed.{GateDeed}
 use Rattle.weave_entries.specs.declared.gate_log.GateDeed.TheVariants as gate
-use Rattle.weave_entries.specs.GateReplay.{Begun, clock_of, clocks_by, flight_of, low_mark, next_number, next_stamp, running_of, stamps_by, stamps_of, ticks_of}
+use Rattle.weave_entries.specs.GateReplay.{BegunRequest, clock_of, clocks_by, flight_of, low_mark, next_number, next_stamp, running_of, stamps_by, stamps_of, ticks_of}
 use Rattle.weave_account.specs.declared.account.Account.{Account}
 use Rattle.weave_account.specs.Account.{gate_log}
 use Rattle.weave_account.specs.Clocks.{IsKnown}
@@ -24,7 +24,7 @@ use Rattle.step_rules.specs.Entries.{state_with}
 use Rattle.step_rules.specs.IsCore.{IsCore}
 use Rattle.step_rules.proofs.Basis.{Basis}
 use Rattle.step_rules.proofs.Begun.{all-in, inside-log, program-begun}
-use Rattle.step_rules.proofs.GateStep.{gate-goes-on, known-after, log-here, on}
+use Rattle.step_rules.proofs.QuietGateEntry.{gate-goes-on, known-after, log-here, on}
 use Rattle.step_rules.proofs.GateSteps.{deed-keeps}
 
 module _ (script : Script) (state : CoreState) (basis : Basis script state) (g s : ℕ) (inside : g < script.gates) (shard-inside : s < script.shards) where
@@ -57,7 +57,7 @@ module _ (script : Script) (state : CoreState) (basis : Basis script state) (g s
   stamp-known = basis.further.accounts.ticked script account now basis.limits basis.core.account (on basis.laws script account basis.limits basis.core.account g inside 0 deed refl) g inside clock
       (basis.laws.accounts.known_gatekeepers script account basis.limits basis.core.account g) ticked
 
-  running-known : (b : Begun) → Contains (running_of log) b → IsKnown now b.stamp.clock
+  running-known : (b : BegunRequest) → Contains (running_of log) b → IsKnown now b.stamp.clock
   running-known b h =
       let program = (basis.laws.logs.open_running g script.shards log (basis.core.account.gatekeepers.logs g) (basis.further.accounts.each_once script account basis.limits basis.core.account g) b).0 h in
       known-after basis.laws script account basis.limits basis.core.account g inside 0 deed refl b.stamp.clock (basis.laws.accounts.known_begun script account basis.limits basis.core.account b
@@ -69,10 +69,11 @@ module _ (script : Script) (state : CoreState) (basis : Basis script state) (g s
     | inr rest ↦ subst (IsKnown now) (only (low_mark stamp (running_of log)) c rest) (basis.further.accounts.low now stamp (running_of log) stamp-known running-known)
   ]
 
+  -- a `nop` that is done keeps a core
   pub nop-keeps : answer_of script state (Nop g s) ≡ Ok → IsCore script (state_with script state (Nop g s))
   nop-keeps ok = at (flight_of log) refl ok
     where
-      at : (o : Option Begun) → flight_of log ≡ o → cond (is_some o) Busy Ok ≡ Ok → IsCore script (state_with script state (Nop g s))
+      at : (o : Option BegunRequest) → flight_of log ≡ o → cond (is_some o) Busy Ok ≡ Ok → IsCore script (state_with script state (Nop g s))
       at (Some flight) e ok = cc
       at None e ok = deed-keeps script state basis g inside 0 deed refl
           (gate-goes-on basis.laws script account basis.limits basis.core.account g inside 0 deed refl

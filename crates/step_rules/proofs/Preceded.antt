@@ -4,7 +4,7 @@ use Rattle.std.proofs.Common.{List, [], ◌∷◌, ◌++◌, Contains, IsTrue, i
 use Rattle.std.proofs.lemmas.List.Elements.{Contains-append_left}
 use Rattle.weave_data.proofs.Members.{has_none, has_read}
 use Rattle.vector_stamp.specs.declared.clock.Stamp.{Stamp}
-use Rattle.vector_stamp.specs.Precedence.{Given, precedes}
+use Rattle.vector_stamp.specs.Precedence.{GivenPair, precedes}
 use Rattle.weave_entries.specs.declared.oracle_log.OracleEntry.{OracleEntry}
 use Rattle.weave_entries.specs.OracleReplay.{pairs_of_entry, pairs_of_log, settled_entry}
 use Rattle.weave_entries.specs.OracleRules.{IsRightEntry, IsRightFrom}
@@ -12,7 +12,7 @@ use Rattle.step_rules.specs.LowerLaws.{LawsForSteps}
 
 module _ (laws : LawsForSteps) where
   -- those of the first entry
-  first-precede : (pairs rest : List Given) (entry : OracleEntry) → IsRightEntry pairs (settled_entry entry) → (x : Stamp) → Contains (settled_entry entry).earlier x
+  first-precede : (pairs rest : List GivenPair) (entry : OracleEntry) → IsRightEntry pairs (settled_entry entry) → (x : Stamp) → Contains (settled_entry entry).earlier x
       → IsTrue (precedes (pairs ++ (pairs_of_entry (settled_entry entry) ++ rest)) x (settled_entry entry).later)
   first-precede pairs rest entry right x h =
       let settled = settled_entry entry in
@@ -22,7 +22,7 @@ module _ (laws : LawsForSteps) where
       (λ a b one. subst (λ ps. Contains ps (a, b)) (append_assoc pairs (pairs_of_entry settled) rest) (Contains-append_left (pairs ++ pairs_of_entry settled) rest (a, b) one)) x settled.later now
 
   -- those of each entry
-  pub each-precede : (pairs : List Given) (log : List OracleEntry) → IsRightFrom pairs log → (entry : OracleEntry) → Contains log entry → (x : Stamp) → Contains (settled_entry entry).earlier x
+  pub each-precede : (pairs : List GivenPair) (log : List OracleEntry) → IsRightFrom pairs log → (entry : OracleEntry) → Contains log entry → (x : Stamp) → Contains (settled_entry entry).earlier x
       → IsTrue (precedes (pairs ++ pairs_of_log log) x (settled_entry entry).later)
   each-precede pairs [] right entry h x has = absurd (has_none entry h)
   each-precede pairs (first ∷ log) right entry h x has = elim (has_read first log entry h) [

@@ -17,7 +17,7 @@ use Rattle.report_rules.specs.Lookups.{is_some_and, request_at}
 use Rattle.weave_entries.specs.declared.gate_log.GateEntry.{GateEntry}
 use Rattle.weave_entries.specs.declared.gate_log.GateDeed.{GateDeed}
 use Rattle.weave_entries.specs.declared.gate_log.GateDeed.TheVariants.{BeganTx, BeganProgram, Sent, Nop, Heard, Raised, Finished}
-use Rattle.weave_entries.specs.GateReplay.{Begun, begun_by, begun_in, program_by, programs_of, tx_by}
+use Rattle.weave_entries.specs.GateReplay.{BegunRequest, begun_by, begun_in, program_by, programs_of, tx_by}
 use Rattle.weave_account.specs.declared.account.Account.{Account}
 use Rattle.weave_account.specs.Account.{all_begun, gate_log, stamp_of}
 use Rattle.weave_account.specs.Gatekeepers.{BeginsAs}
@@ -36,8 +36,8 @@ abbrev IsOwn : Script → (Work → Bool) → ℕ → ℕ → Type 0
 IsOwn script is_kind home r = IsTrue (is_some_and (λ (request : Request). (request.gate == home) && is_kind request.work) (request_at script r))
 
 module _ (script : Script) (account : Account) (home : ℕ) (before : List GateEntry) where
-  tx-own : (author : ℕ) (deed : GateDeed) (b : Begun) → BeginsAs script account home before deed → Contains (tx_by author deed) b → IsOwn script is_change home b.request
-  tx-own author (BeganTx r stamp) b begins h = subst (λ (c : Begun). IsOwn script is_change home c.request) (only (record { author = author; request = r; stamp = stamp }) b h) begins.own
+  tx-own : (author : ℕ) (deed : GateDeed) (b : BegunRequest) → BeginsAs script account home before deed → Contains (tx_by author deed) b → IsOwn script is_change home b.request
+  tx-own author (BeganTx r stamp) b begins h = subst (λ (c : BegunRequest). IsOwn script is_change home c.request) (only (record { author = author; request = r; stamp = stamp }) b h) begins.own
   tx-own author (BeganProgram r stamp) b begins h = absurd (has_none b h)
   tx-own author (Sent r messages) b begins h = absurd (has_none b h)
   tx-own author (Nop to number stamp low) b begins h = absurd (has_none b h)
@@ -45,8 +45,8 @@ module _ (script : Script) (account : Account) (home : ℕ) (before : List GateE
   tx-own author (Raised epoch) b begins h = absurd (has_none b h)
   tx-own author (Finished r) b begins h = absurd (has_none b h)
 
-  program-own : (author : ℕ) (deed : GateDeed) (b : Begun) → BeginsAs script account home before deed → Contains (program_by author deed) b → IsOwn script is_look home b.request
-  program-own author (BeganProgram r stamp) b begins h = subst (λ (c : Begun). IsOwn script is_look home c.request) (only (record { author = author; request = r; stamp = stamp }) b h) begins.own
+  program-own : (author : ℕ) (deed : GateDeed) (b : BegunRequest) → BeginsAs script account home before deed → Contains (program_by author deed) b → IsOwn script is_look home b.request
+  program-own author (BeganProgram r stamp) b begins h = subst (λ (c : BegunRequest). IsOwn script is_look home c.request) (only (record { author = author; request = r; stamp = stamp }) b h) begins.own
   program-own author (BeganTx r stamp) b begins h = absurd (has_none b h)
   program-own author (Sent r messages) b begins h = absurd (has_none b h)
   program-own author (Nop to number stamp low) b begins h = absurd (has_none b h)
@@ -57,11 +57,11 @@ module _ (script : Script) (account : Account) (home : ℕ) (before : List GateE
 module _ (script : Script) (account : Account) (is : IsAccount script account) (r : ℕ) (request : Request) (request-is : request_at script r ≡ Some request) (program : Program) (look : request.work ≡ Look program) where
   -- as the gatekeepers say, it was begun as a program at its own
   pub record IsBegunProgram : Type 0 where
-    pub begun : Begun
+    pub begun : BegunRequest
     pub there : Contains (programs_of (gate_log account request.gate)) begun
     pub request_is : IsTrue (begun.request == r)
 
-  at-its-own : (b : Begun) (home : ℕ) → IsTrue (b.request == r) → Contains (begun_in (gate_log account home)) b → IsBegunProgram
+  at-its-own : (b : BegunRequest) (home : ℕ) → IsTrue (b.request == r) → Contains (begun_in (gate_log account home)) b → IsBegunProgram
   at-its-own b home same h =
       let from = flat_has (λ (e : GateEntry). begun_by e.author e.deed) (gate_log account home) b h in
       let cut = cut_at (gate_log account home) from.0 from.1 in
@@ -82,13 +82,14 @@ module _ (script : Script) (account : Account) (is : IsAccount script account) (
       no-change : (home : ℕ) → IsTrue ((request.gate == home) && is_change request.work) → IsBegunProgram
       no-change home h = absurd (let change : IsTrue (is_change (Look program)) = subst (λ w. IsTrue (is_change w)) look (and_parts (request.gate == home) (is_change request.work) h).1 in cc)
 
+  -- a program that has a stamp was begun as a program at its own gatekeeper
   pub program-there : is_some (stamp_of account r) ≡ true → IsBegunProgram
-  program-there some = at (find (λ (b : Begun). b.request == r) (all_begun account)) refl some
+  program-there some = at (find (λ (b : BegunRequest). b.request == r) (all_begun account)) refl some
     where
-      at : (o : Option Begun) → find (λ (b : Begun). b.request == r) (all_begun account) ≡ o → is_some (option_map (λ (b : Begun). b.stamp) o) ≡ true → IsBegunProgram
+      at : (o : Option BegunRequest) → find (λ (b : BegunRequest). b.request == r) (all_begun account) ≡ o → is_some (option_map (λ (b : BegunRequest). b.stamp) o) ≡ true → IsBegunProgram
       at None e h = cc
       at (Some b) e h =
-          let has = find_has (λ (one : Begun). one.request == r) (all_begun account) b e in
+          let has = find_has (λ (one : BegunRequest). one.request == r) (all_begun account) b e in
           let log = flat_has begun_in account.gates b has.0 in
           let home = list-place account.gates log.0 log.1 in
           at-its-own b home.0 has.1 (subst (λ l. Contains (begun_in l) b) (sym home.1) log.2)

@@ -26,11 +26,11 @@ use Rattle.step_rules.proofs.Basis.{Basis}
 use Rattle.step_rules.proofs.ShardStep.{quiet-keeps}
 
 module _ (script : Script) (state : CoreState) (basis : Basis script state) where
-  -- the bound is that of the log
+  -- a `collect` at a shard of the script keeps a core
   pub collect-keeps : (s : ℕ) → s < script.shards → IsCore script (state_with script state (Collect s))
   collect-keeps s inside = quiet-keeps script state basis s inside (shard.Collected (bound_of script.gates (shard_log state.account s))) refl refl
 
-  -- the head is applied in its turn
+  -- an `apply` that is done at a shard of the script keeps a core
   pub apply-keeps : (s g : ℕ) → s < script.shards → answer_of script state (Apply s g) ≡ Ok → IsCore script (state_with script state (Apply s g))
   apply-keeps s g inside ok = at (head_of g (shard_log state.account s)) refl ok
     where
@@ -79,7 +79,7 @@ sent-addressed shard log channel number message e =
     subst (λ (a : Addressed). Contains (addressed_to shard log) a) (λ i. record { shard = to i; number = same i; message = got.2 i }) got.1
 
 module _ (script : Script) (state : CoreState) (basis : Basis script state) where
-  -- a message arrives as it was sent
+  -- a `deliver` that is done, from a gatekeeper to a shard of the script, keeps a core
   pub deliver-keeps : (g s n : ℕ) → g < script.gates → s < script.shards → answer_of script state (Deliver g s n) ≡ Ok → IsCore script (state_with script state (Deliver g s n))
   deliver-keeps g s n inside shard-inside ok = at (sent_as n (channel_of s (gate_log state.account g))) refl (arrived_at g n (shard_log state.account s)) refl ok
     where

@@ -1,4 +1,4 @@
--- `reply` of a transaction keeps a core.
+-- `reply` of a request that was sent or finished keeps a core.
 -- Used by Replying.
 use Rattle.std.proofs.Common.{◌≡◌, ◌≢◌, ℕ, ◌<◌, ◌==◌, true, false, List, [], ◌∷◌, ◌++◌, length, Contains, IsTrue, Some, refl, sym, ap, subst, ◌∙◌, inl, inr, get_or-set_same, get_or-set_other}
 use Rattle.std.specs.List.{find, flat_map, list_any}
@@ -46,12 +46,15 @@ module _ (laws : LawsForSteps) (script : Script) (account : Account) (limits : I
   abbrev pub replied : Account
   replied = with_session_deed account s (session.Replied r)
 
+  -- after the reply the session's log has one more entry, that of the reply
   pub session-here : session_log replied s ≡ slog ++ reply-entry ∷ []
   session-here = get_or-set_same account.sessions s (slog ++ reply-entry ∷ []) [] within
 
+  -- the logs of all other sessions stay
   pub session-there : (i : ℕ) → i ≢ s → session_log replied i ≡ session_log account i
   session-there i other = get_or-set_other account.sessions s i (slog ++ reply-entry ∷ []) [] other
 
+  -- each log is the beginning of the same log after the reply
   pub on : GoesOn account replied
   on = record {
     gates = λ home. ([], sym (append-nil (gate_log account home)));
@@ -110,7 +113,7 @@ module _ (laws : LawsForSteps) (script : Script) (account : Account) (limits : I
       no-begin : (q : ℕ) → session_stamp_of q (slog ++ reply-entry ∷ []) ≡ session_stamp_of q slog
       no-begin q = ap (λ bs. option_map (λ (begun : ℕ × Stamp). begun.1) (find (λ (begun : ℕ × Stamp). begun.0 == q) bs)) (flat_map-append (λ (e : SessionEntry). begin_by e.deed) slog (reply-entry ∷ []) ∙ append-nil (begins_in slog))
 
--- A transaction's reply
+-- The reply of a request that was sent or finished
 
 module _ (script : Script) (state : CoreState) (basis : Basis script state) (r : ℕ) (request : Request) (request-is : request_at script r ≡ Some request)
     (begun : has_begun state.account r request ≡ true) (unreplied : has_reply state.account r request ≡ false) (ended : has_ended state.account r request ≡ true) where
@@ -130,6 +133,7 @@ module _ (script : Script) (state : CoreState) (basis : Basis script state) (r :
       ended-there : (all : List ℕ) → list_any (λ one. one == r) all ≡ true → Contains all r
       ended-there all h = let found = any_has (λ one. one == r) all h in subst (λ k. Contains all k) (eqb-true found.0 r found.2) found.1
 
+  -- the reply to a request that has begun, has no reply yet, and was sent or finished keeps a core
   pub replied-keeps : IsCore script (record { account = with_session_deed account s (session.Replied r); notices = state.notices })
   replied-keeps = record {
     account = reply-goes-on basis.laws script account basis.limits basis.core.account s (session-within basis.limits basis.core r request request-is) r fits has-ended;

@@ -20,7 +20,7 @@ use Rattle.report_rules.specs.declared.report.StepAnswer.TheVariants.{Ok, Idle}
 use Rattle.weave_entries.specs.declared.gate_log.GateEntry.{GateEntry}
 use Rattle.weave_entries.specs.declared.gate_log.GateDeed.TheVariants as gate
 use Rattle.weave_entries.specs.declared.session_log.SessionDeed.TheVariants as session
-use Rattle.weave_entries.specs.GateReplay.{Begun, ended_in, is_begun, program_begun, programs_of, running_of}
+use Rattle.weave_entries.specs.GateReplay.{BegunRequest, ended_in, is_begun, program_begun, programs_of, running_of}
 use Rattle.weave_entries.specs.SessionReplay.{RepliesToLast, begins_in, session_of}
 use Rattle.weave_account.specs.declared.account.Account.{Account}
 use Rattle.weave_account.specs.Account.{gate_log, session_log, stamp_of, reads_of}
@@ -75,10 +75,10 @@ module _ (script : Script) (state : CoreState) (basis : Basis script state) (r :
       ∙ sym (any-find (λ (one : ℕ × Stamp). one.0 == r) (begins_in (session_log account s))) ∙ begun
 
   -- a running program that has read all is finished
-  finishes : (program : Program) → request.work ≡ Look program → next_visit (reads_of account r) program ≡ None → has_ended account r request ≡ false → (b : Begun) → program_begun r log ≡ Some b
+  finishes : (program : Program) → request.work ≡ Look program → next_visit (reads_of account r) program ≡ None → has_ended account r request ≡ false → (b : BegunRequest) → program_begun r log ≡ Some b
       → IsCore script (record { account = with_session_deed (with_gate_deed account g b.author (gate.Finished r)) s (session.Replied r); notices = state.notices })
   finishes program look read goes b e =
-      let has = find_has (λ (one : Begun). one.request == r) (programs_of log) b e in
+      let has = find_has (λ (one : BegunRequest). one.request == r) (programs_of log) b e in
       let running = (basis.laws.logs.open_running g script.shards log (is.gatekeepers.logs g) (basis.further.accounts.each_once script account basis.limits is g) b).1
       (has.0, λ ended. both_ways (list_any (λ one. one == r) (ended_in log)) goes (any_from (λ one. one == r) (ended_in log) b.request ended has.1)) in
       record {
@@ -101,12 +101,12 @@ module _ (script : Script) (state : CoreState) (basis : Basis script state) (r :
   by-work (Change ops) w answered = replied-keeps script state basis r request request-is begun unreplied answered
   by-work (Look program) w answered = by-end (has_ended account r request) refl
     where
-      by-program : (o : Option Begun) → program_begun r log ≡ o → has_ended account r request ≡ false
+      by-program : (o : Option BegunRequest) → program_begun r log ≡ o → has_ended account r request ≡ false
           → IsCore script (record { account = with_session_deed (with_finish account r g o) s (session.Replied r); notices = state.notices })
       by-program (Some b) e goes = finishes program w (none-is (next_visit (reads_of account r) program) answered) goes b e
       by-program None e goes =
           let one = program-there script account is r request request-is program w has-stamp in
-          absurd (find_lacks (λ (b : Begun). b.request == r) (programs_of log) one.begun e one.there one.request_is)
+          absurd (find_lacks (λ (b : BegunRequest). b.request == r) (programs_of log) one.begun e one.there one.request_is)
 
       by-end : (b : Bool) → has_ended account r request ≡ b
           → IsCore script (record { account = with_session_deed (cond b account (with_finish account r g (program_begun r log))) s (session.Replied r); notices = state.notices })
@@ -114,6 +114,7 @@ module _ (script : Script) (state : CoreState) (basis : Basis script state) (r :
       by-end false e = by-program (program_begun r log) refl e
 
 module _ (script : Script) (state : CoreState) (basis : Basis script state) where
+  -- a `reply` that is done keeps a core
   pub reply-keeps : (r : ℕ) → answer_of script state (Reply r) ≡ Ok → IsCore script (state_with script state (Reply r))
   reply-keeps r ok = at (request_at script r) refl ok
     where

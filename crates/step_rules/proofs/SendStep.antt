@@ -23,7 +23,7 @@ use Rattle.weave_entries.specs.declared.message.Addressed.{Addressed}
 use Rattle.weave_entries.specs.declared.verdict.Counted.{Counted}
 use Rattle.weave_entries.specs.declared.verdict.Verdict.{Verdict}
 use Rattle.weave_entries.specs.declared.verdict.Verdict.TheVariants.{Committed, Conflict, Refused}
-use Rattle.weave_entries.specs.GateReplay.{Begun, clocks_of_message, flight_of, low_mark, running_of}
+use Rattle.weave_entries.specs.GateReplay.{BegunRequest, clocks_of_message, flight_of, low_mark, running_of}
 use Rattle.weave_entries.specs.GateRules.{Sends}
 use Rattle.weave_entries.specs.Sending.{message_to, messages_of, shards_named}
 use Rattle.weave_entries.specs.StoreReplay.{Judgement, judgement_of, judgements_of}
@@ -37,12 +37,12 @@ use Rattle.step_rules.specs.Entries.{after_send, judgement_in_flight, state_with
 use Rattle.step_rules.specs.IsCore.{IsCore}
 use Rattle.step_rules.proofs.Basis.{Basis}
 use Rattle.step_rules.proofs.Begun.{all-in, flight-begun, inside-log, one-begun, program-begun}
-use Rattle.step_rules.proofs.GateStep.{known-after, gate-goes-on}
+use Rattle.step_rules.proofs.QuietGateEntry.{known-after, gate-goes-on}
 use Rattle.step_rules.proofs.GateSteps.{deed-keeps}
 
 -- The clocks of a commit's messages
 
-module _ (shards : ℕ) (log : List GateEntry) (flight : Begun) (ops : List Op) (IsGood : Clock → Type 0)
+module _ (shards : ℕ) (log : List GateEntry) (flight : BegunRequest) (ops : List Op) (IsGood : Clock → Type 0)
     (stamp-good : IsGood flight.stamp.clock) (low-good : IsGood (low_mark flight.stamp (running_of log))) where
   to-shards : (counts : List Counted) (clock : Clock) → Contains (flat_map clocks_of_message (map (message_to shards log flight ops counts) (shards_named shards counts))) clock → IsGood clock
   to-shards counts clock h =
@@ -54,6 +54,7 @@ module _ (shards : ℕ) (log : List GateEntry) (flight : Begun) (ops : List Op) 
         | inr rest ↦ subst IsGood (only (low_mark flight.stamp (running_of log)) clock rest) low-good
       ]
 
+  -- what is true of the clock of the flight's stamp and of its low mark is true of each clock in its messages
   pub messages-good : (verdict : Verdict) (clock : Clock) → Contains (flat_map clocks_of_message (messages_of shards log flight ops verdict)) clock → IsGood clock
   messages-good (Committed number answers counts) clock h = to-shards counts clock h
   messages-good (Conflict v newer) clock h = absurd (has_none clock h)
@@ -66,7 +67,7 @@ no-change (Change ops) program change look = cc
 no-change (Look other) program change look = cc
 
 module _ (script : Script) (state : CoreState) (basis : Basis script state) (g : ℕ) (inside : g < script.gates)
-    (flight : Begun) (flies : flight_of (gate_log state.account g) ≡ Some flight) (judged : Judgement) (found : judgement_of flight.request state.account.store ≡ Some judged) where
+    (flight : BegunRequest) (flies : flight_of (gate_log state.account g) ≡ Some flight) (judged : Judgement) (found : judgement_of flight.request state.account.store ≡ Some judged) where
   abbrev account : Account
   account = state.account
 
@@ -111,7 +112,7 @@ module _ (script : Script) (state : CoreState) (basis : Basis script state) (g :
     judged = judged;
     is_judged = has.0;
     request_is = request-is;
-    messages_are = ap (λ s. messages_of script.shards log (record { author = flight.author; request = flight.request; stamp = s }) judged.ops judged.verdict) (sym (ap (λ (b : Begun). b.stamp) same-begun));
+    messages_are = ap (λ s. messages_of script.shards log (record { author = flight.author; request = flight.request; stamp = s }) judged.ops judged.verdict) (sym (ap (λ (b : BegunRequest). b.stamp) same-begun));
   }
 
   no-program : (r : ℕ) (request : Request) (program : Program) → request_at script r ≡ Some request → request.work ≡ Look program → Contains (flight.request ∷ []) r → ⊥
@@ -124,10 +125,10 @@ module _ (script : Script) (state : CoreState) (basis : Basis script state) (g :
           → IsSomeAnd (request_at script flight.request) (λ (other : Request). (other.gate ≡ g) × IsTrue (is_change other.work)) → IsTrue (is_change request.work)
       in-flight request is some = (subst (λ o. IsSomeAnd o (λ (other : Request). (other.gate ≡ g) × IsTrue (is_change other.work))) is some).1
 
-  known-begun : (b : Begun) → Contains (all_begun account) b → IsKnown account b.stamp.clock
+  known-begun : (b : BegunRequest) → Contains (all_begun account) b → IsKnown account b.stamp.clock
   known-begun b h = basis.laws.accounts.known_begun script account basis.limits basis.core.account b h
 
-  running-begun : (b : Begun) → Contains (running_of log) b → Contains (all_begun account) b
+  running-begun : (b : BegunRequest) → Contains (running_of log) b → Contains (all_begun account) b
   running-begun b h =
       let program = (basis.laws.logs.open_running g script.shards log (basis.core.account.gatekeepers.logs g) (basis.further.accounts.each_once script account basis.limits basis.core.account g) b).0 h in
       all-in account g b (inside-log basis.laws basis.further script account basis.limits basis.core.account g inside) (program-begun log b program.0)
@@ -138,15 +139,17 @@ module _ (script : Script) (state : CoreState) (basis : Basis script state) (g :
       after clock (messages-good script.shards log flight judged.ops (IsKnown account) (known-begun flight begun)
       (basis.further.accounts.low account flight.stamp (running_of log) (known-begun flight begun) (λ b has. known-begun b (running-begun b has))) judged.verdict clock h)
 
+  -- that a transaction in flight is sent, with the messages of its judgement, keeps a core
   pub sent-keeps : IsCore script (record { account = now; notices = state.notices })
   sent-keeps = deed-keeps script state basis g inside flight.author deed refl
       (gate-goes-on basis.laws script account basis.limits basis.core.account g inside flight.author deed refl sends knows tt sends-judged no-program)
 
 module _ (script : Script) (state : CoreState) (basis : Basis script state) where
+  -- a `send` that is done keeps a core
   pub send-keeps : (g : ℕ) → g < script.gates → answer_of script state (Send g) ≡ Ok → IsCore script (state_with script state (Send g))
   send-keeps g inside ok = at (flight_of (gate_log state.account g)) refl ok
     where
-      at : (o : Option Begun) → flight_of (gate_log state.account g) ≡ o → answer_of_send state.account o ≡ Ok
+      at : (o : Option BegunRequest) → flight_of (gate_log state.account g) ≡ o → answer_of_send state.account o ≡ Ok
           → IsCore script (record { account = after_send script state.account g o (judgement_in_flight state.account o); notices = state.notices })
       at None e ok = cc
       at (Some flight) e ok = by-judgement (judgement_of flight.request state.account.store) refl ok

@@ -185,5 +185,6 @@ module _ (laws : LawsForSteps) (number : ℕ) (requests : List ℕ) (log : List 
       | inr over ↦ (let least = past in omega (arith, over, least))
     ]
 
+    -- a request not begun, of whose session all earlier ones have replies, is the next, and none waits there
     pub next-in-turn : (session.waits ≡ false) × (next_request session ≡ Some r)
     next-in-turn = (none-waits, ap (λ rs. slice_get rs session.begun) (requests-same requests log) ∙ ap (slice_get requests) (sym here) ∙ place.1)

@@ -1,5 +1,5 @@
 -- Lists of lists of which one is set to another.
--- Used by BeginAccount, FinishStep, GateStep, VisitStep and crate weaver_core.
+-- Used by BeginAccount, FinishStep, QuietGateEntry, VisitStep and crate weaver_core.
 use Rattle.std.proofs.Common.{◌≡◌, ℕ, zero, suc, ◌<◌, List, [], ◌∷◌, ◌++◌, map, length, Contains, refl, sym, ap, ◌∙◌, append_assoc, get_or, arith}
 use Rattle.std.specs.Prelude.{slice_set}
 use Rattle.std.specs.List.{flat_map}

@@ -1,5 +1,5 @@
 -- Logs of which one has one more entry.
--- Used by BeginAccount, FinishStep, GateStep, ShardStep, StepGoesOn and VisitStep.
+-- Used by BeginAccount, FinishStep, QuietGateEntry, ShardStep, StepGoesOn and VisitStep.
 use Rattle.std.proofs.Common.{◌≡◌, ◌≢◌, ℕ, ◌<◌, List, [], ◌∷◌, ◌++◌, length, inl, inr, sym, ap, subst, ◌∙◌, get_or, get_or-set_same, get_or-set_other}
 use Rattle.std.specs.Prelude.{slice_set}
 use Rattle.std.proofs.lemmas.Bool.{cases_eq}

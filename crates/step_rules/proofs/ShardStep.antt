@@ -39,6 +39,7 @@ module _ (script : Script) (state : CoreState) (basis : Basis script state) (s :
   abbrev pub next : Account
   next = with_shard_deed account s deed
 
+  -- each log is the beginning of the same log after the shard's deed
   pub on : GoesOn account next
   on = with-shard-deed account s deed (shard-within is s inside)
 
@@ -61,6 +62,7 @@ module _ (script : Script) (state : CoreState) (basis : Basis script state) (s :
           reads-length : (l : List ShardEntry) → length (reads_in r l) ≡ length (filter (λ (visit : Visit). visit.request == r) (visits_of l))
           reads-length l = length-map (filter (λ (visit : Visit). visit.request == r) (visits_of l)) _
 
+  -- a deed of a shard that is no visit keeps a core, if it is right after the entries before it
   pub quiet-keeps : ShardFitsAs script next s log deed → IsCore script (record { account = next; notices = state.notices })
   quiet-keeps fits = record {
     account = record {

@@ -14,6 +14,7 @@ use Rattle.step_rules.specs.CoreState.{CoreState, start_state}
 use Rattle.step_rules.specs.Trace.{is_ok}
 use Rattle.step_rules.specs.IsCore.{IsCore}
 
+-- if empty logs are an account, the state before the first step is that of a core
 pub start-is-core : ((script : Script) → IsAccount script (no_logs script)) → (script : Script) → IsCore script (start_state script)
 start-is-core empty script = record {
   account = empty script;
@@ -25,6 +26,7 @@ start-is-core empty script = record {
 pub when-done : (answer : StepAnswer) (next state : CoreState) → answer ≡ Ok → (if is_ok answer then next else state) ≡ next
 when-done answer next state is = ap (λ a. if is_ok a then next else state) is
 
+-- a step that answers anything but `Ok` leaves the second of the states
 pub when-refused : (answer : StepAnswer) (next state : CoreState) → answer ≢ Ok → (if is_ok answer then next else state) ≡ state
 when-refused Ok next state not = absurd (not refl)
 when-refused Twice next state not = refl

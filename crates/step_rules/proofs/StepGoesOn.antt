@@ -1,5 +1,5 @@
 -- After each step the logs begin with those before it.
--- Used by BeginAccount, FinishStep, GateStep, ShardStep, 2 more and crates weave_drive, weaver_core and weaver_top.
+-- Used by BeginAccount, FinishStep, QuietGateEntry, 3 more and crates weave_drive, weaver_core and weaver_top.
 use Rattle.std.proofs.Common.{◌≡◌, ℕ, ◌<◌, Bool, true, false, cond, List, [], ◌∷◌, ◌++◌, length, Option, None, Some, refl, sym, ap, ◌∙◌, append_assoc, arith}
 use Rattle.std.proofs.lemmas.List.{append-nil}
 use Rattle.weave_data.specs.declared.name.Name.{Name}
@@ -20,7 +20,7 @@ use Rattle.weave_entries.specs.declared.session_log.SessionDeed.TheVariants as s
 use Rattle.weave_entries.specs.declared.message.Message.{Message}
 use Rattle.weave_entries.specs.declared.oracle_log.OracleEntry.{OracleEntry}
 use Rattle.weave_entries.specs.declared.store_log.StoreEntry.{StoreEntry}
-use Rattle.weave_entries.specs.GateReplay.{Begun, channel_of, clock_of, flight_of, program_begun}
+use Rattle.weave_entries.specs.GateReplay.{BegunRequest, channel_of, clock_of, flight_of, program_begun}
 use Rattle.weave_entries.specs.StoreReplay.{Judgement}
 use Rattle.weave_account.specs.declared.account.Account.{Account}
 use Rattle.weave_account.specs.Account.{gate_log, shard_log, session_log}
@@ -65,6 +65,7 @@ goes-further account middle last on further = record {
   sessions = λ session. longer-log (session_log account session) (session_log middle session) (session_log last session) (on.sessions session) (further.sessions session);
 }
 
+-- each log is the beginning of the same log after one more deed of a gatekeeper that is there
 pub with-gate-deed : (account : Account) (home author : ℕ) (deed : GateDeed) → home < length account.gates → GoesOn account (with_gate_deed account home author deed)
 with-gate-deed account home author deed within = record {
   gates = set-log account.gates home within (record { author = author; deed = deed });
@@ -74,6 +75,7 @@ with-gate-deed account home author deed within = record {
   sessions = λ session. same-log (session_log account session);
 }
 
+-- the same of a deed of a shard
 pub with-shard-deed : (account : Account) (shard : ℕ) (deed : ShardDeed) → shard < length account.shards → GoesOn account (with_shard_deed account shard deed)
 with-shard-deed account shard deed within = record {
   gates = λ home. same-log (gate_log account home);
@@ -83,6 +85,7 @@ with-shard-deed account shard deed within = record {
   sessions = λ session. same-log (session_log account session);
 }
 
+-- the same of a deed of a session
 pub with-session-deed : (account : Account) (session : ℕ) (deed : SessionDeed) → session < length account.sessions → GoesOn account (with_session_deed account session deed)
 with-session-deed account session deed within = record {
   gates = λ home. same-log (gate_log account home);
@@ -101,6 +104,7 @@ with-more account judged settled = record {
   sessions = λ session. same-log (session_log account session);
 }
 
+-- the same of more entries of the oracle
 pub with-settled : (account : Account) (settled : List OracleEntry) → GoesOn account (record account { oracle = account.oracle ++ settled })
 with-settled account settled = record {
   gates = λ home. same-log (gate_log account home);
@@ -123,11 +127,11 @@ module _ (script : Script) (state : CoreState) (limits : IsWithinLimits script) 
   begins-on r None at = goes-same account
   begins-on r (Some request) at = goes-further account _ _ (with-gate-deed account request.gate 0 _ (home-within limits core r request at)) (with-session-deed _ request.session _ (session-within limits core r request at))
 
-  judges-on : (flight : Option Begun) → GoesOn account (after_judge script account flight)
+  judges-on : (flight : Option BegunRequest) → GoesOn account (after_judge script account flight)
   judges-on None = goes-same account
   judges-on (Some flight) = with-more account _ _
 
-  sends-on : (home : ℕ) → home < script.gates → (flight : Option Begun) (judged : Option Judgement) → GoesOn account (after_send script account home flight judged)
+  sends-on : (home : ℕ) → home < script.gates → (flight : Option BegunRequest) (judged : Option Judgement) → GoesOn account (after_send script account home flight judged)
   sends-on home inside None judged = goes-same account
   sends-on home inside (Some flight) None = goes-same account
   sends-on home inside (Some flight) (Some judged) = with-gate-deed account home flight.author _ (gate-within core.account home inside)
@@ -140,7 +144,7 @@ module _ (script : Script) (state : CoreState) (limits : IsWithinLimits script) 
   delivers-on home shard number inside None = goes-same account
   delivers-on home shard number inside (Some message) = with-shard-deed account shard _ (shard-within core.account shard inside)
 
-  visits-on : (r : ℕ) (begun : Option Begun) (next : Option Name) → GoesOn account (after_visit script account r begun next)
+  visits-on : (r : ℕ) (begun : Option BegunRequest) (next : Option Name) → GoesOn account (after_visit script account r begun next)
   visits-on r None next = goes-same account
   visits-on r (Some begun) None = goes-same account
   visits-on r (Some begun) (Some v) = goes-further account _ _ (with-settled account _) (with-shard-deed _ (shard_of v script.shards) _ (shard-within core.account (shard_of v script.shards) (shard-there v)))
@@ -149,7 +153,7 @@ module _ (script : Script) (state : CoreState) (limits : IsWithinLimits script) 
   at-visit r None = goes-same account
   at-visit r (Some request) = visits-on r (program_begun r (gate_log account request.gate)) (next_vertex account r request.work)
 
-  finishes-on : (r : ℕ) (request : Request) → request_at script r ≡ Some request → (begun : Option Begun)
+  finishes-on : (r : ℕ) (request : Request) → request_at script r ≡ Some request → (begun : Option BegunRequest)
       → GoesOn account (with_session_deed (with_finish account r request.gate begun) request.session (session.Replied r))
   finishes-on r request at None = with-session-deed account request.session _ (session-within limits core r request at)
   finishes-on r request at (Some begun) = goes-further account _ _ (with-gate-deed account request.gate begun.author _ (home-within limits core r request at)) (with-session-deed _ request.session _ (session-within limits core r request at))
@@ -166,6 +170,7 @@ module _ (script : Script) (state : CoreState) (limits : IsWithinLimits script) 
   replies-on r None at = goes-same account
   replies-on r (Some request) at = work-on r request at request.work
 
+  -- each log of a core is the beginning of the same log after a step of the script that is done
   pub step-goes-on : (step : Step) → IsStepOf script step → GoesOn account (account_with script state step)
   step-goes-on (Begin r) range = begins-on r (request_at script r) refl
   step-goes-on (Judge g) range = judges-on (flight_of (gate_log account g))

@@ -14,7 +14,7 @@ use Rattle.step_rules.specs.Answers.{answer_of}
 use Rattle.step_rules.specs.Entries.{state_with}
 use Rattle.step_rules.specs.Trace.{TraceState, is_ok, state_after, trace_of, trace_start, traced_after}
 use Rattle.step_rules.specs.IsCore.{AreSteps, IsCore, IsSmall, IsSmallIfDone, IsStepOf}
-use Rattle.step_rules.specs.LowerLaws.{LawsForSteps, Further}
+use Rattle.step_rules.specs.LowerLaws.{LawsForSteps, FurtherLowerLaws}
 use Rattle.step_rules.proofs.Basis.{Basis}
 use Rattle.step_rules.proofs.BeginStep.{begin-keeps}
 use Rattle.step_rules.proofs.GateSteps.{epoch-keeps, hear-keeps, say-keeps}
@@ -41,7 +41,7 @@ ok-is Empty e = cc
 ok-is (Waits v) e = cc
 ok-is (Again s g) e = cc
 
-module _ (laws : LawsForSteps) (further : Further) (script : Script) (limits : IsWithinLimits script) where
+module _ (laws : LawsForSteps) (further : FurtherLowerLaws) (script : Script) (limits : IsWithinLimits script) where
   abbrev basis-of : (state : CoreState) → IsCore script state → Basis script state
   basis-of state core = record { laws = laws; further = further; limits = limits; core = core }
 
@@ -73,6 +73,7 @@ module _ (laws : LawsForSteps) (further : Further) (script : Script) (limits : I
   steps-keep trace [] are core = core
   steps-keep trace (step ∷ steps) are core = steps-keep (traced_after script trace step) steps are.2 (step-keeps trace.state step are.0 are.1 core)
 
+  -- steps of the script with small stamps, one after another from the empty logs, leave a core
   pub trace-is-core : (steps : List Step) → AreSteps script (trace_start script).state steps → IsCore script (trace_of script steps).state
   trace-is-core steps are = steps-keep (trace_start script) steps are (start-is-core laws.accounts.empty script)
 

@@ -20,16 +20,19 @@ use Rattle.weave_account.specs.Oracle.{marked_in, seen_last}
 
 -- Places
 
+-- at each place below the length of a list there is an element
 pub get-some : {A : Type 0} (xs : List A) (j : ℕ) → j < length xs → (x : A) × (slice_get xs j ≡ Some x)
 get-some [] j within = absurd (omega (arith, within))
 get-some (x ∷ xs) zero within = (x, refl)
 get-some (x ∷ xs) (suc j) within = get-some xs j (omega (arith, within))
 
+-- the image of the element at a place of a list is at this place of the images
 pub map-get : {A B : Type 0} (f : A → B) (xs : List A) (j : ℕ) (x : A) → slice_get xs j ≡ Some x → slice_get (map f xs) j ≡ Some (f x)
 map-get f [] j x e = cc
 map-get f (y ∷ xs) zero x e = let same : y ≡ x = cc in ap (λ z. Some (f z)) same
 map-get f (y ∷ xs) (suc j) x e = map-get f xs j x e
 
+-- what is among the first elements of a list is in the list
 pub in-take : {A : Type 0} (n : ℕ) (xs : List A) (x : A) → Contains (take n xs) x → Contains xs x
 in-take zero xs x h = absurd (has_none x h)
 in-take (suc n) [] x h = absurd (has_none x h)
@@ -59,11 +62,13 @@ module _ (log : List ShardEntry) (r : ℕ) (stamp : Stamp) (v : Name) (k : ℕ) 
   processed-same : processed_of (log ++ entry ∷ []) ≡ processed_of log
   processed-same = flat_map-append (λ (e : ShardEntry). processed_by e.deed) log (entry ∷ []) ∙ append-nil (processed_of log)
 
+  -- one more visit leaves the updates of each vertex as they were
   pub updates-same : (w : Name) → updates_of w (log ++ entry ∷ []) ≡ updates_of w log
   updates-same w =
       ap (λ (arrived : List Arrival). flat_map (updates_in w) (filter_map (λ (of : ℕ × ℕ). option_map (λ (arrival : Arrival). arrival.message) (find (λ (arrival : Arrival). (arrival.gate == of.0) && (arrival.number == of.1)) arrived)) (processed_of (log ++ entry ∷ [])))) arrivals-same
       ∙ ap (λ (ps : List (ℕ × ℕ)). flat_map (updates_in w) (filter_map (λ (of : ℕ × ℕ). arrived_at of.0 of.1 log) ps)) processed-same
 
+  -- the visits in the log are those before, and then the new one
   pub visits-push : visits_of (log ++ entry ∷ []) ≡ visits_of log ++ visit ∷ []
   visits-push = flat_map-append (λ (e : ShardEntry). visit_by e.author e.deed) log (entry ∷ [])
 
@@ -83,6 +88,7 @@ module _ (log : List ShardEntry) (r : ℕ) (stamp : Stamp) (v : Name) (k : ℕ) 
   pub reads-stay : (q : ℕ) → q ≢ r → reads_in q (log ++ entry ∷ []) ≡ reads_in q log
   reads-stay q differ = reads-push q ∙ ap (λ b. reads_in q log ++ map read-of (cond b (visit ∷ []) [])) (ne_eqb r q (λ same. differ (sym same))) ∙ append-nil (reads_in q log)
 
+  -- the marked visits in the log are those before, and then the new one if it is marked as settled
   pub marks-push : marked_in (log ++ entry ∷ []) ≡ marked_in log ++ cond made (mark-of visit ∷ []) []
   marks-push =
       let marks : marked_in (log ++ entry ∷ []) ≡ map mark-of (filter (λ (w : Visit). w.settled) (visits_of (log ++ entry ∷ [])))

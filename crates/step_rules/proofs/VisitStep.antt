@@ -18,7 +18,7 @@ use Rattle.graph_ops.specs.Operations.{State}
 use Rattle.graph_ops.specs.declared.op.Op.{Op}
 use Rattle.vector_stamp.specs.declared.clock.Stamp.{Stamp}
 use Rattle.vector_stamp.specs.Order.{id_of, stamp_before, unordered}
-use Rattle.vector_stamp.specs.Precedence.{Given, ByStamps, Precedes, precedes}
+use Rattle.vector_stamp.specs.Precedence.{GivenPair, ByStamps, Precedes, precedes}
 use Rattle.vector_stamp.specs.Seeing.{last_seen}
 use Rattle.vector_stamp.specs.Settling.{additions_from, entries_of_call, pairs_of, places_of}
 use Rattle.program_defs.specs.declared.program.Program.{Program}
@@ -31,8 +31,8 @@ use Rattle.weave_entries.specs.declared.oracle_log.OracleEntry.{OracleEntry}
 use Rattle.weave_entries.specs.declared.shard_log.ShardEntry.{ShardEntry}
 use Rattle.weave_entries.specs.declared.shard_log.ShardDeed.{ShardDeed}
 use Rattle.weave_entries.specs.declared.shard_log.ShardDeed.TheVariants as shard
-use Rattle.weave_entries.specs.GateReplay.{Begun, begun_in, programs_of}
-use Rattle.weave_entries.specs.OracleReplay.{oracle_entry, settled_entry}
+use Rattle.weave_entries.specs.GateReplay.{BegunRequest, begun_in, programs_of}
+use Rattle.weave_entries.specs.OracleReplay.{oracle_entry_of, settled_entry}
 use Rattle.weave_entries.specs.ShardReplay.{Update, Visit, first_unready, reads_in, updates_of, visit_by, visits_of}
 use Rattle.weave_entries.specs.StoreReplay.{Commit, Judgement, commits_naming, judgements_of, names_vertex}
 use Rattle.weave_entries.specs.StoreRule.{entries_of_settling}
@@ -44,7 +44,7 @@ use Rattle.weave_account.specs.Oracle.{HasItsEntry, IsAskedByVisit, marked_in, s
 use Rattle.weave_account.specs.Programs.{ProgramsClause, ReadsInTurn}
 use Rattle.weave_account.specs.Shards.{IsRightVisit, ShardFitsAs, update_at, update_of}
 use Rattle.step_rules.specs.CoreState.{CoreState, with_shard_deed}
-use Rattle.step_rules.specs.Entries.{made_entry, seen_in, update_stamps}
+use Rattle.step_rules.specs.Entries.{made_entry, seen_in, update_stamps_at}
 use Rattle.step_rules.specs.IsCore.{IsCore}
 use Rattle.step_rules.proofs.Basis.{Basis}
 use Rattle.step_rules.proofs.Begun.{all-in, inside-log, one-begun, program-begun}
@@ -84,7 +84,7 @@ visit-rule script account s before author (shard.Applied home number) visit h ru
 visit-rule script account s before author (shard.Collected bound) visit h rule = absurd (has_none visit h)
 
 module _ (script : Script) (state : CoreState) (basis : Basis script state) (r : ℕ) (request : Request) (request-is : request_at script r ≡ Some request) (program : Program) (look : request.work ≡ Look program)
-    (begun : Begun) (began : Contains (programs_of (gate_log state.account request.gate)) begun) (begun-is : begun.request ≡ r)
+    (begun : BegunRequest) (began : Contains (programs_of (gate_log state.account request.gate)) begun) (begun-is : begun.request ≡ r)
     (v : Name) (next-is : next_visit (reads_of state.account r) program ≡ Some v) (ready : first_unready script.gates begun.stamp (shard_log state.account (shard_of v script.shards)) ≡ None) where
   abbrev account : Account
   account = state.account
@@ -101,11 +101,11 @@ module _ (script : Script) (state : CoreState) (basis : Basis script state) (r :
   abbrev stamp : Stamp
   stamp = begun.stamp
 
-  abbrev pairs : List Given
+  abbrev pairs : List GivenPair
   pairs = pairs_in account
 
   abbrev stamps : List Stamp
-  stamps = update_stamps account s v
+  stamps = update_stamps_at account s v
 
   abbrev k : ℕ
   k = seen_in account stamp stamps
@@ -185,7 +185,7 @@ module _ (script : Script) (state : CoreState) (basis : Basis script state) (r :
   -- a judged transaction has another id than the program
   judged-other : (judged : Judgement) → Contains (judgements_of account.store) judged → id_of judged.stamp ≢ id_of stamp
   judged-other judged h =
-      let one : Begun = record { author = judged.author; request = judged.request; stamp = judged.stamp } in
+      let one : BegunRequest = record { author = judged.author; request = judged.request; stamp = judged.stamp } in
       basis.further.accounts.differ script account basis.limits is one begun (basis.further.accounts.judged_begun script account basis.limits is judged h) all-begun
       (λ same. change-not (request_at script judged.request) judged.ops (basis.further.accounts.judged_work script account basis.limits is judged h) (ap (request_at script) (same ∙ begun-is) ∙ request-is))
     where
@@ -330,7 +330,7 @@ module _ (script : Script) (state : CoreState) (basis : Basis script state) (r :
   nothing-made there = from k refl
     where
       none : additions_from 0 pairs events stamp ≡ [] → made_entry entries ≡ false
-      none e = ap (λ adds. made_entry (map oracle_entry (entries_of_call 0 events stamp (places_of adds)))) e
+      none e = ap (λ adds. made_entry (map oracle_entry_of (entries_of_call 0 events stamp (places_of adds)))) e
 
       from : (n : ℕ) → k ≡ n → made_entry entries ≡ false
       from zero e = none (ap (λ n. additions_from 0 pairs (last_seen n stamps) stamp) e)
@@ -355,11 +355,11 @@ module _ (script : Script) (state : CoreState) (basis : Basis script state) (r :
           let deed-of = flat_has (λ (e : ShardEntry). visit_by e.author e.deed) (shard_log account i) w h in
           let cut = cut_at (shard_log account i) deed-of.0 deed-of.1 in
           let rule = visit-rule script account i cut.before deed-of.0.author deed-of.0.deed w deed-of.2 (is.shards.deeds i cut.before deed-of.0 cut.after cut.is) in
-          let its : Begun = record { author = rule.author; request = w.request; stamp = w.stamp } in
+          let its : BegunRequest = record { author = rule.author; request = w.request; stamp = w.stamp } in
           let in-log = program-begun (gate_log account rule.home) its rule.begun in
-          ap (λ (b : Begun). b.stamp) (one-begun account is.gatekeepers.once its begun (all-in account rule.home its (home-there rule.home its in-log) in-log) all-begun (one ∙ sym begun-is))
+          ap (λ (b : BegunRequest). b.stamp) (one-begun account is.gatekeepers.once its begun (all-in account rule.home its (home-there rule.home its in-log) in-log) all-begun (one ∙ sym begun-is))
         where
-          home-there : (home : ℕ) (b : Begun) → Contains (begun_in (gate_log account home)) b → home < length account.gates
+          home-there : (home : ℕ) (b : BegunRequest) → Contains (begun_in (gate_log account home)) b → home < length account.gates
           home-there home b h = elim (cases_lt home (length account.gates)) [
             | inl below ↦ below
             | inr past ↦ absurd (has_none b (subst (λ l. Contains (begun_in l) b) (get_or_past account.gates home [] past) h))
@@ -386,6 +386,7 @@ module _ (script : Script) (state : CoreState) (basis : Basis script state) (r :
 
   -- The account goes on
 
+  -- the visit of a begun program to its next vertex, at a shard that is ready for it, keeps a core
   pub visited-keeps : IsCore script (record { account = next; notices = state.notices })
   visited-keeps = record {
     account = record {

@@ -14,7 +14,7 @@ use Rattle.program_defs.specs.declared.script.Work.TheVariants.{Change, Look}
 use Rattle.program_defs.specs.Visits.{next_visit}
 use Rattle.report_rules.specs.Lookups.{request_at}
 use Rattle.report_rules.specs.declared.report.StepAnswer.TheVariants.{Ok}
-use Rattle.weave_entries.specs.GateReplay.{Begun, program_begun, programs_of}
+use Rattle.weave_entries.specs.GateReplay.{BegunRequest, program_begun, programs_of}
 use Rattle.weave_entries.specs.ShardReplay.{first_unready}
 use Rattle.weave_account.specs.declared.account.Account.{Account}
 use Rattle.weave_account.specs.Account.{gate_log, reads_of, shard_log}
@@ -30,26 +30,27 @@ module _ (script : Script) (state : CoreState) (basis : Basis script state) (r :
   abbrev account : Account
   account = state.account
 
-  by-ready : (begun : Begun) → program_begun r (gate_log account request.gate) ≡ Some begun → (v : Name) (program : Program) → request.work ≡ Look program → next_visit (reads_of account r) program ≡ Some v
+  by-ready : (begun : BegunRequest) → program_begun r (gate_log account request.gate) ≡ Some begun → (v : Name) (program : Program) → request.work ≡ Look program → next_visit (reads_of account r) program ≡ Some v
       → (o : Option ℕ) → first_unready script.gates begun.stamp (shard_log account (shard_of v script.shards)) ≡ o → again_or_ok (shard_of v script.shards) o ≡ Ok
       → IsCore script (record { account = after_visit script account r (Some begun) (Some v); notices = state.notices })
   by-ready begun e v program look f None ready ok =
-      let has = find_has (λ (b : Begun). b.request == r) (programs_of (gate_log account request.gate)) begun e in
+      let has = find_has (λ (b : BegunRequest). b.request == r) (programs_of (gate_log account request.gate)) begun e in
       visited-keeps script state basis r request request-is program look begun has.0 (eqb-true begun.request r has.1) v f ready
   by-ready begun e v program look f (Some g) ready ok = cc
 
-  by-vertex : (begun : Begun) → program_begun r (gate_log account request.gate) ≡ Some begun → (program : Program) → request.work ≡ Look program → (n : Option Name) → next_visit (reads_of account r) program ≡ n
+  by-vertex : (begun : BegunRequest) → program_begun r (gate_log account request.gate) ≡ Some begun → (program : Program) → request.work ≡ Look program → (n : Option Name) → next_visit (reads_of account r) program ≡ n
       → answer_of_visit script account (Some begun) n ≡ Ok → IsCore script (record { account = after_visit script account r (Some begun) n; notices = state.notices })
   by-vertex begun e program look None f ok = cc
   by-vertex begun e program look (Some v) f ok = by-ready begun e v program look f (first_unready script.gates begun.stamp (shard_log account (shard_of v script.shards))) refl ok
 
-  by-program : (p : Option Begun) → program_begun r (gate_log account request.gate) ≡ p → (work : Work) → request.work ≡ work → answer_of_visit script account p (next_vertex account r work) ≡ Ok
+  by-program : (p : Option BegunRequest) → program_begun r (gate_log account request.gate) ≡ p → (work : Work) → request.work ≡ work → answer_of_visit script account p (next_vertex account r work) ≡ Ok
       → IsCore script (record { account = after_visit script account r p (next_vertex account r work); notices = state.notices })
   by-program None e work w ok = cc
   by-program (Some begun) e (Change ops) w ok = cc
   by-program (Some begun) e (Look program) w ok = by-vertex begun e program w (next_visit (reads_of account r) program) refl ok
 
 module _ (script : Script) (state : CoreState) (basis : Basis script state) where
+  -- a `visit` that is done keeps a core
   pub visit-keeps : (r : ℕ) → answer_of script state (Visit r) ≡ Ok → IsCore script (state_with script state (Visit r))
   visit-keeps r ok = at (request_at script r) refl ok
     where

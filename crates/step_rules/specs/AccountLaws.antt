@@ -4,10 +4,11 @@ use Rattle.vector_stamp.specs.declared.clock.Stamp.{Stamp}
 use Rattle.vector_stamp.specs.Clocks.{clock_after_hearing, meet_of}
 use Rattle.vector_stamp.specs.Coherence.{AreCoherent}
 use Rattle.vector_stamp.specs.declared.clock.Clock.{Clock}
-use Rattle.vector_stamp.specs.Precedence.{Given, IsAcyclic}
+use Rattle.vector_stamp.specs.Precedence.{GivenPair, IsAcyclic}
 use Rattle.vector_stamp.specs.Settling.{SettledEntry}
 use Rattle.weave_data.specs.declared.name.Name.{Name}
 use Rattle.weave_data.specs.Names.{shard_of}
+use Rattle.weave_data.specs.Limits.{most_gates}
 use Rattle.weave_entries.specs.declared.message.Message.{Message}
 use Rattle.weave_entries.specs.declared.gate_log.GateEntry.{GateEntry}
 use Rattle.weave_entries.specs.declared.gate_log.GateDeed.{GateDeed}
@@ -16,7 +17,7 @@ use Rattle.weave_entries.specs.declared.session_log.SessionDeed.{SessionDeed}
 use Rattle.weave_entries.specs.declared.shard_log.ShardDeed.{ShardDeed}
 use Rattle.weave_entries.specs.declared.shard_log.ShardEntry.{ShardEntry}
 use Rattle.weave_entries.specs.declared.oracle_log.OracleEntry.{OracleEntry}
-use Rattle.weave_entries.specs.GateReplay.{Begun, clock_of}
+use Rattle.weave_entries.specs.GateReplay.{BegunRequest, clock_of}
 use Rattle.weave_entries.specs.OracleReplay.{settled_entry}
 use Rattle.weave_entries.specs.ShardReplay.{Visit, arrived_at, bound_of, reads_in, visits_of, updates_of}
 use Rattle.weave_entries.specs.StoreReplay.{Judgement, judgements_of, commits_naming}
@@ -41,14 +42,14 @@ use Rattle.weave_account.specs.Shards.{ShardFitsAs, update_of}
 pub record AccountLaws : Type 0 where
   -- begun_stamps_are_coherent
   pub stamps_coherent : (script : Script) (account : Account) → IsWithinLimits script → IsAccount script account
-      → AreCoherent (map (λ (begun : Begun). begun.stamp) (all_begun account))
+      → AreCoherent (map (λ (begun : BegunRequest). begun.stamp) (all_begun account))
   pub stamps_acyclic : (script : Script) (account : Account) → IsWithinLimits script → IsAccount script account
       → IsAcyclic (pairs_in account)
   -- clocks_are_known
   pub known_gatekeepers : (script : Script) (account : Account) → IsWithinLimits script → IsAccount script account
       → (home : ℕ) → IsKnown account (clock_of home (gate_log account home))
   pub known_begun : (script : Script) (account : Account) → IsWithinLimits script → IsAccount script account
-      → (begun : Begun) → Contains (all_begun account) begun → IsKnown account begun.stamp.clock
+      → (begun : BegunRequest) → Contains (all_begun account) begun → IsKnown account begun.stamp.clock
   pub known_judged : (script : Script) (account : Account) → IsWithinLimits script → IsAccount script account
       → (judged : Judgement) → Contains (judgements_of account.store) judged → IsKnown account judged.stamp.clock
   pub known_settled : (script : Script) (account : Account) → IsWithinLimits script → IsAccount script account
@@ -64,7 +65,7 @@ pub record AccountLaws : Type 0 where
       → (shard : ℕ) (bound : Clock) → bound_of script.gates (shard_log account shard) ≡ Some bound
       → IsKnown account bound
   pub known_heard : (script : Script) (account : Account) → IsWithinLimits script → IsAccount script account
-      → (home : ℕ) → home < 8 → (clock heard : Clock) → IsKnown account clock → IsKnown account heard
+      → (home : ℕ) → home < most_gates → (clock heard : Clock) → IsKnown account clock → IsKnown account heard
       → IsKnown account (clock_after_hearing home clock heard)
   pub known_met : (script : Script) (account : Account) → IsWithinLimits script → IsAccount script account
       → (a b : Clock) → IsKnown account a → IsKnown account b → IsKnown account (meet_of a b)
@@ -97,7 +98,7 @@ pub record AccountLaws : Type 0 where
       → GoesOn account next → (r shard : ℕ)
       → IsBeginningOf (reads_in r (shard_log account shard)) (reads_in r (shard_log next shard))
   pub stay_pairs : (script : Script) (account next : Account) → GoesOn account next → BeginEachOnce next
-      → (pair : Pair) (given : Given) → IsPairInAccount account pair given → IsPairInAccount next pair given
+      → (pair : Pair) (given : GivenPair) → IsPairInAccount account pair given → IsPairInAccount next pair given
   -- updates_are_commits
   pub updates : (script : Script) (account : Account) → IsWithinLimits script → IsAccount script account → (v : Name)
       → let log = shard_log account (shard_of v script.shards) in updates_of v log

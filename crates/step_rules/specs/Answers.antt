@@ -11,7 +11,7 @@ use Rattle.report_rules.specs.Lookups.{request_at}
 use Rattle.report_rules.specs.declared.report.StepAnswer.{StepAnswer}
 use Rattle.report_rules.specs.declared.report.StepAnswer.TheVariants.{Ok, Twice, Early, Busy, Idle, Old, Unknown, Repeat, Empty, Waits, Again}
 use Rattle.weave_entries.specs.declared.message.Message.{Message}
-use Rattle.weave_entries.specs.GateReplay.{Begun, clock_of, flight_of, channel_of, program_begun}
+use Rattle.weave_entries.specs.GateReplay.{BegunRequest, clock_of, flight_of, channel_of, program_begun}
 use Rattle.weave_entries.specs.ShardReplay.{arrived_at, head_of, waits_at, first_unready}
 use Rattle.weave_account.specs.declared.account.Account.{Account}
 use Rattle.weave_account.specs.Account.{gate_log, shard_log}
@@ -30,12 +30,12 @@ answer_of_begin script account r request =
     else Ok
 
 -- `judge G`, by the flight there: `idle` if there is none, or it has its verdict
-abbrev pub answer_of_judge : Account → Option Begun → StepAnswer
+abbrev pub answer_of_judge : Account → Option BegunRequest → StepAnswer
 answer_of_judge account None = Idle
 answer_of_judge account (Some flight) = if is_judged account flight.request then Idle else Ok
 
 -- `send G`, by the flight there: `idle` if there is none, or it has no verdict
-abbrev pub answer_of_send : Account → Option Begun → StepAnswer
+abbrev pub answer_of_send : Account → Option BegunRequest → StepAnswer
 answer_of_send account None = Idle
 answer_of_send account (Some flight) = if is_judged account flight.request then Ok else Idle
 
@@ -74,7 +74,7 @@ again_or_ok shard (Some gate) = Again shard gate
 
 -- `visit R`, by the program as it was begun and its next vertex: `idle` if R is no begun program or has no next vertex,
 -- or `again S G`
-abbrev pub answer_of_visit : Script → Account → Option Begun → Option Name → StepAnswer
+abbrev pub answer_of_visit : Script → Account → Option BegunRequest → Option Name → StepAnswer
 answer_of_visit script account None next = Idle
 answer_of_visit script account (Some begun) None = Idle
 answer_of_visit script account (Some begun) (Some v) =

@@ -24,7 +24,7 @@ use Rattle.weave_entries.specs.declared.shard_log.ShardDeed.TheVariants as shard
 use Rattle.weave_entries.specs.declared.session_log.SessionDeed.TheVariants as session
 use Rattle.weave_entries.specs.declared.store_log.StoreDeed.TheVariants.{Judged}
 use Rattle.weave_entries.specs.declared.verdict.Verdict.{Verdict}
-use Rattle.weave_entries.specs.GateReplay.{Begun, begun_stamp, next_stamp, next_number, clock_of, flight_of, running_of, channel_of, low_mark, program_begun}
+use Rattle.weave_entries.specs.GateReplay.{BegunRequest, begun_stamp, next_stamp, next_number, clock_of, flight_of, running_of, channel_of, low_mark, program_begun}
 use Rattle.weave_entries.specs.Sending.{messages_of}
 use Rattle.weave_entries.specs.StoreReplay.{Judgement, judgement_of}
 use Rattle.weave_entries.specs.StoreRule.{LastCommit, lasts_of, asked_stamps, asked_vertices, verdict_on, entries_of_settling, settled_if}
@@ -67,7 +67,7 @@ verdict_in account stamp ops = verdict_on (pairs_in account) (commits_in account
 
 -- the flight is judged by the rule of the store, in the name of the author of its begin; the oracle puts the last
 -- commits of which the store asks before a commit
-abbrev pub with_judgement : Account → Begun → List Op → Account
+abbrev pub with_judgement : Account → BegunRequest → List Op → Account
 with_judgement account flight ops = record account {
   store = account.store ++ record {
     author = flight.author;
@@ -80,17 +80,17 @@ with_judgement account flight ops = record account {
 }
 
 -- `judge G`, by the flight there
-abbrev pub after_judge : Script → Account → Option Begun → Account
+abbrev pub after_judge : Script → Account → Option BegunRequest → Account
 after_judge script account None = account
 after_judge script account (Some flight) = with_judgement account flight (ops_in (request_at script flight.request))
 
 -- the judgement of the transaction in flight, if it has one
-abbrev pub judgement_in_flight : Account → Option Begun → Option Judgement
+abbrev pub judgement_in_flight : Account → Option BegunRequest → Option Judgement
 judgement_in_flight account None = None
 judgement_in_flight account (Some flight) = judgement_of flight.request account.store
 
 -- `send G`, by the flight there and its judgement: its messages go out, in the name of the author of its begin
-abbrev pub after_send : Script → Account → ℕ → Option Begun → Option Judgement → Account
+abbrev pub after_send : Script → Account → ℕ → Option BegunRequest → Option Judgement → Account
 after_send script account home (Some flight) (Some judged) =
     with_gate_deed account home flight.author (gate.Sent flight.request
     (messages_of script.shards (gate_log account home) flight judged.ops judged.verdict))
@@ -143,20 +143,20 @@ with_visit_of account s r stamp v updates =
     (entries_of_settling 0 (pairs_in account) (last_seen (seen_in account stamp updates) updates) stamp)
 
 -- the stamps of the updates applied to a vertex at its shard
-abbrev pub update_stamps : Account → ℕ → Name → List Stamp
-update_stamps account s v = map (λ (update : Update). update.stamp) (updates_of v (shard_log account s))
+abbrev pub update_stamps_at : Account → ℕ → Name → List Stamp
+update_stamps_at account s v = map (λ (update : Update). update.stamp) (updates_of v (shard_log account s))
 
 -- `visit R`, by the program as it was begun and its next vertex
-abbrev pub after_visit : Script → Account → ℕ → Option Begun → Option Name → Account
+abbrev pub after_visit : Script → Account → ℕ → Option BegunRequest → Option Name → Account
 after_visit script account r (Some begun) (Some v) =
     with_visit_of account (shard_of v script.shards) r begun.stamp v
-    (update_stamps account (shard_of v script.shards) v)
+    (update_stamps_at account (shard_of v script.shards) v)
 after_visit script account r _ _ = account
 
 -- Replies
 
 -- a program is finished in the name of the author of its begin
-abbrev pub with_finish : Account → ℕ → ℕ → Option Begun → Account
+abbrev pub with_finish : Account → ℕ → ℕ → Option BegunRequest → Account
 with_finish account r home None = account
 with_finish account r home (Some begun) = with_gate_deed account home begun.author (gate.Finished r)
 

@@ -15,7 +15,7 @@ use Rattle.program_defs.specs.declared.script.Script.{Script}
 use Rattle.program_defs.specs.declared.script.Work.TheVariants.{Change}
 use Rattle.program_defs.specs.Works.{is_change}
 use Rattle.report_rules.specs.Lookups.{request_at}
-use Rattle.weave_entries.specs.GateReplay.{Begun, clock_of, flight_of, low_mark, ticks_of}
+use Rattle.weave_entries.specs.GateReplay.{BegunRequest, clock_of, flight_of, low_mark, ticks_of}
 use Rattle.weave_entries.specs.GateRules.{BeginsEachOnce}
 use Rattle.weave_entries.specs.Sending.{IsCountsOf}
 use Rattle.weave_entries.specs.SessionReplay.{next_request, session_of}
@@ -33,8 +33,8 @@ use Rattle.weave_account.specs.Sessions.{requests_of_session}
 use Rattle.weave_account.specs.Store.{InTurn}
 
 -- a list of numbers that rise
-abbrev pub Rise : List ℕ → Type 0
-Rise requests = AllPairs (λ (a b : ℕ). a < b) requests
+abbrev pub NumbersRise : List ℕ → Type 0
+NumbersRise requests = AllPairs (λ (a b : ℕ). a < b) requests
 
 -- of program_defs
 pub record ProgramLaws : Type 0 where
@@ -56,8 +56,9 @@ pub record FurtherAccountLaws : Type 0 where
       → ticks_of clock.epoch (gate_log next home) ≡ ticks_of clock.epoch (gate_log account home) + 1
       → IsKnown next (clock_after_tick home clock)
   -- the meet of known stamps is known; it is asked of logs that are still to be shown to be an account
-  pub low : (account : Account) (stamp : Stamp) (running : List Begun)
-      → IsKnown account stamp.clock → ((begun : Begun) → Contains running begun → IsKnown account begun.stamp.clock)
+  pub low : (account : Account) (stamp : Stamp) (running : List BegunRequest)
+      → IsKnown account stamp.clock
+      → ((begun : BegunRequest) → Contains running begun → IsKnown account begun.stamp.clock)
       → IsKnown account (low_mark stamp running)
   -- the stamp that a session began last is that of a begun request
   pub last : (script : Script) (account : Account) → IsWithinLimits script → IsAccount script account
@@ -65,7 +66,7 @@ pub record FurtherAccountLaws : Type 0 where
       → IsBegunStamp account stamp
   -- two begun requests have stamps of different ids
   pub differ : (script : Script) (account : Account) → IsWithinLimits script → IsAccount script account
-      → (a b : Begun) → Contains (all_begun account) a → Contains (all_begun account) b → a.request ≢ b.request
+      → (a b : BegunRequest) → Contains (all_begun account) a → Contains (all_begun account) b → a.request ≢ b.request
       → id_of a.stamp ≢ id_of b.stamp
   -- what was judged is the transaction of a request, and its verdict counts the vertices that this one names
   pub judged_work : (script : Script) (account : Account) → IsWithinLimits script → IsAccount script account
@@ -78,12 +79,12 @@ pub record FurtherAccountLaws : Type 0 where
       → Contains (all_begun account) (record { author = judged.author; request = judged.request; stamp = judged.stamp })
   -- what is in flight is a transaction of a request, at its own gatekeeper
   pub flights : (script : Script) (account : Account) → IsWithinLimits script → IsAccount script account
-      → (home : ℕ) (flight : Begun) → flight_of (gate_log account home) ≡ Some flight
+      → (home : ℕ) (flight : BegunRequest) → flight_of (gate_log account home) ≡ Some flight
       → IsSomeAnd (request_at script flight.request) (λ (request : Request). (request.gate ≡ home)
       × IsTrue (is_change request.work))
   -- what was judged of a session comes before what is in flight of it
   pub judged_before : (script : Script) (account : Account) → IsWithinLimits script → IsAccount script account
-      → (home : ℕ) (flight : Begun) → flight_of (gate_log account home) ≡ Some flight
+      → (home : ℕ) (flight : BegunRequest) → flight_of (gate_log account home) ≡ Some flight
       → (judged : Judgement) → Contains (judgements_of account.store) judged → judged.request ≢ flight.request
       → InTurn script judged.request flight.request
   -- a session's next request begins after what the session began last
@@ -95,7 +96,7 @@ pub record FurtherAccountLaws : Type 0 where
   -- the request before it in its session is an earlier one
   pub earlier : (script : Script) (r before : ℕ) → request_before script r ≡ Some before → before < r
   -- the requests of a session rise, and each request is one of its session's
-  pub rise : (script : Script) (session : ℕ) → Rise (requests_of_session script session)
+  pub rise : (script : Script) (session : ℕ) → NumbersRise (requests_of_session script session)
   pub among : (script : Script) (r : ℕ) (request : Request) → request_at script r ≡ Some request
       → Contains (requests_of_session script request.session) r
   -- at each gatekeeper a request begins once

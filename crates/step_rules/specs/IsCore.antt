@@ -1,5 +1,6 @@
 -- When a state is that of a core, and which steps a core is given.
 use Rattle.std.specs.Prelude.{◌≡◌, ◌≤◌, ◌<◌, List, [], ◌∷◌, Contains, IsTrue, Some, length, ⊤}
+use Rattle.weave_data.specs.Limits.{most_epoch, most_sessions}
 use Rattle.vector_stamp.specs.declared.clock.Clock.{Clock}
 use Rattle.vector_stamp.specs.Order.{has_64_bits}
 use Rattle.program_defs.specs.declared.script.Request.{Request}
@@ -20,7 +21,7 @@ use Rattle.step_rules.specs.Trace.{state_after}
 -- with authors other than 0, may go on as a core.
 pub record IsCore (script : Script) (state : CoreState) : Type 0 where
   pub account : IsAccount script state.account
-  pub sessions : length state.account.sessions ≡ 64
+  pub sessions : length state.account.sessions ≡ most_sessions
   pub notices : (clock : Clock) → Contains state.notices clock → IsKnown state.account clock
 
 -- a step's requests, gatekeepers and shards are those of the script, notices and messages are numbered from 1, and an
@@ -37,7 +38,7 @@ IsStepOf script (Apply shard gate) = (shard < script.shards) × (gate < script.g
 IsStepOf script (Visit r) = r < length script.requests
 IsStepOf script (Reply r) = r < length script.requests
 IsStepOf script (Collect shard) = shard < script.shards
-IsStepOf script (Epoch gate epoch) = (gate < script.gates) × (1 ≤ epoch) × (epoch ≤ 1000000)
+IsStepOf script (Epoch gate epoch) = (gate < script.gates) × (1 ≤ epoch) × (epoch ≤ most_epoch)
 
 -- a `begin` that is done gives a stamp whose numbers have 64 bits; of other steps nothing is asked
 abbrev pub IsSmall : Script → CoreState → Step → Type 0

@@ -8,7 +8,7 @@ use Rattle.step_rules.specs.StampLaws.{StampLaws}
 use Rattle.step_rules.specs.FurtherLaws.{FurtherAccountLaws, ProgramLaws}
 
 -- further laws of accounts, and of programs
-pub record Further : Type 0 where
+pub record FurtherLowerLaws : Type 0 where
   pub accounts : FurtherAccountLaws
   pub programs : ProgramLaws
 

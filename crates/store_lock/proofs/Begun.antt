@@ -13,7 +13,7 @@ use Rattle.weave_entries.specs.declared.oracle_log.OracleDeed.{OracleDeed}
 use Rattle.weave_entries.specs.declared.oracle_log.OracleDeed.TheVariants.{Settled}
 use Rattle.weave_entries.specs.declared.oracle_log.OracleEntry.{OracleEntry}
 use Rattle.weave_entries.specs.declared.store_log.StoreEntry.{StoreEntry}
-use Rattle.weave_entries.specs.GateReplay.{Begun, txs_of}
+use Rattle.weave_entries.specs.GateReplay.{BegunRequest, txs_of}
 use Rattle.weave_entries.specs.StoreReplay.{Judgement, commits_of, judged_by, judgements_of}
 use Rattle.weave_entries.specs.StoreRule.{stamps_judged}
 use Rattle.backing_store.specs.Commits.{stamps_kept}
@@ -23,14 +23,14 @@ use Rattle.weave_account.proofs.Beginning.{all-in, tx-begun}
 use Rattle.seen_logs.specs.References.{OracleRefersAs}
 use Rattle.seen_logs.specs.Seen.{GatesGoOn, StoreRefersWithin}
 use Rattle.oracle_lock.specs.Seen.{of_gates}
-use Rattle.store_lock.specs.Entries.{store_entries, store_pairs}
+use Rattle.seen_logs.specs.Entries.{store_entries, store_pairs}
 use Rattle.store_lock.specs.Seen.{store_seen, StoreIsKept}
 
 -- the stamp of a transaction was begun
-pub tx-stamp : (logs : List (List GateEntry)) (home : ℕ) (begun : Begun) → Contains (txs_of (gate_log (of_gates logs) home)) begun
+pub tx-stamp : (logs : List (List GateEntry)) (home : ℕ) (begun : BegunRequest) → Contains (txs_of (gate_log (of_gates logs) home)) begun
     → IsBegunStamp (of_gates logs) begun.stamp
 tx-stamp logs home begun h =
-    has_map (λ (b : Begun). b.stamp) (all_begun (of_gates logs)) begun (all-in (of_gates logs) home begun (tx-begun (get_or logs home []) begun h))
+    has_map (λ (b : BegunRequest). b.stamp) (all_begun (of_gates logs)) begun (all-in (of_gates logs) home begun (tx-begun (get_or logs home []) begun h))
 
 -- the stamp of a judgement was begun
 judged-stamp : (gates : List (List GateEntry)) (oracle : List OracleEntry) (log : List StoreEntry) → StoreRefersWithin (store_seen gates oracle log)
@@ -48,6 +48,7 @@ judged-stamp gates oracle log refers event h =
 abbrev pub StampsStay : Type 0
 StampsStay = (seen next : Account) → GatesGoOn seen next → (deed : OracleDeed) → OracleRefersAs seen deed → OracleRefersAs next deed
 
+-- the stamp of a begun request is one still when more of the gatekeepers' logs is seen
 pub stamp-stays : StampsStay → (logs more : List (List GateEntry)) → GatesGoOn (of_gates logs) (of_gates more) → (event : Stamp)
     → IsBegunStamp (of_gates logs) event → IsBegunStamp (of_gates more) event
 stamp-stays stays logs more on event h =
@@ -80,12 +81,12 @@ kept-begun stays judged gates more oracle log author request stamp refers on beg
 -- New stamps
 
 -- of two begins, that their stamps have two ids
-abbrev pub OtherIds : Begun → Begun → Type 0
+abbrev pub OtherIds : BegunRequest → BegunRequest → Type 0
 OtherIds a b = id_of a.stamp ≢ id_of b.stamp
 
 module _ (ids : (shards : ℕ) (seen : Account) → length seen.gates ≤ 8
     → ((home : ℕ) → IsGateLog home shards (gate_log seen home))
-    → AllPairs (λ (a b : Begun). id_of a.stamp ≢ id_of b.stamp) (all_begun seen)) where
+    → AllPairs (λ (a b : BegunRequest). id_of a.stamp ≢ id_of b.stamp) (all_begun seen)) where
   -- a transaction whose request its author hasn't had judged has a new stamp
   pub own-new : (shards : ℕ) (gates : List (List GateEntry)) (oracle : List OracleEntry) (log : List StoreEntry)
       (author request : ℕ)
@@ -102,14 +103,14 @@ module _ (ids : (shards : ℕ) (seen : Account) → length seen.gates ≤ 8
           let cut = cut_at log entry.0 entry.1 in
           let as_seen = kept.refers cut.before entry.0 cut.after cut.is in
           let its : Judgement = judged_by (entry.0).author (entry.0).deed in
-          let first : Begun = record { author = its.author; request = its.request; stamp = its.stamp } in
-          let second : Begun = record { author = author; request = request; stamp = stamp } in
+          let first : BegunRequest = record { author = its.author; request = its.request; stamp = its.stamp } in
+          let second : BegunRequest = record { author = author; request = request; stamp = stamp } in
           let one_id : id_of first.stamp ≡ id_of second.stamp = ap id_of (ap (λ (j : Judgement). j.stamp) entry.2 ∙ judged.2) ∙ same in
           elim (pairs_cases OtherIds (all_begun (of_gates gates)) (ids shards (of_gates gates) few kept.legal.gate_logs) first second
           (all-in (of_gates gates) as_seen.home first (tx-begun (get_or gates as_seen.home []) first as_seen.begun))
           (all-in (of_gates gates) begun.0 second (tx-begun (get_or gates begun.0 []) second begun.1))) [
-            | inl is ↦ others judged.0 judged.1 (ap (λ (j : Judgement). j.author) (sym entry.2) ∙ ap (λ (b : Begun). b.author) is)
-                (ap (λ (j : Judgement). j.request) (sym entry.2) ∙ ap (λ (b : Begun). b.request) is)
+            | inl is ↦ others judged.0 judged.1 (ap (λ (j : Judgement). j.author) (sym entry.2) ∙ ap (λ (b : BegunRequest). b.author) is)
+                (ap (λ (j : Judgement). j.request) (sym entry.2) ∙ ap (λ (b : BegunRequest). b.request) is)
             | inr (inl differ) ↦ differ one_id
             | inr (inr differ) ↦ differ (sym one_id)
           ]

@@ -7,7 +7,7 @@ use mathlib.Core.List.{IsPrefix}
 use Rattle.weave_data.proofs.Entries.{each_push}
 use Rattle.graph_ops.specs.declared.op.Op.{Op}
 use Rattle.vector_stamp.specs.declared.clock.Stamp.{Stamp}
-use Rattle.vector_stamp.specs.Precedence.{Given}
+use Rattle.vector_stamp.specs.Precedence.{GivenPair}
 use Rattle.vector_stamp.specs.Settling.{additions_from, places_of}
 use Rattle.weave_entries.specs.declared.gate_log.GateEntry.{GateEntry}
 use Rattle.weave_entries.specs.declared.oracle_log.OracleDeed.{OracleDeed}
@@ -17,7 +17,7 @@ use Rattle.weave_entries.specs.declared.verdict.Verdict.{Verdict}
 use Rattle.weave_entries.specs.declared.verdict.Verdict.TheVariants.{Committed, Conflict, Refused}
 use Rattle.weave_entries.specs.Logs.{AtEachEntry}
 use Rattle.weave_entries.specs.GateReplay.{txs_of}
-use Rattle.weave_entries.specs.OracleReplay.{oracle_entry, pairs_of_log}
+use Rattle.weave_entries.specs.OracleReplay.{oracle_entry_of, pairs_of_log}
 use Rattle.weave_entries.specs.OracleRules.{IsOracleLog}
 use Rattle.weave_entries.specs.StoreRule.{IsStoreLog}
 use Rattle.backing_store.specs.Commits.{asked_at, entries_added, judged_entry}
@@ -29,7 +29,7 @@ use Rattle.seen_logs.specs.Seen.{GatesGoOn, StoreRefersWithin}
 use Rattle.chronicle.specs.Logs.{Log, Follows}
 use Rattle.chronicle.proofs.Logs.{prefix_trans}
 use Rattle.lock_row.proofs.Lists.{mapped_on}
-use Rattle.oracle_lock.specs.Entries.{oracle_entries, oracle_pair, oracle_pairs, paired_entry}
+use Rattle.seen_logs.specs.Entries.{oracle_entries, oracle_pair, oracle_pairs, oracle_entry}
 use Rattle.oracle_lock.specs.Seen.{of_gates}
 use Rattle.oracle_lock.proofs.CallEntries.{AllBy, call-by, none-by}
 use Rattle.store_lock.specs.Judged.{JudgesOver}
@@ -40,20 +40,20 @@ use Rattle.store_lock.proofs.Verdicts.{right-verdict}
 
 -- The oracle's log in its hold
 
-added-by : (number author : ℕ) (verdict : Verdict) (pairs : List Given) (asked : List Stamp) (stamp : Stamp) → author ≡ number
-    → AllBy number (oracle_pairs (map oracle_entry (entries_added verdict author pairs asked stamp)))
+added-by : (number author : ℕ) (verdict : Verdict) (pairs : List GivenPair) (asked : List Stamp) (stamp : Stamp) → author ≡ number
+    → AllBy number (oracle_pairs (map oracle_entry_of (entries_added verdict author pairs asked stamp)))
 added-by number author (Committed n answers counts) pairs asked stamp same =
     call-by number author asked stamp (places_of (additions_from 0 pairs asked stamp)) same
 added-by number author (Conflict vertex newer) pairs asked stamp same = none-by number
 added-by number author (Refused op reason at) pairs asked stamp same = none-by number
 
 -- what a judgement adds to the oracle's log is of its author
-pub follows : {E : Type 0} (number author : ℕ) (entered : Log OracleDeed) (before after : List OracleEntry) (pairs : List Given)
+pub follows : {E : Type 0} (number author : ℕ) (entered : Log OracleDeed) (before after : List OracleEntry) (pairs : List GivenPair)
     (asked : List Stamp) (stamp : Stamp) (result : Result Verdict E) → author ≡ number → entered ≡ oracle_pairs before
-    → IfOk result (λ verdict. after ≡ before ++ map oracle_entry (entries_added verdict author pairs asked stamp))
+    → IfOk result (λ verdict. after ≡ before ++ map oracle_entry_of (entries_added verdict author pairs asked stamp))
     → OnErr result (after ≡ before) → Follows number entered (oracle_pairs after)
 follows number author entered before after pairs asked stamp (Ok verdict) same is logged kept =
-    let more = map oracle_entry (entries_added verdict author pairs asked stamp) in (
+    let more = map oracle_entry_of (entries_added verdict author pairs asked stamp) in (
       oracle_pairs more,
       ap (λ (l : Log OracleDeed). l ++ oracle_pairs more) is ∙ (sym (map-append oracle_pair before more)
           ∙ ap (λ (l : List OracleEntry). oracle_pairs l) (sym logged)),
@@ -68,7 +68,7 @@ follows number author entered before after pairs asked stamp (Err fault) same is
 -- Lists that go on
 
 begins : (a b : Log OracleDeed) → IsPrefix a b → IsBeginningOf (oracle_entries a) (oracle_entries b)
-begins = mapped_on paired_entry
+begins = mapped_on oracle_entry
 
 module _ (E : Type 0) (author request : ℕ) (stamp : Stamp) (ops : List Op) (old new : List StoreEntry) (had own has : Log OracleDeed)
     (before : List OracleEntry) where
@@ -76,7 +76,7 @@ module _ (E : Type 0) (author request : ℕ) (stamp : Stamp) (ops : List Op) (ol
   goes-on : (result : Result Verdict E) → JudgesOver author request stamp ops old new had own has before result
       → IsPrefix (oracle_pairs before) has
   goes-on (Ok verdict) judges =
-      let more = map oracle_entry (entries_added verdict author (pairs_of_log before) (asked_at old stamp ops) stamp) in
+      let more = map oracle_entry_of (entries_added verdict author (pairs_of_log before) (asked_at old stamp ops) stamp) in
       (oracle_pairs more, sym (map-append oracle_pair before more) ∙ sym judges.logged)
   goes-on (Err fault) judges = ([], append-nil (oracle_pairs before) ∙ sym judges.oracle)
 

@@ -5,7 +5,7 @@ use Rattle.weave_data.specs.declared.name.Name.{Name}
 use Rattle.graph_ops.specs.Mentions.{named_by}
 use Rattle.graph_ops.specs.declared.op.Op.{Op}
 use Rattle.vector_stamp.specs.declared.clock.Stamp.{Stamp}
-use Rattle.vector_stamp.specs.Precedence.{Given, Precedes}
+use Rattle.vector_stamp.specs.Precedence.{GivenPair, Precedes}
 use Rattle.weave_entries.specs.declared.store_log.StoreEntry.{StoreEntry}
 use Rattle.weave_entries.specs.declared.verdict.Verdict.{Verdict}
 use Rattle.weave_entries.specs.declared.verdict.Verdict.TheVariants.{Committed, Conflict, Refused}
@@ -17,7 +17,7 @@ use Rattle.weave_account.specs.Account.{pairs_in}
 use Rattle.weave_account.specs.Store.{IsRightVerdict}
 use Rattle.store_lock.specs.VerdictLaws.{VerdictLaws}
 
-module _ (laws : VerdictLaws) (seen : Account) (pairs : List Given) (log : List StoreEntry) (stamp : Stamp) (ops : List Op) where
+module _ (laws : VerdictLaws) (seen : Account) (pairs : List GivenPair) (log : List StoreEntry) (stamp : Stamp) (ops : List Op) where
   -- what the rule answers is right, if what is seen has the pairs of the judge and those that the verdict leaves
   pub right-verdict : (verdict : Verdict) → verdict ≡ verdict_at pairs log stamp ops
       → pairs_in seen ≡ pairs ++ pairs_added verdict pairs (asked_at log stamp ops) stamp → IsRightVerdict seen (commits_of log) stamp ops verdict
@@ -29,7 +29,7 @@ module _ (laws : VerdictLaws) (seen : Account) (pairs : List Given) (log : List 
         graph = passed.0;
         passes = passed.1;
         counts_are = laws.counts pairs commits stamp ops number answers counts (sym is);
-        after_last = λ v named last at. subst (λ (ps : List Given). Precedes ps last.stamp stamp) (sym have)
+        after_last = λ v named last at. subst (λ (ps : List GivenPair). Precedes ps last.stamp stamp) (sym have)
             ((laws.tested (pairs ++ pairs_added (Committed number answers counts) pairs (asked_at log stamp ops) stamp) last.stamp stamp).1
             (laws.after pairs log stamp ops number answers counts (sym is) (last-at v last)
             (last-there ops commits v last ((laws.among (named_by ops) v).0 named) at)));
@@ -44,7 +44,7 @@ module _ (laws : VerdictLaws) (seen : Account) (pairs : List Given) (log : List 
         last = last.commit;
         last_is = subst (λ (v : Name). last_naming v commits ≡ Some last.commit) found.1 there.0;
         newer_is = found.2;
-        precedes = subst (λ (ps : List Given). Precedes ps stamp last.commit.stamp) (sym (have ∙ append-nil pairs))
+        precedes = subst (λ (ps : List GivenPair). Precedes ps stamp last.commit.stamp) (sym (have ∙ append-nil pairs))
             ((laws.tested pairs stamp last.commit.stamp).1 found.4);
       }
   right-verdict (Refused op reason at) is have =

@@ -1,4 +1,3 @@
-pub mod Entries
 pub mod Seen
 pub mod Judged
 pub mod VerdictLaws

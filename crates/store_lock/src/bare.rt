@@ -2,9 +2,9 @@
 ghost use Rattle.std.specs.Prelude.{◌≡◌, [], ◌∷◌, All, map, vec_len};
 ghost use Rattle.std.specs.List.{range_with_len};
 ghost use Rattle.chronicle.specs.Locks.{lock_of, name_of, LockStartsWith, IsVacant};
-ghost use Rattle.chronicle.specs.Passes.{IsReady, IsUnopened, number_of, seen};
+ghost use Rattle.chronicle.specs.Passes.{IsReady, IsUnopened, number_of, seen_by_pass};
 ghost use Rattle.lock_row.specs.Rows.{names_of};
-ghost use Rattle.store_lock.specs.Entries.{store_pairs};
+ghost use Rattle.seen_logs.specs.Entries.{store_pairs};
 
 use crate::noted_store::NotedStore;
 use backing_store::Store;
@@ -29,7 +29,7 @@ impl<G: Machine<Entry = GateDeed>> Machine for BareStore<'_, G> {
     ghost use Rattle.std.specs.Prelude.{[], ◌∷◌};
     ghost use Rattle.chronicle.specs.Locks.{lock_of, name_of};
     ghost use Rattle.lock_row.specs.Rows.{names_of};
-    ghost use Rattle.store_lock.specs.Entries.{store_pairs};
+    ghost use Rattle.seen_logs.specs.Entries.{store_pairs};
 
     ghost frame = { λ b. (b.shards ∷ []) ∷ name_of (lock_of b.oracle.value) ∷ names_of b.gates.value.items };
 
@@ -52,7 +52,7 @@ pub fn open_store<G: Machine<Entry = GateDeed>>(
     ensures count { vec_len result.0 ≡ (lock_of lock.old).passes }
     ensures numbers { map number_of result.0.items ≡ range_with_len 0 (lock_of lock.old).passes }
     ensures ready { All (IsReady (lock_of lock.new)) result.0.items }
-    ensures seen { All (λ p. seen p ≡ (lock_of lock.new).start) result.0.items }
+    ensures seen { All (λ p. seen_by_pass p ≡ (lock_of lock.new).start) result.0.items }
     ensures vacant { IsVacant (lock_of lock.new) result.1 }
 {
     let bare = BareStore {

@@ -1,5 +1,6 @@
 //! A judgement under the oracle's lock.
 ghost use Rattle.std.specs.Prelude.{◌≡◌, ◌≢◌, ◌<◌, ◌≤◌, ◌^◌, [], ◌∷◌, List, length, All, Contains};
+ghost use Rattle.weave_data.specs.Limits.{most_gates};
 ghost use Rattle.vector_stamp.specs.declared.clock.Stamp.{Stamp};
 ghost use Rattle.vector_stamp.specs.Order.{id_of};
 ghost use Rattle.weave_entries.specs.declared.oracle_log.OracleEntry.{OracleEntry};
@@ -10,10 +11,10 @@ ghost use Rattle.weave_account.specs.Account.{IsBegunStamp};
 ghost use Rattle.seen_logs.specs.Seen.{GatesGoOn};
 ghost use Rattle.chronicle.specs.declared.note.Note.{Note};
 ghost use Rattle.chronicle.specs.Locks.{lock_of};
-ghost use Rattle.chronicle.specs.Passes.{IsReady, number_of, seen, own};
+ghost use Rattle.chronicle.specs.Passes.{IsReady, number_of, seen_by_pass, own_entries};
 ghost use Rattle.lock_row.specs.Rows.{names_of, AreReady};
 ghost use Rattle.lock_row.specs.Meetings.{AllMet};
-ghost use Rattle.oracle_lock.specs.Entries.{oracle_entries};
+ghost use Rattle.seen_logs.specs.Entries.{oracle_entries};
 ghost use Rattle.oracle_lock.specs.Seen.{gates_seen, of_gates, AreGateLogs, OracleIsKept};
 ghost use Rattle.store_lock.specs.Judged.{JudgesOver};
 
@@ -48,7 +49,7 @@ pub(crate) fn judge_over<R: Wait, G: Machine<Entry = GateDeed>>(
     requires passes { length passes.old ≡ length gates.now }
     requires all_ready { AreReady gates.now passes.old }
     requires legal { AreGateLogs shards (gates_seen passes.old) }
-    requires gates { length gates.now ≤ 8 }
+    requires gates { length gates.now ≤ most_gates }
     requires few { length ops.now < 2 ^ 31 }
     requires new { All (λ (judged : Stamp). id_of judged ≢ id_of stamp) (stamps_judged store.old) }
     requires begun { (event : Stamp) → Contains (stamp ∷ stamps_kept (commits_of store.old)) event
@@ -59,11 +60,11 @@ pub(crate) fn judge_over<R: Wait, G: Machine<Entry = GateDeed>>(
     ensures all_ready { AreReady gates.now passes.new }
     ensures passes_on { GatesGoOn (of_gates (gates_seen passes.old)) (of_gates (gates_seen passes.new)) }
     ensures legal { AreGateLogs shards (gates_seen passes.new) }
-    ensures kept { OracleIsKept shards (gates_seen passes.new) (oracle_entries (seen pass.new)) }
+    ensures kept { OracleIsKept shards (gates_seen passes.new) (oracle_entries (seen_by_pass pass.new)) }
     ensures met { (notes : List (Note GateDeed)) × (later : List (Note GateDeed)) × (length notes ≡ length gates.now)
         × AllMet gates.now passes.old passes.new notes later (length gates.now) }
     ensures answer { (before : List OracleEntry) × JudgesOver (number_of pass.old) request stamp ops.now
-        store.old store.new (seen pass.old) (own pass.old) (seen pass.new) before result }
+        store.old store.new (seen_by_pass pass.old) (own_entries pass.old) (seen_by_pass pass.new) before result }
 {
     pairs_tell_entries();
     references_go_on();

@@ -1,5 +1,6 @@
 //! What follows for a store with notes, as a contract over the logs alone.
 ghost use Rattle.std.specs.Prelude.{◌≡◌, ◌≢◌, ◌≤◌, ℕ, List, length, All, Contains};
+ghost use Rattle.weave_data.specs.Limits.{most_gates};
 ghost use Rattle.vector_stamp.specs.declared.clock.Stamp.{Stamp};
 ghost use Rattle.vector_stamp.specs.Order.{id_of};
 ghost use Rattle.weave_entries.specs.declared.gate_log.GateEntry.{GateEntry};
@@ -10,7 +11,7 @@ ghost use Rattle.weave_entries.specs.StoreReplay.{Judgement, judgements_of};
 ghost use Rattle.backing_store.specs.Commits.{stamps_judged};
 ghost use Rattle.weave_account.specs.Account.{gate_log};
 ghost use Rattle.oracle_lock.specs.Seen.{of_gates};
-ghost use Rattle.store_lock.specs.Entries.{store_entries, store_pairs};
+ghost use Rattle.seen_logs.specs.Entries.{store_entries, store_pairs};
 ghost use Rattle.store_lock.specs.Seen.{StoreIsKept};
 
 use weave_account::laws::begun_stamps_are_coherent;
@@ -19,7 +20,7 @@ use weave_account::laws::begun_stamps_are_coherent;
 /// transaction of its request. So only the author's own entries have to be known.
 pub fn own_transactions_are_new()
     ensures { (shards : ℕ) (gates : List (List GateEntry)) (oracle : List OracleEntry) (log : List StoreEntry)
-        (author request : ℕ) (stamp : Stamp) → StoreIsKept shards gates oracle log → length gates ≤ 8
+        (author request : ℕ) (stamp : Stamp) → StoreIsKept shards gates oracle log → length gates ≤ most_gates
         → ((home : ℕ) × Contains (txs_of (gate_log (of_gates gates) home))
         (record { author = author; request = request; stamp = stamp }))
         → ((judged : Judgement) → Contains (judgements_of log) judged → judged.author ≡ author

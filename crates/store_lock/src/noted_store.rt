@@ -1,7 +1,8 @@
 //! The store with its notes.
-ghost use Rattle.oracle_lock.specs.Entries.{oracle_entries};
+ghost use Rattle.weave_data.specs.Limits.{most_gates};
+ghost use Rattle.seen_logs.specs.Entries.{oracle_entries};
 ghost use Rattle.oracle_lock.specs.Seen.{gates_noted};
-ghost use Rattle.chronicle.specs.Passes.{noted};
+ghost use Rattle.chronicle.specs.Passes.{seen_by_note};
 ghost use Rattle.store_lock.specs.Seen.{StoreIsKept};
 
 use crate::judging::judge_over;
@@ -30,8 +31,8 @@ pub struct NotedStore {
 }
 
 impl Model for NotedStore {
-    ghost use Rattle.chronicle.specs.Passes.{noted};
-    ghost use Rattle.oracle_lock.specs.Entries.{oracle_entries};
+    ghost use Rattle.chronicle.specs.Passes.{seen_by_note};
+    ghost use Rattle.seen_logs.specs.Entries.{oracle_entries};
     ghost use Rattle.oracle_lock.specs.Seen.{gates_noted};
     ghost use Rattle.store_lock.specs.Seen.{StoreIsKept, StoreView};
 
@@ -45,7 +46,7 @@ impl Model for NotedStore {
     } };
 
     ghost invariant = { λ n.
-        StoreIsKept n.shards (gates_noted n.gates.items) (oracle_entries (noted n.oracle)) n.store };
+        StoreIsKept n.shards (gates_noted n.gates.items) (oracle_entries (seen_by_note n.oracle)) n.store };
 }
 
 impl Machine for NotedStore {
@@ -53,7 +54,7 @@ impl Machine for NotedStore {
 
     ghost use Rattle.std.specs.Prelude.{[], ◌∷◌, map};
     ghost use Rattle.chronicle.specs.Passes.{lock_noted};
-    ghost use Rattle.store_lock.specs.Entries.{store_pairs};
+    ghost use Rattle.seen_logs.specs.Entries.{store_pairs};
 
     ghost frame = { λ n. (n.shards ∷ []) ∷ lock_noted n.oracle ∷ map lock_noted n.gates };
 
@@ -72,7 +73,7 @@ impl NotedStore {
     ghost use Rattle.seen_logs.specs.Seen.{GatesGoOn};
     ghost use Rattle.chronicle.specs.declared.note.Note.{Note};
     ghost use Rattle.chronicle.specs.Locks.{lock_of};
-    ghost use Rattle.chronicle.specs.Passes.{IsReady, IsNote, number_of, seen, own, lock_noted};
+    ghost use Rattle.chronicle.specs.Passes.{IsReady, IsNote, number_of, seen_by_pass, own_entries, lock_noted};
     ghost use Rattle.lock_row.specs.Rows.{names_of, AreReady};
     ghost use Rattle.lock_row.specs.Meetings.{AllMet};
     ghost use Rattle.oracle_lock.specs.Seen.{gates_seen, of_gates, AreGateLogs, OracleIsKept};
@@ -85,7 +86,7 @@ impl NotedStore {
         gates: Vec<Note<GateDeed>>,
         oracle: Note<OracleDeed>,
     ) -> NotedStore
-        requires { StoreIsKept shards (gates_noted gates.items) (oracle_entries (noted oracle)) store }
+        requires { StoreIsKept shards (gates_noted gates.items) (oracle_entries (seen_by_note oracle)) store }
         ensures store { result.store ≡ store }
         ensures shards { result.shards ≡ shards }
         ensures gates { result.gates ≡ gates.items }
@@ -114,7 +115,8 @@ impl NotedStore {
 
     /// What the type keeps: all that the judgements refer to was seen.
     pub fn shows_what_it_keeps(&self)
-        ensures { StoreIsKept self.now.shards (gates_noted self.now.gates) (oracle_entries (noted self.now.oracle))
+        ensures { StoreIsKept self.now.shards (gates_noted self.now.gates)
+            (oracle_entries (seen_by_note self.now.oracle))
             self.now.store }
     {
         let _ = &self.store;
@@ -167,7 +169,7 @@ impl NotedStore {
         requires all_ready { AreReady gates.now passes.old }
         requires legal { AreGateLogs self.old.shards (gates_seen passes.old) }
         requires met { GatesGoOn (of_gates (gates_noted self.old.gates)) (of_gates (gates_seen passes.old)) }
-        requires gates { length gates.now ≤ 8 }
+        requires gates { length gates.now ≤ most_gates }
         requires few { length ops.now < 2 ^ 31 }
         requires new { All (λ (judged : Stamp). id_of judged ≢ id_of stamp) (stamps_judged self.old.store) }
         requires begun { (home : ℕ) × Contains (txs_of (gate_log (of_gates (gates_noted self.old.gates)) home))
@@ -175,19 +177,21 @@ impl NotedStore {
         ensures shards { self.new.shards ≡ self.old.shards }
         ensures gates { self.new.gates ≡ self.old.gates }
         ensures note { lock_noted self.new.oracle ≡ lock_noted self.old.oracle }
-        ensures one { noted self.new.oracle ≡ seen pass.new }
+        ensures one { seen_by_note self.new.oracle ≡ seen_by_pass pass.new }
         ensures ready { IsReady (lock_of oracle.now) pass.new }
         ensures number { number_of pass.new ≡ number_of pass.old }
         ensures passes { length passes.new ≡ length passes.old }
         ensures all_ready { AreReady gates.now passes.new }
         ensures passes_on { GatesGoOn (of_gates (gates_seen passes.old)) (of_gates (gates_seen passes.new)) }
         ensures legal { AreGateLogs self.old.shards (gates_seen passes.new) }
-        ensures oracle_kept { OracleIsKept self.old.shards (gates_seen passes.new) (oracle_entries (seen pass.new)) }
+        ensures oracle_kept { OracleIsKept self.old.shards (gates_seen passes.new)
+            (oracle_entries (seen_by_pass pass.new)) }
         ensures met { (notes : List (Note GateDeed)) × (later : List (Note GateDeed))
             × (length notes ≡ length gates.now)
             × AllMet gates.now passes.old passes.new notes later (length gates.now) }
         ensures answer { (before : List OracleEntry) × JudgesOver (number_of pass.old) request stamp ops.now
-            self.old.store self.new.store (seen pass.old) (own pass.old) (seen pass.new) before result }
+            self.old.store self.new.store (seen_by_pass pass.old) (own_entries pass.old)
+            (seen_by_pass pass.new) before result }
     {
         references_go_on();
         what_is_asked_is_kept();

@@ -1,4 +1,4 @@
--- The stamps of a row.
+-- The stamps of a row. For tests: no public contract cites this.
 use Rattle.std.specs.Prelude.{List, Contains}
 use Rattle.vector_stamp.specs.declared.clock.Stamp.{Stamp}
 use Rattle.weave_entries.specs.declared.store_log.StoreEntry.{StoreEntry}

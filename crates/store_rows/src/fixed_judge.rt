@@ -33,9 +33,9 @@ impl FixedJudge {
 
 impl Model for FixedJudge {
     ghost use Rattle.std.specs.Prelude.{List};
-    ghost use Rattle.vector_stamp.specs.Precedence.{Given};
+    ghost use Rattle.vector_stamp.specs.Precedence.{GivenPair};
 
-    ghost Value = { List Given };
+    ghost Value = { List GivenPair };
 
     ghost view = { λ j. j.pairs.items };
 }

@@ -1,7 +1,7 @@
 //! Commits over a judge that adds nothing: it refuses, or is out of memory. Nothing is lost, and nothing kept.
 
+use crate::bench::{fixed_row, over_oracle, put, was_called};
 use crate::calls::{name, stamp};
-use crate::row::{fixed_row, over_oracle, put, was_called};
 use graph_ops::{Name, Op, Reason};
 
 fn set(v: Name, key: Name) -> Op {

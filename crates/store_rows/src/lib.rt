@@ -3,13 +3,13 @@
 #![tactic(auto)]
 
 #[cfg(test)]
+mod bench;
+#[cfg(test)]
 mod calls;
 #[cfg(test)]
 mod fixed_judge;
 #[cfg(test)]
 mod judged;
-#[cfg(test)]
-mod row;
 #[cfg(test)]
 mod rows;
 #[cfg(test)]

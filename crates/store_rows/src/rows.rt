@@ -1,7 +1,7 @@
 //! Rows over the timeline oracle.
 
+use crate::bench::{Row, oracle_row, put, put_last, put_nothing};
 use crate::calls::{name, stamp, stamp_in};
-use crate::row::{Row, oracle_row, put, put_last, put_nothing};
 use graph_ops::{Edge, Op, Reason, Record};
 use std::alloc::Global;
 use std::process::Abort;

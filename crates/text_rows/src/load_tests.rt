@@ -1,4 +1,5 @@
 ghost use Rattle.std.specs.Prelude.{◌≤◌};
+ghost use Rattle.weave_data.specs.Limits.{most_requests};
 
 use load_maker::make;
 use rand_core::SeedableRng;
@@ -10,7 +11,7 @@ use weave_script::{print_script, read_script};
 
 // The text of a generated script.
 fn made(alloc: Global, seed: u64, size: u32) -> Result<Vec<u8>, AllocError>
-    requires { (1 ≤ size) × (size ≤ 10000) }
+    requires { (1 ≤ size) × (size ≤ most_requests) }
 {
     let script = make(alloc, seed, size)?;
     print_script(alloc, &script)
@@ -37,7 +38,7 @@ fn words_of_a_seed(rt: HostRuntime) {
         671954468,
         3804052768,
     ] {
-        assert_eq!(rt; words.next_word(), word);
+        assert!(rt; words.next_word() == word);
     }
 }
 
@@ -103,7 +104,7 @@ fn a_script_of_two_hundred_requests(rt: HostRuntime) -> Result<(), Fail> {
 #[test]
 fn the_largest_script(rt: HostRuntime) -> Result<(), Fail> {
     let text = made(rt.alloc(), 7, 10_000)?;
-    assert_eq!(rt; text.len(), 869_117);
+    assert!(rt; text.len() == 869_117);
     for (first, count) in [
         ("tx ", 9_000),
         ("prog ", 1_000),

@@ -100,7 +100,7 @@ fn report(alloc: Global, replies: Items<Reply>, order: Items<u32>) -> Report {
 
 fn assert_printed(rt: &impl Abort, alloc: Global, script: &Script, report: &Report, text: &[u8]) {
     let printed = print_report(alloc, script, report).expect(rt, "memory");
-    assert_eq!(rt; printed.as_slice(), text);
+    assert!(rt; printed.as_slice() == text);
 }
 
 #[test]

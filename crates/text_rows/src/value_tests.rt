@@ -59,8 +59,8 @@ fn reports_can_be_copied(rt: HostRuntime) -> Result<(), Fail> {
     let copied = report.copy(alloc)?;
     assert!(rt; first_commit(&copied) == Some((2, 3)));
     assert!(rt; copied.order.as_slice() == [2].as_slice());
-    assert_eq!(rt; copied.pairs.as_slice().len(), 1);
-    assert_eq!(rt; copied.answers.as_slice().len(), 1);
+    assert!(rt; copied.pairs.as_slice().len() == 1);
+    assert!(rt; copied.answers.as_slice().len() == 1);
     Ok(())
 }
 

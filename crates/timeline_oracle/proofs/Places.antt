@@ -9,11 +9,13 @@ use Rattle.std.proofs.lemmas.List.Sums.{position_or_len_is, fails_before_first}
 use Rattle.std.proofs.lemmas.Option.{none-some}
 
 module _ {X : Type 0} (p : X → Bool) where
+  -- a place that passes the test, while each one before it fails, is the first one that passes
   pub first_at : (xs : List X) (i : ℕ) (d : X) → i < length xs → ((k : ℕ) → k < i → p (get_or xs k d) ≡ false) → p (get_or xs i d) ≡ true → position p xs ≡ Some i
   first_at xs i d below before here =
       let at : position_or_len p xs ≡ i = position_or_len_is p xs i d (omega arith) before (λ _. here) in
       cond-true (nat_lt (position_or_len p xs) (length xs)) _ _ (lt-ltb (position_or_len p xs) (length xs) (omega arith)) ∙ ap Some at
 
+  -- if each place fails the test, there is no first one that passes
   pub first_none : (xs : List X) (d : X) → ((k : ℕ) → k < length xs → p (get_or xs k d) ≡ false) → position p xs ≡ None
   first_none xs d fails =
       let at : position_or_len p xs ≡ length xs = position_or_len_is p xs (length xs) d (omega arith) fails (λ h. absurd (omega (arith, h))) in
@@ -30,6 +32,7 @@ module _ {X : Type 0} (p : X → Bool) where
         | inr over ↦ fails_before_first p xs k d (omega arith)
       ]
 
+  -- then it fails at each element of the list
   pub fails_at : (xs : List X) → position p xs ≡ None → (x : X) → Contains xs x → ¬ IsTrue (p x)
   fails_at xs none x h passes = both_ways (p x) (subst (λ y. p y ≡ false) h.2 (none_passes xs none h.0 x h.1)) passes
 

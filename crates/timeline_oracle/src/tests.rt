@@ -1,4 +1,5 @@
 ghost use Rattle.std.specs.Prelude.{◌≢◌, ◌<◌, ◌^◌, length, All, Contains, IsTrue};
+ghost use Rattle.weave_data.specs.Limits.{most_gates};
 ghost use Rattle.vector_stamp.specs.declared.clock.Stamp.{Stamp};
 ghost use Rattle.vector_stamp.specs.Order.{id_of};
 ghost use Rattle.vector_stamp.specs.Coherence.{AreCoherent};
@@ -134,7 +135,7 @@ fn settles(rt: HostRuntime) -> Result<(), Fail> {
 // The home of an event: the first and the last one are alone at their gatekeepers, and those between take turns at the
 // six others.
 fn home_of(place: usize, last: usize) -> usize
-    ensures { result < 8 }
+    ensures { result < most_gates }
 {
     if place == 0 {
         return 0;
@@ -307,7 +308,7 @@ fn three_earlier_events(rt: HostRuntime) -> Result<(), Fail> {
 
 // The first event of a gatekeeper that has heard no other.
 fn first_of(home: usize) -> Stamp
-    requires { home < 8 }
+    requires { home < most_gates }
 {
     let mut counts = [0; 8];
     counts[home] = 1;

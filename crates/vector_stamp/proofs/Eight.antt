@@ -21,9 +21,11 @@ module _ (pick : ℕ → ℕ → ℕ) where
   abbrev pub picked : List ℕ → List ℕ → List ℕ
   picked xs ys = map (λ (pair : ℕ × ℕ). pick pair.0 pair.1) (zip xs ys)
 
+  -- of two lists of eight counts eight are picked
   pub length-picked : (xs ys : List ℕ) → length xs ≡ 8 → length ys ≡ 8 → length (picked xs ys) ≡ 8
   length-picked xs ys e f = simp (length-map, length-zip, e, f)
 
+  -- of two lists of eight counts, the one picked at each of the eight places is picked of the two there
   pub picked-at : (xs ys : List ℕ) (k : ℕ) → length xs ≡ 8 → length ys ≡ 8 → k < 8 → slice_index (picked xs ys) k ≡ pick (slice_index xs k) (slice_index ys k)
   picked-at xs ys k e f below =
       get_or-map (λ (pair : ℕ × ℕ). pick pair.0 pair.1) (zip xs ys) k (0, 0) 0 (omega (arith, length-zip xs ys))

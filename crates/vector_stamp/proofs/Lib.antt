@@ -10,7 +10,7 @@ pub mod Closure
 pub mod Events
 pub mod Pairs
 pub mod Settle
-pub mod Meets
+pub mod MeetsOfLists
 pub mod NonePast
 pub mod Together
 pub mod Seen

@@ -1,5 +1,5 @@
 -- The meet of two clocks.
--- Used by `counts_one_by_one`, `meet_is_greatest_below`, Meets and NonePast.
+-- Used by `counts_one_by_one`, `meet_is_greatest_below`, MeetsOfLists and NonePast.
 use Rattle.std.proofs.Common.{◌≡◌, ℕ, ◌<◌, ◌≤◌, IsTrue, inl, inr, length, min, slice_index, refl, sym, ◌∙◌, subst, arith}
 use Rattle.std.proofs.lemmas.Bool.{cases_lt, cases_order, lt-ltb, le-ltb, cond-true, cond-false}
 use Rattle.vector_stamp.specs.declared.clock.Clock.{Clock}
@@ -14,12 +14,15 @@ module _ (a b : Clock) where
   abbrev pub of_one : Clock
   of_one = record { epoch = a.epoch; counts = lesser_counts a.counts b.counts }
 
+  -- the meet of two clocks is the first if that has the lower epoch
   pub meet-first : a.epoch < b.epoch → meet_of a b ≡ a
   meet-first less = cond-true _ _ _ (lt-ltb a.epoch b.epoch less)
 
+  -- it is the second if that has the lower epoch
   pub meet-second : b.epoch < a.epoch → meet_of a b ≡ b
   meet-second less = cond-false _ _ _ (le-ltb a.epoch b.epoch (omega arith)) ∙ cond-true _ _ _ (lt-ltb b.epoch a.epoch less)
 
+  -- within one epoch it has the lesser of the two counts of each gatekeeper
   pub meet-one : a.epoch ≡ b.epoch → meet_of a b ≡ of_one
   meet-one same = cond-false _ _ _ (le-ltb a.epoch b.epoch (omega arith)) ∙ cond-false _ _ _ (le-ltb b.epoch a.epoch (omega arith))
 
@@ -27,6 +30,7 @@ module _ (a b : Clock) where
     lesser-eight : length (lesser_counts a.counts b.counts) ≡ 8
     lesser-eight = length-picked min a.counts b.counts eight_a eight_b
 
+    -- the meet of two clocks of eight counts has eight counts
     pub meet-eight : HasEightCounts (meet_of a b)
     meet-eight =
         elim (cases_order a.epoch b.epoch) [
@@ -35,6 +39,7 @@ module _ (a b : Clock) where
           | inr (inr less) ↦ rw (meet-second less) eight_b
         ]
 
+    -- of clocks of eight counts, the lesser counts have for each gatekeeper the lesser of its two counts
     pub lesser-at : (k : ℕ) → slice_index (lesser_counts a.counts b.counts) k ≡ min (count_of k a) (count_of k b)
     lesser-at k =
         elim (cases_lt k 8) [
@@ -51,6 +56,7 @@ module _ (a b : Clock) where
     one_at_most c epoch eight each =
         at_most_write of_one c (inr (epoch, at_most-by of_one.counts c.counts (lesser-eight ∙ sym eight) (λ k. let e = lesser-at k in let h = each k in omega arith)))
 
+    -- the meet of two clocks of eight counts is at most the first
     pub meet_at_most-first : IsTrue (is_at_most (meet_of a b) a)
     meet_at_most-first =
         elim (cases_order a.epoch b.epoch) [
@@ -59,6 +65,7 @@ module _ (a b : Clock) where
           | inr (inr less) ↦ subst (λ (x : Clock). IsTrue (is_at_most x a)) (sym (meet-second less)) (at_most_write b a (inl less))
         ]
 
+    -- and it is at most the second
     pub meet_at_most-second : IsTrue (is_at_most (meet_of a b) b)
     meet_at_most-second =
         elim (cases_order a.epoch b.epoch) [
@@ -81,6 +88,7 @@ module _ (a b : Clock) where
           ]
         ]
 
+    -- a clock that is at most both of two clocks of eight counts is at most their meet
     pub at_most-meet : (c : Clock) → IsTrue (is_at_most c a) → IsTrue (is_at_most c b) → IsTrue (is_at_most c (meet_of a b))
     at_most-meet c under_a under_b =
         elim (cases_order a.epoch b.epoch) [
@@ -89,6 +97,6 @@ module _ (a b : Clock) where
           | inr (inr less) ↦ subst (λ (x : Clock). IsTrue (is_at_most c x)) (sym (meet-second less)) under_b
         ]
 
-    -- count by count
+    -- the meet of two clocks of one epoch has for each gatekeeper the lesser of its two counts
     pub count-meet : a.epoch ≡ b.epoch → (gate : ℕ) → count_of gate (meet_of a b) ≡ min (count_of gate a) (count_of gate b)
     count-meet same gate = rw (meet-one same) (lesser-at gate)

@@ -33,10 +33,12 @@ set-none xs home value k own others =
       | inr other ↦ get_or-set_other xs home k value 0 other ∙ others other
     ]
 
+-- a clock that counts none past the gatekeepers counts none there after a tick of one of them
 pub tick-none : (gates home : ℕ) (clock : Clock) → home < gates → CountsNonePast gates clock → CountsNonePast gates (clock_after_tick home clock)
 tick-none gates home clock below none gate past =
     set-none clock.counts home (count_of home clock + 1) gate (λ here. absurd (omega arith)) (λ other. none gate past)
 
+-- a clock that counts none past the gatekeepers counts none there after it hears another such clock
 pub hearing-none : (gates home : ℕ) (clock heard : Clock) → CountsNonePast gates clock → CountsNonePast gates heard → CountsNonePast gates (clock_after_hearing home clock heard)
 hearing-none gates home clock heard none none_heard =
     elim (cases_order heard.epoch clock.epoch) [
@@ -48,6 +50,7 @@ hearing-none gates home clock heard none none_heard =
       | inr (inr higher) ↦ subst (CountsNonePast gates) (sym (hearing-higher home clock heard higher)) (λ gate past. set-none heard.counts home 0 gate (λ here. omega arith) (λ other. none_heard gate past))
     ]
 
+-- the meet of two clocks that count none past the gatekeepers counts none there
 pub meet-none : (gates : ℕ) (a b : Clock) → CountsNonePast gates a → CountsNonePast gates b → CountsNonePast gates (meet_of a b)
 meet-none gates a b none_a none_b =
     elim (cases_order a.epoch b.epoch) [
@@ -56,6 +59,7 @@ meet-none gates a b none_a none_b =
       | inr (inr less) ↦ subst (CountsNonePast gates) (sym (meet-second a b less)) none_b
     ]
 
+-- the meet of any number of clocks that count none past the gatekeepers counts none there
 pub meet_with-none : (gates : ℕ) (first : Clock) (rest : List Clock) → ((clock : Clock) → Contains (first ∷ rest) clock → CountsNonePast gates clock) → CountsNonePast gates (meet_with first rest)
 meet_with-none gates first [] none = none first (has_head first [])
 meet_with-none gates first (next ∷ rest) none =

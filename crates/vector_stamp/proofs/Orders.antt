@@ -12,14 +12,17 @@ use Rattle.vector_stamp.proofs.Counts.{at_most-refl, at_most-trans, at_most-same
 abbrev pub BeforeFacts : Clock → Clock → Type 0
 BeforeFacts a b = (a.epoch < b.epoch) ⊎ ((a.epoch ≡ b.epoch) × IsTrue (counts_at_most a.counts b.counts) × (a.counts ≡ b.counts → ⊥))
 
+-- a test and its contrary do not both pass
 pub not_true : (b : Bool) → IsTrue (not b) → IsTrue b → ⊥
 not_true true g h = cc
 not_true false g h = cc
 
+-- the contrary of a test passes if the test doesn't
 pub not_from : (b : Bool) → (IsTrue b → ⊥) → IsTrue (not b)
 not_from true g = absurd (g refl)
 not_from false g = refl
 
+-- if a clock is before another, its epoch is lower, or the same and its counts are at most the other's and differ
 pub before_read : (a b : Clock) → IsTrue (is_before a b) → BeforeFacts a b
 before_read a b h =
     elim (or_cases (nat_lt a.epoch b.epoch) _ h) [
@@ -33,6 +36,7 @@ before_read a b h =
           )
     ]
 
+-- a clock is before another if its epoch is lower, or the same and its counts are at most the other's and differ
 pub before_write : (a b : Clock) → BeforeFacts a b → IsTrue (is_before a b)
 before_write a b (inl l) = or_left _ _ (lt-ltb a.epoch b.epoch l)
 before_write a b (inr r) =
@@ -50,9 +54,11 @@ before_facts-trans a b c (inr l) (inr m) =
       λ e. l.2 (at_most-same a.counts b.counts l.1 (subst (λ xs. IsTrue (counts_at_most b.counts xs)) (sym e) m.1)),
     )
 
+-- that a clock is before another is transitive
 pub clock_before-trans : (a b c : Clock) → IsTrue (is_before a b) → IsTrue (is_before b c) → IsTrue (is_before a c)
 clock_before-trans a b c g h = before_write _ _ (before_facts-trans a b c (before_read _ _ g) (before_read _ _ h))
 
+-- that a stamp is before another is transitive
 pub before-trans : (a b c : Stamp) → IsTrue (stamp_before a b) → IsTrue (stamp_before b c) → IsTrue (stamp_before a c)
 before-trans a b c g h = clock_before-trans a.clock b.clock c.clock g h
 
@@ -60,28 +66,33 @@ before_facts-strict : (a : Clock) → BeforeFacts a a → ⊥
 before_facts-strict a (inl l) = omega (arith, l)
 before_facts-strict a (inr r) = r.2 refl
 
--- no clock and no stamp is before itself
+-- no clock is before itself
 pub clock_before-strict : (a : Clock) → IsTrue (is_before a a) → ⊥
 clock_before-strict a h = before_facts-strict a (before_read _ _ h)
 
+-- no stamp is before itself
 pub before-strict : (a : Stamp) → IsTrue (stamp_before a a) → ⊥
 before-strict a h = clock_before-strict a.clock h
 
+-- clocks that pass the test of equality are equal
 pub same_clock-is : (a b : Clock) → IsTrue (same_clock a b) → a ≡ b
 same_clock-is a b h =
     let epoch : a.epoch ≡ b.epoch = eqb-true a.epoch b.epoch (both_left _ _ h) in
     let counts : a.counts ≡ b.counts = same_counts-is _ _ (both_right (a.epoch == b.epoch) _ h) in
     λ i. record { epoch = epoch i; counts = counts i }
 
+-- each clock passes the test of equality with itself
 pub same_clock-refl : (a : Clock) → IsTrue (same_clock a a)
 same_clock-refl a = and_from _ _ (eq-eqb a.epoch a.epoch refl) (same_counts-refl a.counts a.counts refl)
 
+-- stamps that pass the test of equality are equal
 pub same_stamp-is : (a b : Stamp) → IsTrue (same_stamp a b) → a ≡ b
 same_stamp-is a b h =
     let home : a.home ≡ b.home = eqb-true a.home b.home (both_left _ _ h) in
     let clock : a.clock ≡ b.clock = same_clock-is _ _ (both_right (a.home == b.home) _ h) in
     λ i. record { home = home i; clock = clock i }
 
+-- each stamp passes the test of equality with itself
 pub same_stamp-refl : (a : Stamp) → IsTrue (same_stamp a a)
 same_stamp-refl a = and_from _ _ (eq-eqb a.home a.home refl) (same_clock-refl a.clock)
 
@@ -89,6 +100,7 @@ same_stamp-refl a = and_from _ _ (eq-eqb a.home a.home refl) (same_clock-refl a.
 abbrev pub AtMostFacts : Clock → Clock → Type 0
 AtMostFacts a b = (a.epoch < b.epoch) ⊎ ((a.epoch ≡ b.epoch) × IsTrue (counts_at_most a.counts b.counts))
 
+-- a clock that is at most another has a lower epoch, or the same and counts at most the other's
 pub at_most_read : (a b : Clock) → IsTrue (is_at_most a b) → AtMostFacts a b
 at_most_read a b h =
     elim (or_cases (is_before a b) _ h) [
@@ -96,6 +108,7 @@ at_most_read a b h =
       | inr same ↦ let e : a ≡ b = same_clock-is a b same in inr (ap (λ (c : Clock). c.epoch) e, subst (λ (c : Clock). IsTrue (counts_at_most a.counts c.counts)) e (at_most-refl a.counts))
     ]
 
+-- a clock of a lower epoch, or of the same and with counts at most the other's, is at most the other
 pub at_most_write : (a b : Clock) → AtMostFacts a b → IsTrue (is_at_most a b)
 at_most_write a b (inl less) = or_left _ _ (before_write a b (inl less))
 at_most_write a b (inr (epoch, each)) =
@@ -104,9 +117,11 @@ at_most_write a b (inr (epoch, each)) =
       | inr differ ↦ or_left _ _ (before_write a b (inr (epoch, each, λ e. both_ways _ differ (same_counts-refl a.counts b.counts e))))
     ]
 
+-- each clock is at most itself
 pub at_most_clock-refl : (a : Clock) → IsTrue (is_at_most a a)
 at_most_clock-refl a = or_right (is_before a a) _ (same_clock-refl a)
 
+-- a clock that is before another is before each one that this is at most
 pub before-at_most : (a b c : Clock) → IsTrue (is_before a b) → IsTrue (is_at_most b c) → IsTrue (is_before a c)
 before-at_most a b c g h =
     elim (or_cases (is_before b c) _ h) [
@@ -114,6 +129,7 @@ before-at_most a b c g h =
       | inr same ↦ subst (λ x. IsTrue (is_before a x)) (same_clock-is b c same) g
     ]
 
+-- a clock that is at most another is before each one that this is before
 pub at_most-before : (a b c : Clock) → IsTrue (is_at_most a b) → IsTrue (is_before b c) → IsTrue (is_before a c)
 at_most-before a b c g h =
     elim (or_cases (is_before a b) _ g) [
@@ -121,6 +137,7 @@ at_most-before a b c g h =
       | inr same ↦ subst (λ x. IsTrue (is_before x c)) (sym (same_clock-is a b same)) h
     ]
 
+-- that a clock is at most another is transitive
 pub clock_at_most-trans : (a b c : Clock) → IsTrue (is_at_most a b) → IsTrue (is_at_most b c) → IsTrue (is_at_most a c)
 clock_at_most-trans a b c g h =
     elim (or_cases (is_before b c) _ h) [
@@ -128,6 +145,7 @@ clock_at_most-trans a b c g h =
       | inr same ↦ subst (λ x. IsTrue (is_at_most a x)) (same_clock-is b c same) g
     ]
 
+-- clocks that are at most each other are equal
 pub at_most-antisym : (a b : Clock) → IsTrue (is_at_most a b) → IsTrue (is_at_most b a) → a ≡ b
 at_most-antisym a b g h =
     elim (or_cases (is_before a b) _ g) [

@@ -6,23 +6,25 @@ use Rattle.std.proofs.lemmas.Bool.Decides.{same_from_decides}
 use Rattle.std.proofs.lemmas.List.Elements.{Contains-append_left, Contains-push, Contains-push_cases}
 use Rattle.vector_stamp.specs.declared.clock.Stamp.{Stamp}
 use Rattle.vector_stamp.specs.Order.{stamp_before, same_stamp}
-use Rattle.vector_stamp.specs.Precedence.{Given, Precedes, ByStamps, ByPair, Through, precedes, AreAmong, IsAcyclic}
+use Rattle.vector_stamp.specs.Precedence.{GivenPair, Precedes, ByStamps, ByPair, Through, precedes, AreAmong, IsAcyclic}
 use Rattle.vector_stamp.proofs.Orders.{before-strict, same_stamp-is}
 use Rattle.vector_stamp.proofs.Closure.{contained_read, contained_head, contained_tail, leads, leads_after, leads_before, leads_from, precedes_read, precedes-trans, passes_test, test_precedes}
 
-grows : (ps qs : List Given) → AreAmong ps qs → (a b : Stamp) → Precedes ps a b → Precedes qs a b
+grows : (ps qs : List GivenPair) → AreAmong ps qs → (a b : Stamp) → Precedes ps a b → Precedes qs a b
 grows ps qs sub _ _ (ByStamps a b h) = ByStamps a b h
 grows ps qs sub _ _ (ByPair a b h) = ByPair a b (sub a b h)
 grows ps qs sub _ _ (Through a b c g h) = Through a b c (grows ps qs sub a b g) (grows ps qs sub b c h)
 
-pub precedes_grows : (ps qs : List Given) → AreAmong ps qs → (a b : Stamp) → IsTrue (precedes ps a b) → IsTrue (precedes qs a b)
+-- what precedes by pairs, as the test says, precedes by each list that has them all
+pub precedes_grows : (ps qs : List GivenPair) → AreAmong ps qs → (a b : Stamp) → IsTrue (precedes ps a b) → IsTrue (precedes qs a b)
 precedes_grows ps qs sub a b h = passes_test qs a b (grows ps qs sub a b (test_precedes ps a b h))
 
-pub precedes_append : (ps qs : List Given) (a b : Stamp) → IsTrue (precedes ps a b) → IsTrue (precedes (ps ++ qs) a b)
+-- what precedes by pairs, as the test says, still does with more pairs after them
+pub precedes_append : (ps qs : List GivenPair) (a b : Stamp) → IsTrue (precedes ps a b) → IsTrue (precedes (ps ++ qs) a b)
 precedes_append ps qs = precedes_grows ps (ps ++ qs) (λ a b h. Contains-append_left ps qs (a, b) h)
 
 -- one more pair at the end is one more at the head
-pub precedes-push : (ps : List Given) (p : Given) (a b : Stamp) → precedes (ps ++ p ∷ []) a b ≡ precedes (p ∷ ps) a b
+pub precedes-push : (ps : List GivenPair) (p : GivenPair) (a b : Stamp) → precedes (ps ++ p ∷ []) a b ≡ precedes (p ∷ ps) a b
 precedes-push ps p a b =
     same_from_decides {P = IsTrue (precedes (p ∷ ps) a b)} (precedes (ps ++ p ∷ []) a b) (precedes (p ∷ ps) a b) (precedes_grows (ps ++ p ∷ []) (p ∷ ps) to_head a b, precedes_grows (p ∷ ps) (ps ++ p ∷ []) to_end a b) (λ h. h, λ h. h)
   where
@@ -30,31 +32,35 @@ precedes-push ps p a b =
     to_head x y h =
         elim (Contains-push_cases ps p (x, y) h) [
           | inl there ↦ contained_tail p ps (x, y) there
-          | inr here ↦ subst (λ (q : Given). Contains (p ∷ ps) q) here (contained_head p ps)
+          | inr here ↦ subst (λ (q : GivenPair). Contains (p ∷ ps) q) here (contained_head p ps)
         ]
 
     to_end : AreAmong (p ∷ ps) (ps ++ p ∷ [])
     to_end x y h =
         elim (contained_read p ps (x, y) h) [
-          | inl here ↦ subst (λ (q : Given). Contains (ps ++ p ∷ []) q) here (Contains-push ps p)
+          | inl here ↦ subst (λ (q : GivenPair). Contains (ps ++ p ∷ []) q) here (Contains-push ps p)
           | inr there ↦ Contains-append_left ps (p ∷ []) (x, y) there
         ]
 
-pub push_read : (ps : List Given) (p : Given) (a b : Stamp) → IsTrue (precedes (ps ++ p ∷ []) a b) → IsTrue (precedes ps a b) ⊎ (IsTrue (leads ps a p.0) × IsTrue (leads ps p.1 b))
+-- what precedes with one more pair at the end did so without it, or does by way of that pair
+pub push_read : (ps : List GivenPair) (p : GivenPair) (a b : Stamp) → IsTrue (precedes (ps ++ p ∷ []) a b) → IsTrue (precedes ps a b) ⊎ (IsTrue (leads ps a p.0) × IsTrue (leads ps p.1 b))
 push_read ps p a b h = precedes_read p ps a b (sym (precedes-push ps p a b) ∙ h)
 
-pub pushed_precedes : (ps : List Given) (a b : Stamp) → IsTrue (precedes (ps ++ (a, b) ∷ []) a b)
+-- the earlier stamp of a pair that is put at the end precedes its later one
+pub pushed_precedes : (ps : List GivenPair) (a b : Stamp) → IsTrue (precedes (ps ++ (a, b) ∷ []) a b)
 pushed_precedes ps a b = passes_test (ps ++ (a, b) ∷ []) a b (ByPair a b (Contains-push ps (a, b)))
 
 -- from the later end of a permitted pair no way leads back to its earlier one
-pub no_way_back : (ps : List Given) (a b : Stamp) → (a ≡ b → ⊥) → ¬ IsTrue (precedes ps b a) → IsTrue (leads ps b a) → ⊥
+pub no_way_back : (ps : List GivenPair) (a b : Stamp) → (a ≡ b → ⊥) → ¬ IsTrue (precedes ps b a) → IsTrue (leads ps b a) → ⊥
 no_way_back ps a b other permitted h =
     elim (or_cases (same_stamp b a) _ h) [ inl same ↦ other (sym (same_stamp-is b a same)) | inr before ↦ permitted before ]
 
+-- without pairs no stamp precedes itself
 pub acyclic_nil : IsAcyclic []
 acyclic_nil s h = before-strict s h
 
-pub acyclic_push : (ps : List Given) (a b : Stamp) → IsAcyclic ps → (a ≡ b → ⊥) → ¬ IsTrue (precedes ps b a) → IsAcyclic (ps ++ (a, b) ∷ [])
+-- one more pair brings no cycle if its stamps differ and the later one doesn't precede the earlier one
+pub acyclic_push : (ps : List GivenPair) (a b : Stamp) → IsAcyclic ps → (a ≡ b → ⊥) → ¬ IsTrue (precedes ps b a) → IsAcyclic (ps ++ (a, b) ∷ [])
 acyclic_push ps a b none other permitted s h =
     elim (push_read ps (a, b) s s h) [
       | inl before ↦ none s before

@@ -9,9 +9,11 @@ use Rattle.vector_stamp.specs.Clocks.{clock_after_tick}
 use Rattle.vector_stamp.proofs.Counts.{at_most-by}
 use Rattle.vector_stamp.proofs.Orders.{before_write}
 
+-- if the count of a gatekeeper is set in a list of eight, it is what it was set to
 pub own-set : (counts : List ℕ) (home value : ℕ) → home < 8 → length counts ≡ 8 → slice_index (slice_set counts home value) home ≡ value
 own-set counts home value below eight = get_or-set_same counts home value 0 (omega (arith, eight))
 
+-- if the count of a gatekeeper is set, that of each other one stays
 pub other-set : (counts : List ℕ) (home value gate : ℕ) → (gate ≡ home → ⊥) → slice_index (slice_set counts home value) gate ≡ slice_index counts gate
 other-set counts home value gate other = get_or-set_other counts home gate value 0 other
 

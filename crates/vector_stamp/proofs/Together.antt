@@ -10,6 +10,7 @@ use Rattle.vector_stamp.specs.Coherence.{AreCoherent}
 use Rattle.vector_stamp.proofs.Orders.{not_true}
 use Rattle.vector_stamp.proofs.Reading.{both_left, both_right}
 
+-- stamps that are all among coherent ones are coherent
 pub part-coherent : (stamps others : List Stamp) → AreCoherent others → ((stamp : Stamp) → Contains stamps stamp → Contains others stamp) → AreCoherent stamps
 part-coherent stamps others all among =
     record {
@@ -18,6 +19,7 @@ part-coherent stamps others all among =
       by_ids = λ a b in_a in_b. all.by_ids a b (among a in_a) (among b in_b);
     }
 
+-- stamps are coherent if, for each home, those of this home are among coherent ones
 pub by_homes-coherent : (stamps : List Stamp) (of_home : ℕ → List Stamp) → ((home : ℕ) → AreCoherent (of_home home)) → ((stamp : Stamp) → Contains stamps stamp → Contains (of_home stamp.home) stamp) → AreCoherent stamps
 by_homes-coherent stamps of_home all there =
     record {
@@ -29,6 +31,7 @@ by_homes-coherent stamps of_home all there =
     beside : (a b : Stamp) → Contains stamps b → a.home ≡ b.home → Contains (of_home a.home) b
     beside a b in_b home = subst (λ n. Contains (of_home n) b) (sym home) (there b in_b)
 
+-- two lists of coherent stamps without a common home are coherent together
 pub two-coherent : (stamps others : List Stamp) → AreCoherent stamps → AreCoherent others → ((a b : Stamp) → Contains stamps a → Contains others b → a.home ≢ b.home) → AreCoherent (stamps ++ others)
 two-coherent stamps others first second apart =
     record {
@@ -51,6 +54,7 @@ two-coherent stamps others first second apart =
         ]
 
 module _ (stamps : List Stamp) (a b : Stamp) (all : AreCoherent stamps) (in_a : Contains stamps a) (in_b : Contains stamps b) (differ : a ≢ b) where
+  -- two different ones of coherent stamps have different ids
   pub ids-differ : id_of a ≢ id_of b
   ids-differ same = differ (all.one_of_id a b in_a in_b same)
 

@@ -1,5 +1,6 @@
 -- The laws of clocks as one fact: what a proof over logs takes as its premise.
 use Rattle.std.specs.Prelude.{◌≡◌, ◌⊎◌, ℕ, ◌+◌, ◌<◌, ◌≤◌, max, List, ◌∷◌, Contains, IsTrue}
+use Rattle.weave_data.specs.Limits.{most_gates}
 use Rattle.vector_stamp.specs.declared.clock.Clock.{Clock}
 use Rattle.vector_stamp.specs.Order.{count_of, HasEightCounts, HaveEightCounts, CountsNonePast, is_before, is_at_most}
 use Rattle.vector_stamp.specs.Clocks.{first_clock, clock_after_tick, clock_after_hearing, counts_no_more, meet_with}
@@ -15,9 +16,9 @@ pub record ClockLaws : Type 0 where
   pub at_most_each : (a b : Clock) → IsTrue (is_at_most a b) → (a.epoch < b.epoch)
       ⊎ ((a.epoch ≡ b.epoch) × ((gate : ℕ) → count_of gate a ≤ count_of gate b))
   -- A tick
-  pub tick_is_later : (home : ℕ) (clock : Clock) → home < 8 → HasEightCounts clock
+  pub tick_is_later : (home : ℕ) (clock : Clock) → home < most_gates → HasEightCounts clock
       → IsTrue (is_before clock (clock_after_tick home clock))
-  pub tick_counts : (home : ℕ) (clock : Clock) → home < 8 → HasEightCounts clock
+  pub tick_counts : (home : ℕ) (clock : Clock) → home < most_gates → HasEightCounts clock
       → count_of home (clock_after_tick home clock) ≡ count_of home clock + 1
   pub tick_eight : (home : ℕ) (clock : Clock) → HasEightCounts clock → HasEightCounts (clock_after_tick home clock)
   -- Hearing
@@ -25,17 +26,19 @@ pub record ClockLaws : Type 0 where
       → (clock_after_hearing home clock heard).epoch ≡ max clock.epoch heard.epoch
   pub hearing_lower : (home : ℕ) (clock heard : Clock) → heard.epoch < clock.epoch
       → clock_after_hearing home clock heard ≡ clock
-  pub hearing_eight : (home : ℕ) (clock heard : Clock) → home < 8 → HasEightCounts clock → HasEightCounts heard
+  pub hearing_eight : (home : ℕ) (clock heard : Clock) → home < most_gates → HasEightCounts clock → HasEightCounts heard
       → HasEightCounts (clock_after_hearing home clock heard)
-  pub hearing_is_later : (home : ℕ) (clock heard : Clock) → home < 8 → HasEightCounts clock → HasEightCounts heard
+  pub hearing_is_later : (home : ℕ) (clock heard : Clock) → home < most_gates → HasEightCounts clock
+      → HasEightCounts heard
       → IsTrue (is_at_most clock (clock_after_hearing home clock heard))
-  pub hearing_own : (home : ℕ) (clock heard : Clock) → home < 8 → HasEightCounts clock → HasEightCounts heard
+  pub hearing_own : (home : ℕ) (clock heard : Clock) → home < most_gates → HasEightCounts clock → HasEightCounts heard
       → heard.epoch ≡ clock.epoch → count_of home (clock_after_hearing home clock heard) ≡ count_of home clock
-  pub hearing_higher : (home : ℕ) (clock heard : Clock) → home < 8 → HasEightCounts clock → HasEightCounts heard
+  pub hearing_higher : (home : ℕ) (clock heard : Clock) → home < most_gates → HasEightCounts clock
+      → HasEightCounts heard
       → clock.epoch < heard.epoch → count_of home (clock_after_hearing home clock heard) ≡ 0
-  pub then_rises : (home : ℕ) (clock heard : Clock) → home < 8 → HasEightCounts clock → HasEightCounts heard
+  pub then_rises : (home : ℕ) (clock heard : Clock) → home < most_gates → HasEightCounts clock → HasEightCounts heard
       → IsTrue (is_before clock (clock_after_tick home (clock_after_hearing home clock heard)))
-  pub then_after : (home : ℕ) (clock heard : Clock) → home < 8 → HasEightCounts clock → HasEightCounts heard
+  pub then_after : (home : ℕ) (clock heard : Clock) → home < most_gates → HasEightCounts clock → HasEightCounts heard
       → IsTrue (counts_no_more home clock heard)
       → IsTrue (is_before heard (clock_after_tick home (clock_after_hearing home clock heard)))
   -- The meet

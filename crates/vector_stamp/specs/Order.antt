@@ -3,6 +3,7 @@
 use Rattle.std.specs.Prelude.{◌≡◌, ℕ, ◌≤◌, ◌^◌, Bool, ◌&&◌, ◌||◌, not, nat_eq, nat_lt, nat_le, ◌==◌, List, length, slice_index, AllPairs, Contains, IsTrue}
 use Rattle.std.specs.Cmp.Lexicographic.{pointwise}
 use Rattle.std.specs.List.{list_all}
+use Rattle.weave_data.specs.Limits.{most_gates}
 use Rattle.vector_stamp.specs.declared.clock.Clock.{Clock}
 use Rattle.vector_stamp.specs.declared.clock.Stamp.{Stamp}
 use Rattle.vector_stamp.specs.declared.clock.EventId.{EventId}
@@ -42,7 +43,7 @@ count_of gate clock = slice_index clock.counts gate
 
 -- there is a count for each of eight gatekeepers, as in every clock of a program
 abbrev pub HasEightCounts : Clock → Type 0
-HasEightCounts clock = length clock.counts ≡ 8
+HasEightCounts clock = length clock.counts ≡ most_gates
 
 -- and in each of these clocks
 abbrev pub HaveEightCounts : List Clock → Type 0

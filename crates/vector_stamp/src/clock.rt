@@ -1,18 +1,22 @@
 //! Clocks, stamps and their order (Weaver, PVLDB 9(11) 2016; vector clocks, Fidge and Mattern 1988).
 ghost use Rattle.std.specs.Prelude.{◌≡◌, ◌<◌, ◌↔◌, ◌^◌, ◌&&◌, nat_lt, IsTrue};
 ghost use Rattle.std.specs.List.{list_all};
+ghost use Rattle.weave_data.specs.Limits.{most_gates};
 ghost use Rattle.vector_stamp.specs.Order.{counts_at_most};
 ghost use Rattle.vector_stamp.specs.Clocks.{greater_counts, lesser_counts};
 
 use std::alloc::{AllocError, Global};
 use std::cmp::Ordering;
-use weave_data::Copied;
+use weave_data::{Copied, MOST_GATES};
+
+/// The number of counts of a clock.
+pub const COUNTS: usize = MOST_GATES as usize;
 
 /// An epoch, and eight counts, one for each gatekeeper. Those past the number of gatekeepers stay 0.
 #[derive(Clone, Copy, Debug, PartialEq, Eq)]
 pub struct Clock {
     pub epoch: u64,
-    pub counts: [u64; 8],
+    pub counts: [u64; COUNTS],
 }
 
 /// A clock with its home gatekeeper, below 8. It is of one event: a transaction, a program or an empty message.
@@ -71,7 +75,7 @@ impl Clock {
     {
         Clock {
             epoch: 0,
-            counts: [0; 8],
+            counts: [0; COUNTS],
         }
     }
 
@@ -124,7 +128,7 @@ impl Clock {
     /// the epoch and all counts of a higher one.
     /// Its own count rises by its own events alone, so it stays within an epoch and is 0 in a higher one.
     pub fn hear(&mut self, home: u32, other: &Clock)
-        requires { home < 8 }
+        requires { home < most_gates }
         ensures { self.new ≡ clock_after_hearing home self.old other.now }
     {
         match self.epoch.cmp(&other.epoch) {
@@ -156,12 +160,12 @@ impl Clock {
         ensures { self.new ≡ first_clock epoch }
     {
         self.epoch = epoch;
-        self.counts = [0; 8];
+        self.counts = [0; COUNTS];
     }
 
     /// Counts one more event of the gatekeeper at home, and gives the stamp of that event.
     pub fn tick(&mut self, home: u32) -> Stamp
-        requires home { home < 8 }
+        requires home { home < most_gates }
         requires room { count_of home self.old < u64.MAX }
         ensures clock { self.new ≡ clock_after_tick home self.old }
         ensures stamp { result ≡ record { home = home; clock = self.new } }
@@ -176,7 +180,7 @@ impl Stamp {
 
     /// What identifies its event.
     pub fn id(&self) -> EventId
-        requires { self.now.home < 8 }
+        requires { self.now.home < most_gates }
         ensures { result ≡ id_of self.now }
     {
         EventId {
@@ -229,7 +233,7 @@ impl Stamp {
 }
 
 // Whether every count of the first is at most that of the second.
-fn at_most_each(counts: &[u64; 8], others: &[u64; 8]) -> bool
+fn at_most_each(counts: &[u64; COUNTS], others: &[u64; COUNTS]) -> bool
     ensures { result ≡ counts_at_most counts.now others.now }
 {
     counts
@@ -239,10 +243,10 @@ fn at_most_each(counts: &[u64; 8], others: &[u64; 8]) -> bool
 }
 
 // The greater of the two counts of each gatekeeper.
-fn greater_of(counts: &[u64; 8], others: &[u64; 8]) -> [u64; 8]
+fn greater_of(counts: &[u64; COUNTS], others: &[u64; COUNTS]) -> [u64; COUNTS]
     ensures { result ≡ greater_counts counts.now others.now }
 {
-    let mut greater = [0; 8];
+    let mut greater = [0; COUNTS];
     for gate in 0..8 {
         greater[gate] = counts[gate].max(others[gate]);
     }
@@ -250,10 +254,10 @@ fn greater_of(counts: &[u64; 8], others: &[u64; 8]) -> [u64; 8]
 }
 
 // The lesser of the two counts of each gatekeeper.
-fn lesser_of(counts: &[u64; 8], others: &[u64; 8]) -> [u64; 8]
+fn lesser_of(counts: &[u64; COUNTS], others: &[u64; COUNTS]) -> [u64; COUNTS]
     ensures { result ≡ lesser_counts counts.now others.now }
 {
-    let mut lesser = [0; 8];
+    let mut lesser = [0; COUNTS];
     for gate in 0..8 {
         lesser[gate] = counts[gate].min(others[gate]);
     }

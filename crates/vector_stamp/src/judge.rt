@@ -3,7 +3,7 @@ ghost use Rattle.std.specs.Prelude.{◌≡◌, ◌≢◌, ◌<◌, ◌^◌, ◌�
 ghost use Rattle.vector_stamp.specs.declared.clock.Stamp.{Stamp};
 ghost use Rattle.vector_stamp.specs.Order.{id_of};
 ghost use Rattle.vector_stamp.specs.Coherence.{AreCoherent};
-ghost use Rattle.vector_stamp.specs.Precedence.{Given, JoinsEvents};
+ghost use Rattle.vector_stamp.specs.Precedence.{GivenPair, JoinsEvents};
 
 use crate::clock::Stamp;
 use std::alloc::{AllocError, Global};
@@ -48,7 +48,7 @@ pub trait Judge {
     ghost use Rattle.vector_stamp.specs.Settling.{refused_place, IsRightRefusal, additions, places_of, pairs_of, SettledEntry, entries_of_call};
 
     /// The pairs that it has put, in the order in which they were added.
-    ghost pairs: { Self → List Given };
+    ghost pairs: { Self → List GivenPair };
 
     /// The stamps that it knows. A new judge knows none.
     ghost known: { Self → List Stamp };

@@ -1,13 +1,14 @@
 //! What can be relied on about clocks, stamps and precedence, as contracts without a body.
 ghost use Rattle.std.specs.Prelude.{◌≡◌, ◌≢◌, ◌↔◌, ◌⊎◌, ℕ, ◌+◌, ◌<◌, ◌≤◌, max, min, List, [], ◌∷◌, ◌++◌, length, slice_get, Some, None, Bool, IsTrue, Contains, if◌then◌else◌};
 ghost use Rattle.std.specs.List.Sorted.{IsStrictlyIncreasing};
+ghost use Rattle.weave_data.specs.Limits.{most_gates};
 ghost use Rattle.vector_stamp.specs.declared.clock.Clock.{Clock};
 ghost use Rattle.vector_stamp.specs.declared.clock.Stamp.{Stamp};
 ghost use Rattle.vector_stamp.specs.Order.{count_of, HasEightCounts, HaveEightCounts, CountsNonePast, is_before, is_at_most, same_clock, stamp_before, unordered, same_stamp, id_of, same_id, are_apart};
 ghost use Rattle.vector_stamp.specs.Clocks.{first_clock, clock_after_tick, clock_after_hearing, counts_no_more, meet_of, meet_with};
 ghost use Rattle.vector_stamp.specs.ClockLaws.{ClockLaws};
 ghost use Rattle.vector_stamp.specs.Coherence.{AreCoherent, all_coherent};
-ghost use Rattle.vector_stamp.specs.Precedence.{Given, AreAmong, IsAcyclic, IsClosed, JoinsEvents, Precedes, PrecedesAmong, precedes};
+ghost use Rattle.vector_stamp.specs.Precedence.{GivenPair, AreAmong, IsAcyclic, IsClosed, JoinsEvents, Precedes, PrecedesAmong, precedes};
 ghost use Rattle.vector_stamp.specs.Seeing.{is_seen, seen_of, last_seen};
 ghost use Rattle.vector_stamp.specs.Settling.{refused_place, additions_from, places_of, pairs_of};
 
@@ -35,12 +36,12 @@ pub fn clocks_are_ordered()
 /// Within an epoch a clock is at most another exactly if each gatekeeper's count is.
 pub fn order_gate_by_gate()
     ensures { (a b : Clock) → HasEightCounts a → HasEightCounts b → a.epoch ≡ b.epoch
-        → IsTrue (is_at_most a b) ↔ ((gate : ℕ) → gate < 8 → count_of gate a ≤ count_of gate b) }
+        → IsTrue (is_at_most a b) ↔ ((gate : ℕ) → gate < most_gates → count_of gate a ≤ count_of gate b) }
 {}
 
 /// A tick gives a later clock: so the stamps of a gatekeeper rise.
 pub fn ticks_rise()
-    ensures { (home : ℕ) (clock : Clock) → home < 8 → HasEightCounts clock
+    ensures { (home : ℕ) (clock : Clock) → home < most_gates → HasEightCounts clock
         → IsTrue (is_before clock (clock_after_tick home clock)) }
 {}
 
@@ -51,15 +52,19 @@ pub fn ticks_rise()
 pub fn hearing_brings_order()
     ensures of_lower { (home : ℕ) (clock heard : Clock) → heard.epoch < clock.epoch
         → clock_after_hearing home clock heard ≡ clock }
-    ensures never_back { (home : ℕ) (clock heard : Clock) → home < 8 → HasEightCounts clock → HasEightCounts heard
+    ensures never_back { (home : ℕ) (clock heard : Clock) → home < most_gates → HasEightCounts clock
+        → HasEightCounts heard
         → IsTrue (is_at_most clock (clock_after_hearing home clock heard)) }
-    ensures not_behind { (home : ℕ) (clock heard : Clock) → home < 8 → HasEightCounts clock → HasEightCounts heard
+    ensures not_behind { (home : ℕ) (clock heard : Clock) → home < most_gates → HasEightCounts clock
+        → HasEightCounts heard
         → IsTrue (counts_no_more home clock heard)
         → IsTrue (is_at_most heard (clock_after_hearing home clock heard)) }
-    ensures then_after { (home : ℕ) (clock heard : Clock) → home < 8 → HasEightCounts clock → HasEightCounts heard
+    ensures then_after { (home : ℕ) (clock heard : Clock) → home < most_gates → HasEightCounts clock
+        → HasEightCounts heard
         → IsTrue (counts_no_more home clock heard)
         → IsTrue (is_before heard (clock_after_tick home (clock_after_hearing home clock heard))) }
-    ensures then_rises { (home : ℕ) (clock heard : Clock) → home < 8 → HasEightCounts clock → HasEightCounts heard
+    ensures then_rises { (home : ℕ) (clock heard : Clock) → home < most_gates → HasEightCounts clock
+        → HasEightCounts heard
         → IsTrue (is_before clock (clock_after_tick home (clock_after_hearing home clock heard))) }
 {}
 
@@ -104,7 +109,7 @@ pub fn counts_past_the_gatekeepers_stay_0()
         → CountsNonePast gates (clock_after_hearing home clock heard) }
     ensures met { (gates : ℕ) (a b : Clock)
         → CountsNonePast gates a → CountsNonePast gates b → CountsNonePast gates (meet_of a b) }
-    ensures of_eight { (clock : Clock) → HasEightCounts clock → CountsNonePast 8 clock }
+    ensures of_eight { (clock : Clock) → HasEightCounts clock → CountsNonePast most_gates clock }
 {}
 
 /// All clocks of an epoch are before all of a later one, so a clock that is raised starts later.
@@ -116,18 +121,20 @@ pub fn raising_starts_later()
 
 /// What each change leaves at each gatekeeper, and that it leaves eight counts.
 pub fn counts_one_by_one()
-    ensures ticked { (home : ℕ) (clock : Clock) → home < 8 → HasEightCounts clock
+    ensures ticked { (home : ℕ) (clock : Clock) → home < most_gates → HasEightCounts clock
         → count_of home (clock_after_tick home clock) ≡ count_of home clock + 1 }
     ensures not_ticked { (home gate : ℕ) (clock : Clock) → gate ≢ home
         → count_of gate (clock_after_tick home clock) ≡ count_of gate clock }
-    ensures own { (home : ℕ) (clock heard : Clock) → home < 8 → HasEightCounts clock → HasEightCounts heard
+    ensures own { (home : ℕ) (clock heard : Clock) → home < most_gates → HasEightCounts clock → HasEightCounts heard
         → heard.epoch ≡ clock.epoch → count_of home (clock_after_hearing home clock heard) ≡ count_of home clock }
-    ensures others { (home gate : ℕ) (clock heard : Clock) → home < 8 → HasEightCounts clock → HasEightCounts heard
+    ensures others { (home gate : ℕ) (clock heard : Clock) → home < most_gates → HasEightCounts clock
+        → HasEightCounts heard
         → heard.epoch ≡ clock.epoch → gate ≢ home
         → count_of gate (clock_after_hearing home clock heard) ≡ max (count_of gate clock) (count_of gate heard) }
-    ensures own_of_higher { (home : ℕ) (clock heard : Clock) → home < 8 → HasEightCounts clock → HasEightCounts heard
+    ensures own_of_higher { (home : ℕ) (clock heard : Clock) → home < most_gates → HasEightCounts clock
+        → HasEightCounts heard
         → clock.epoch < heard.epoch → count_of home (clock_after_hearing home clock heard) ≡ 0 }
-    ensures others_of_higher { (home gate : ℕ) (clock heard : Clock) → home < 8
+    ensures others_of_higher { (home gate : ℕ) (clock heard : Clock) → home < most_gates
         → HasEightCounts clock → HasEightCounts heard → clock.epoch < heard.epoch → gate ≢ home
         → count_of gate (clock_after_hearing home clock heard) ≡ count_of gate heard }
     ensures met { (gate : ℕ) (a b : Clock) → HasEightCounts a → HasEightCounts b
@@ -135,7 +142,8 @@ pub fn counts_one_by_one()
     ensures raised { (gate epoch : ℕ) → count_of gate (first_clock epoch) ≡ 0 }
     ensures eight_ticked { (home : ℕ) (clock : Clock) → HasEightCounts clock
         → HasEightCounts (clock_after_tick home clock) }
-    ensures eight_heard { (home : ℕ) (clock heard : Clock) → home < 8 → HasEightCounts clock → HasEightCounts heard
+    ensures eight_heard { (home : ℕ) (clock heard : Clock) → home < most_gates → HasEightCounts clock
+        → HasEightCounts heard
         → HasEightCounts (clock_after_hearing home clock heard) }
     ensures eight_met { (a b : Clock) → HasEightCounts a → HasEightCounts b → HasEightCounts (meet_of a b) }
     ensures eight_raised { (epoch : ℕ) → HasEightCounts (first_clock epoch) }
@@ -188,43 +196,43 @@ pub fn coherent_stamps_have_ids()
 
 /// Precedence is decided by its test, which is the least transitive one that has the order of stamps and the pairs.
 pub fn precedence_is_decided()
-    ensures tested { (pairs : List Given) (a b : Stamp) → Precedes pairs a b ↔ IsTrue (precedes pairs a b) }
-    ensures closed { (pairs : List Given) → IsClosed pairs (precedes pairs) }
-    ensures least { (pairs : List Given) (leads : Stamp → Stamp → Bool) → IsClosed pairs leads
+    ensures tested { (pairs : List GivenPair) (a b : Stamp) → Precedes pairs a b ↔ IsTrue (precedes pairs a b) }
+    ensures closed { (pairs : List GivenPair) → IsClosed pairs (precedes pairs) }
+    ensures least { (pairs : List GivenPair) (leads : Stamp → Stamp → Bool) → IsClosed pairs leads
         → (a b : Stamp) → IsTrue (precedes pairs a b) → IsTrue (leads a b) }
 {}
 
 /// Between events that the pairs join, precedence is that over these events alone: no other stamp leads from one to
 /// another.
 pub fn other_stamps_change_nothing()
-    ensures { (events : List Stamp) (pairs : List Given) → JoinsEvents events pairs
+    ensures { (events : List Stamp) (pairs : List GivenPair) → JoinsEvents events pairs
         → (a b : Stamp) → Contains events a → Contains events b
         → Precedes pairs a b ↔ PrecedesAmong events pairs a b }
 {}
 
 /// Precedence grows with the pairs, whose order plays no part.
 pub fn more_pairs_more_precedence()
-    ensures grows { (pairs others : List Given) → AreAmong pairs others
+    ensures grows { (pairs others : List GivenPair) → AreAmong pairs others
         → (a b : Stamp) → IsTrue (precedes pairs a b) → IsTrue (precedes others a b) }
-    ensures at_the_end { (pairs : List Given) (pair : Given) (a b : Stamp)
+    ensures at_the_end { (pairs : List GivenPair) (pair : GivenPair) (a b : Stamp)
         → precedes (pairs ++ pair ∷ []) a b ≡ precedes (pair ∷ pairs) a b }
 {}
 
 /// With one more pair a precedes b only if it did before, or through that pair.
 pub fn one_pair_joins_its_ends()
-    ensures { (pair : Given) (pairs : List Given) (a b : Stamp) → IsTrue (precedes (pair ∷ pairs) a b)
+    ensures { (pair : GivenPair) (pairs : List GivenPair) (a b : Stamp) → IsTrue (precedes (pair ∷ pairs) a b)
         → IsTrue (precedes pairs a b)
         ⊎ (((a ≡ pair.0) ⊎ IsTrue (precedes pairs a pair.0)) × ((pair.1 ≡ b) ⊎ IsTrue (precedes pairs pair.1 b))) }
 {}
 
 /// The last update up to which a program reads is one that it sees, and it sees none after that.
 pub fn the_last_update_read_is_seen()
-    ensures within { (pairs : List Given) (program : Stamp) (updates : List Stamp)
+    ensures within { (pairs : List GivenPair) (program : Stamp) (updates : List Stamp)
         → seen_of pairs program updates ≤ length updates }
-    ensures last { (pairs : List Given) (program update : Stamp) (updates : List Stamp) (before : ℕ)
+    ensures last { (pairs : List GivenPair) (program update : Stamp) (updates : List Stamp) (before : ℕ)
         → seen_of pairs program updates ≡ before + 1 → slice_get updates before ≡ Some update
         → IsTrue (is_seen pairs program update) }
-    ensures skipped { (pairs : List Given) (program update : Stamp) (updates : List Stamp) (place : ℕ)
+    ensures skipped { (pairs : List GivenPair) (program update : Stamp) (updates : List Stamp) (place : ℕ)
         → seen_of pairs program updates ≤ place → slice_get updates place ≡ Some update
         → ¬ IsTrue (is_seen pairs program update) }
     ensures named { (updates : List Stamp) (update : Stamp) (before : ℕ)
@@ -235,24 +243,24 @@ pub fn the_last_update_read_is_seen()
 /// precedes it, also by the pairs added for the places before. The later event then precedes none that it did not
 /// precede.
 pub fn settling_puts_all_before()
-    ensures all_precede { (pairs : List Given) (earlier : List Stamp) (later event : Stamp) → Contains earlier event
+    ensures all_precede { (pairs : List GivenPair) (earlier : List Stamp) (later event : Stamp) → Contains earlier event
         → IsTrue (precedes (pairs ++ pairs_of (additions_from 0 pairs earlier later) later) event later) }
-    ensures place_by_place { (pairs : List Given) (earlier : List Stamp) (event later : Stamp)
+    ensures place_by_place { (pairs : List GivenPair) (earlier : List Stamp) (event later : Stamp)
         → additions_from 0 pairs (earlier ++ event ∷ []) later
         ≡ additions_from 0 pairs earlier later
         ++ (if precedes (pairs ++ pairs_of (additions_from 0 pairs earlier later) later) event later
         then [] else (length earlier, event) ∷ []) }
-    ensures in_place { (pairs : List Given) (earlier : List Stamp) (later : Stamp) (place : ℕ) (event : Stamp)
+    ensures in_place { (pairs : List GivenPair) (earlier : List Stamp) (later : Stamp) (place : ℕ) (event : Stamp)
         → Contains (additions_from 0 pairs earlier later) (place, event) → slice_get earlier place ≡ Some event }
-    ensures rising { (pairs : List Given) (earlier : List Stamp) (later : Stamp)
+    ensures rising { (pairs : List GivenPair) (earlier : List Stamp) (later : Stamp)
         → IsStrictlyIncreasing (places_of (additions_from 0 pairs earlier later)) }
-    ensures still_permitted { (pairs : List Given) (earlier : List Stamp) (later event : Stamp)
+    ensures still_permitted { (pairs : List GivenPair) (earlier : List Stamp) (later event : Stamp)
         → ((other : Stamp) → Contains earlier other → other ≢ later) → refused_place pairs earlier later ≡ None
         → ¬ IsTrue (precedes pairs later event)
         → ¬ IsTrue (precedes (pairs ++ pairs_of (additions_from 0 pairs earlier later) later) later event) }
-    ensures of_earlier { (pairs : List Given) (earlier : List Stamp) (later a b : Stamp)
+    ensures of_earlier { (pairs : List GivenPair) (earlier : List Stamp) (later a b : Stamp)
         → Contains (pairs_of (additions_from 0 pairs earlier later) later) (a, b) → Contains earlier a × (b ≡ later) }
-    ensures left_open { (pairs : List Given) (earlier : List Stamp) (later a b : Stamp)
+    ensures left_open { (pairs : List GivenPair) (earlier : List Stamp) (later a b : Stamp)
         → refused_place pairs earlier later ≡ None
         → Contains (pairs_of (additions_from 0 pairs earlier later) later) (a, b) → IsTrue (unordered a b) }
 {}
@@ -261,9 +269,9 @@ pub fn settling_puts_all_before()
 /// precede its earlier one.
 pub fn no_cycle_arises()
     ensures at_first { IsAcyclic [] }
-    ensures one_pair { (pairs : List Given) (a b : Stamp) → IsAcyclic pairs → a ≢ b → ¬ IsTrue (precedes pairs b a)
+    ensures one_pair { (pairs : List GivenPair) (a b : Stamp) → IsAcyclic pairs → a ≢ b → ¬ IsTrue (precedes pairs b a)
         → IsAcyclic (pairs ++ (a, b) ∷ []) }
-    ensures settled { (pairs : List Given) (earlier : List Stamp) (later : Stamp) → IsAcyclic pairs
+    ensures settled { (pairs : List GivenPair) (earlier : List Stamp) (later : Stamp) → IsAcyclic pairs
         → ((event : Stamp) → Contains earlier event → event ≢ later) → refused_place pairs earlier later ≡ None
         → IsAcyclic (pairs ++ pairs_of (additions_from 0 pairs earlier later) later) }
 {}

@@ -10,7 +10,7 @@ mod judge;
 pub mod laws;
 mod stamped;
 
-pub use clock::{Clock, EventId, Relation, Stamp};
+pub use clock::{COUNTS, Clock, EventId, Relation, Stamp};
 pub use coherence::are_coherent;
 pub use judge::{Judge, Refusal, Settled};
 pub use stamped::Stamped;

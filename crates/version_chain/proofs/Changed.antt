@@ -7,18 +7,18 @@ use Rattle.std.proofs.lemmas.Bool.{le-leb, lt-leb, leb-true, eqb-true, eq-eqb, n
 use Rattle.std.proofs.lemmas.List.{length-append, length-take, length-drop}
 use Rattle.graph_ops.specs.declared.op.Op.{Op}
 use Rattle.graph_ops.specs.Operations.{State}
-use Rattle.graph_ops.specs.VertexOps.{state_after, none_refused}
+use Rattle.graph_ops.specs.VertexOps.{state_after_ops, none_refused}
 use Rattle.vector_stamp.specs.declared.clock.Clock.{Clock}
 use Rattle.vector_stamp.specs.declared.clock.Stamp.{Stamp}
 use Rattle.vector_stamp.specs.Order.{is_before}
 use Rattle.vector_stamp.specs.Seeing.{last_place}
 use Rattle.version_parts.specs.declared.lists.Lists.{Lists}
-use Rattle.version_parts.specs.Counts.{count_updates, count_of, changes, size_of}
+use Rattle.version_parts.specs.Counts.{count_updates, count_in_lists, changes, size_of}
 use Rattle.version_parts.specs.Placed.{AreUpTo}
 use Rattle.version_parts.specs.States.{no_items, state_at}
 use Rattle.version_chain.specs.declared.version.Version.{Version}
 use Rattle.version_chain.specs.Chains.{ChainView, update_count, newest_state, next_version}
-use Rattle.version_chain.specs.Collection.{older_versions, collected}
+use Rattle.version_chain.specs.Collection.{older_versions, collected_chain}
 use Rattle.version_chain.specs.Keeping.{kept_from, base_of, HaveParts, IsKept}
 use Rattle.version_chain.specs.Updates.{ResultFrom, ResultFromOldest, oldest_state, all_changes}
 use Rattle.version_chain.proofs.LookBack.{take-front}
@@ -40,6 +40,7 @@ base_within (suc dropped) kept one = let some = one (omega arith) in let is = ba
 
 -- A chain without updates
 
+-- a chain without updates, which keeps no items and no stamps, has the invariant
 pub new_kept : IsKept 0 no_items []
 new_kept = record {
   small = omega arith;
@@ -58,6 +59,7 @@ module _ (dropped before : ℕ) (was now : Lists) (stamps : List Stamp) (kept : 
   within_base : base ≤ before
   within_base = let within = base_within dropped (length stamps) kept.one in omega (arith, within, count)
 
+  -- if the states so far stay, so do the versions that are kept
   pub same_versions : kept_from dropped now stamps ≡ kept_from dropped was stamps
   same_versions = kept_same now was dropped stamps (λ update after within. earlier update (omega (arith, within, count)))
 
@@ -73,6 +75,7 @@ module _ (dropped before : ℕ) (was now : Lists) (stamps : List Stamp) (kept : 
       have_on dropped dropped base was now kept.history.updates (λ update after within. earlier update (omega (arith, within, whole, count)))
       (λ update after within. let same = counts update (omega (arith, within, whole, count)) in (omega (arith, same), λ none. (none, same))) kept.history.parts
 
+  -- after an update that was refused the invariant holds, if no later item is left and the counts are as before
   pub refused_kept : AreUpTo before now → ((test : ℕ → Bool) → count_updates test now ≡ count_updates test was) → IsKept dropped now stamps
   refused_kept within counts = record {
     small = kept.small;
@@ -87,7 +90,7 @@ module _ (dropped before : ℕ) (was now : Lists) (stamps : List Stamp) (kept : 
     };
   }
 
-  module _ (stamp : Stamp) (ops : List Op) (small : before < 2 ^ 64 - 1) (passes : IsTrue (none_refused ops (state_at before was))) (state : state_at (before + 1) now ≡ state_after ops (state_at before was)) (within : AreUpTo (before + 1) now)
+  module _ (stamp : Stamp) (ops : List Op) (small : before < 2 ^ 64 - 1) (passes : IsTrue (none_refused ops (state_at before was))) (state : state_at (before + 1) now ≡ state_after_ops ops (state_at before was)) (within : AreUpTo (before + 1) now)
       (counts : (test : ℕ → Bool) → count_updates test now ≡ count_updates test was + cond (test (before + 1)) (changes ops) 0) (none_later : items_of was (before + 1) ≡ 0) where
     longer : length (stamps ++ stamp ∷ []) ≡ length stamps + 1
     longer = length-append stamps (stamp ∷ [])
@@ -104,6 +107,7 @@ module _ (dropped before : ℕ) (was now : Lists) (stamps : List Stamp) (kept : 
         itself : (n : ℕ) → (n == n) ≡ true
         itself n = eq-eqb n n refl
 
+    -- after an update that was applied the invariant holds, with its stamp as the last
     pub applied_kept : IsKept dropped now (stamps ++ stamp ∷ [])
     applied_kept = record {
       small = omega (arith, longer, count, small);
@@ -116,16 +120,17 @@ module _ (dropped before : ℕ) (was now : Lists) (stamps : List Stamp) (kept : 
         parts = have_more dropped now base kept.history.updates ops before (let whole = kept.history.count in omega (arith, whole, count))
             (same_parts (λ update old. not_now (λ other. other == update) (ne_eqb (before + 1) update (λ same. omega (arith, same, old)))))
             (subst (λ (s : State). IsTrue (none_refused ops s)) (sym (earlier before (omega arith))) passes)
-            (state ∙ ap (state_after ops) (sym (earlier before (omega arith))))
+            (state ∙ ap (state_after_ops ops) (sym (earlier before (omega arith))))
             (record { most = omega (arith, items_now); exact = λ none. items_now });
         older = (let same = not_now (λ update. nat_le update base) (lt-leb (before + 1) base (let old = within_base in omega (arith, old))) in let older = kept.history.older in omega (arith, same, older, same_base));
       };
     }
 
+    -- after an update that was applied the versions are those before it, and the one that it makes of the newest
     pub applied_versions : kept_from dropped now (stamps ++ stamp ∷ []) ≡ kept_from dropped was stamps ++ next_version stamp ops (kept_from dropped was stamps) ∷ []
     applied_versions =
         let newest : state_at before was ≡ newest_state (kept_from dropped was stamps) = ap (λ (n : ℕ). state_at n was) count ∙ sym (newest_kept was dropped stamps kept.one kept.start) in
-        let last : state_at (dropped + length stamps + 1) now ≡ state_after ops (newest_state (kept_from dropped was stamps)) = ap (λ (n : ℕ). state_at (n + 1) now) (sym count) ∙ state ∙ ap (state_after ops) newest in
+        let last : state_at (dropped + length stamps + 1) now ≡ state_after_ops ops (newest_state (kept_from dropped was stamps)) = ap (λ (n : ℕ). state_at (n + 1) now) (sym count) ∙ state ∙ ap (state_after_ops ops) newest in
         kept_append now dropped stamps (stamp ∷ [])
         ∙ (λ i. same_versions i ++ record { stamp = stamp; state = last i } ∷ [])
 
@@ -150,6 +155,7 @@ module _ (dropped newest : ℕ) (was now : Lists) (stamps rest gone : List Stamp
   some_left : 1 ≤ dropped → 1 ≤ length rest
   some_left some = let both = two some in omega (arith, both, one_less)
 
+  -- after the newest update is taken back the versions are those before its own
   pub taken_versions : (version : Version) (versions : List Version) → kept_from dropped was stamps ≡ versions ++ version ∷ [] → kept_from dropped now rest ≡ versions
   taken_versions version versions before =
       kept_same now was dropped rest (λ update after within. states update (omega (arith, within, count)))
@@ -173,6 +179,7 @@ module _ (dropped newest : ℕ) (was now : Lists) (stamps rest gone : List Stamp
     same_count : (test : ℕ → Bool) → ((update : ℕ) → test update ≡ true → update ≤ newest) → count_updates test now ≡ count_updates test was
     same_count test old = counts test ∙ ap (λ (t : ℕ → Bool). count_updates t was) (λ i update. both_tests (test update) (nat_le update newest) (λ passes. le-leb update newest (old update passes)) i)
 
+    -- after the newest update is taken back the invariant holds, if just the items of those before it are left
     pub taken_kept : IsKept dropped now rest
     taken_kept = record {
       small = (let small = kept.small in omega (arith, small, one_less));
@@ -204,6 +211,7 @@ module _ (dropped older : ℕ) (was now : Lists) (stamps : List Stamp) (kept : I
   left_length : length (drop older stamps) ≡ length stamps - older
   left_length = length-drop older stamps
 
+  -- after older versions are dropped, those that are left are the others, as they were
   pub collected_versions : kept_from gone now (drop older stamps) ≡ drop older (kept_from dropped was stamps)
   collected_versions = kept_same now was gone (drop older stamps) (λ update after within. states update (omega (arith, after))) ∙ kept_drop was dropped older stamps
 
@@ -231,6 +239,7 @@ module _ (dropped older : ℕ) (was now : Lists) (stamps : List Stamp) (kept : I
         let low = old_base in
         omega (arith, count, low, new_base, updates_left, left_length, some, inside)
 
+    -- the invariant holds after that, if no items came and those up to the oldest version are at most its state's parts
     pub collected_kept : IsKept gone now (drop older stamps)
     collected_kept = record {
       small = (let small = kept.small in omega (arith, small, left_length, inside));
@@ -252,8 +261,8 @@ module _ (dropped older : ℕ) (was now : Lists) (stamps : List Stamp) (kept : I
 
 -- The number of parts
 
-module _ (dropped : ℕ) (lists : Lists) (stamps : List Stamp) (kept : IsKept dropped lists stamps) (parts : ℕ) (is : parts ≡ count_of lists)
-    (counted : (newest : ℕ) → AreUpTo newest lists → count_updates (λ update. nat_le update newest) lists ≡ count_of lists)
+module _ (dropped : ℕ) (lists : Lists) (stamps : List Stamp) (kept : IsKept dropped lists stamps) (parts : ℕ) (is : parts ≡ count_in_lists lists)
+    (counted : (newest : ℕ) → AreUpTo newest lists → count_updates (λ update. nat_le update newest) lists ≡ count_in_lists lists)
     (one_more : (update : ℕ) → count_updates (λ other. nat_le other (update + 1)) lists ≡ count_updates (λ other. nat_le other update) lists + items_of lists (update + 1)) where
   abbrev first_base : ℕ
   first_base = base_of dropped
@@ -261,6 +270,7 @@ module _ (dropped : ℕ) (lists : Lists) (stamps : List Stamp) (kept : IsKept dr
   all_items : count_updates (λ update. nat_le update (first_base + length kept.history.updates)) lists ≡ parts
   all_items = ap (λ (n : ℕ). count_updates (λ update. nat_le update n) lists) kept.history.count ∙ counted (dropped + length stamps) kept.within ∙ sym is
 
+  -- if no version was dropped, the versions come of updates with as many operations other than `get` as there are parts
   pub exact_count : dropped ≡ 0 → (updates : List (List Op)) × ResultFrom None updates (kept_from dropped lists stamps) × (parts ≡ all_changes updates)
   exact_count none =
       let from_start : first_base ≡ 0 = base_none dropped none in
@@ -276,6 +286,7 @@ module _ (dropped : ℕ) (lists : Lists) (stamps : List Stamp) (kept : IsKept dr
         omega (arith, sum, all_items, older, nothing),
       )
 
+  -- if some were dropped, there are at most as many parts as the updates after the oldest version and its state have
   pub most_count : 1 ≤ dropped → (updates : List (List Op)) × ResultFromOldest updates (kept_from dropped lists stamps) × (parts ≤ all_changes updates + size_of (oldest_state (kept_from dropped lists stamps)))
   most_count some = by stamps (kept.one some) kept.history.count
     where
@@ -299,9 +310,11 @@ module _ (bound : Clock) (dropped older : ℕ) (lists : Lists) (stamps : List St
   abbrev chain : ChainView
   chain = record { dropped = dropped; kept = kept_from dropped lists stamps }
 
+  -- as many stamps are older than the newest one before the bound as a collection drops versions
   pub older_here : older ≡ older_versions bound (kept_from dropped lists stamps)
   older_here = is ∙ ap pred (sym (place_kept lists bound dropped stamps))
 
+  -- if a collection drops versions, at least one is left
   pub older_inside : 1 ≤ older → older < length stamps
   older_inside some =
       let long = kept_length lists dropped stamps in
@@ -311,18 +324,22 @@ module _ (bound : Clock) (dropped older : ℕ) (lists : Lists) (stamps : List St
       let here = older_here in
       omega (arith, left, long, here)
 
-  pub none_dropped : older ≡ 0 → chain ≡ collected bound chain
+  -- if it drops none, the chain is already the collected one
+  pub none_dropped : older ≡ 0 → chain ≡ collected_chain bound chain
   none_dropped none = sym (none-older bound chain (sym older_here ∙ none))
 
-  pub some_dropped : (now : Lists) → kept_from (dropped + older) now (drop older stamps) ≡ drop older (kept_from dropped lists stamps) → record { dropped = dropped + older; kept = kept_from (dropped + older) now (drop older stamps) } ≡ collected bound chain
+  -- if what is left are all versions but the older ones, the chain is the collected one
+  pub some_dropped : (now : Lists) → kept_from (dropped + older) now (drop older stamps) ≡ drop older (kept_from dropped lists stamps) → record { dropped = dropped + older; kept = kept_from (dropped + older) now (drop older stamps) } ≡ collected_chain bound chain
   some_dropped now same = (λ i. record { dropped = dropped + older; kept = same i }) ∙ (λ i. record { dropped = dropped + older_here i; kept = drop (older_here i) (kept_from dropped lists stamps) })
 
 -- What is asked of an update
 
 module _ (dropped : ℕ) (lists : Lists) (stamps : List Stamp) (chain : ChainView) (before : ℕ) (seen : record { dropped = dropped; kept = kept_from dropped lists stamps } ≡ chain) (count : before ≡ update_count chain) where
+  -- the updates that were applied are as many as versions were dropped and stamps are kept
   pub counted_before : before ≡ dropped + length stamps
   counted_before = count ∙ ap update_count (sym seen) ∙ ap (λ (n : ℕ). dropped + n) (kept_length lists dropped stamps)
 
+  -- operations that pass on the newest state pass on the state that the parts have after that many updates
   pub passes_before : IsKept dropped lists stamps → (ops : List Op) → IsTrue (none_refused ops (newest_state chain.kept)) → IsTrue (none_refused ops (state_at before lists))
   passes_before kept ops passes =
       subst (λ (state : State). IsTrue (none_refused ops state))
@@ -330,6 +347,7 @@ module _ (dropped : ℕ) (lists : Lists) (stamps : List Stamp) (chain : ChainVie
 
 -- A last element
 
+-- if there is a last stamp, it is one element
 pub one_popped : (o : Option Stamp) → IsSome o → length (option_to_list o) ≡ 1
 one_popped None some = absurd cc
 one_popped (Some stamp) some = refl

@@ -11,14 +11,14 @@ use Rattle.graph_ops.specs.Operations.{State}
 use Rattle.vector_stamp.specs.declared.clock.Clock.{Clock}
 use Rattle.vector_stamp.specs.declared.clock.Stamp.{Stamp}
 use Rattle.vector_stamp.specs.Order.{is_before, is_at_most, stamp_before}
-use Rattle.vector_stamp.specs.Precedence.{Given, precedes}
+use Rattle.vector_stamp.specs.Precedence.{GivenPair, precedes}
 use Rattle.vector_stamp.specs.Seeing.{with_front, last_place, is_seen, seen_of, last_seen}
 use Rattle.vector_stamp.proofs.LastPlaces.{front-first, last-dropped, place-drop}
 use Rattle.vector_stamp.proofs.Seen.{place-within}
 use Rattle.version_chain.specs.declared.version.Version.{Version}
-use Rattle.version_chain.specs.Chains.{ChainView, update_count, stamps_of, newest_state}
+use Rattle.version_chain.specs.Chains.{ChainView, update_count, stamps_of_versions, newest_state}
 use Rattle.version_chain.specs.Views.{kept_seen, view_of, ReachesBack}
-use Rattle.version_chain.specs.Collection.{older_versions, collected}
+use Rattle.version_chain.specs.Collection.{older_versions, collected_chain}
 
 -- The last element that passes a test
 
@@ -56,7 +56,7 @@ some-weaker : {A : Type 0} (P Q : A → Type 0) (found : Option A) → ((x : A) 
 some-weaker P Q None weaker holds = holds
 some-weaker P Q (Some x) weaker holds = weaker x holds
 
-stamp-there : (P : Stamp → Type 0) (versions : List Version) (n : ℕ) → IsSomeAnd (slice_get versions n) (λ version. P version.stamp) → IsSomeAnd (slice_get (stamps_of versions) n) P
+stamp-there : (P : Stamp → Type 0) (versions : List Version) (n : ℕ) → IsSomeAnd (slice_get versions n) (λ version. P version.stamp) → IsSomeAnd (slice_get (stamps_of_versions versions) n) P
 stamp-there P [] n holds = holds
 stamp-there P (version ∷ versions) zero holds = holds
 stamp-there P (version ∷ versions) (suc n) holds = stamp-there P versions n holds
@@ -75,6 +75,7 @@ module _ (bound : Clock) (chain : ChainView) where
   abbrev older : ℕ
   older = older_versions bound chain.kept
 
+  -- a collection drops at most as many versions as are kept
   pub older-within : older ≤ length chain.kept
   older-within = let within = place-within before chain.kept in by (last_place before chain.kept) within
     where
@@ -82,7 +83,7 @@ module _ (bound : Clock) (chain : ChainView) where
       by zero within = omega arith
       by (suc place) within = omega (arith, within)
 
-  -- one is kept if any was
+  -- if at least one version is kept where any was dropped, that is so after the collection too
   pub one-kept : (1 ≤ chain.dropped → 1 ≤ length chain.kept) → 1 ≤ chain.dropped + older → 1 ≤ length chain.kept - older
   one-kept base some = by (last_place before chain.kept) (place-within before chain.kept) some
     where
@@ -91,11 +92,11 @@ module _ (bound : Clock) (chain : ChainView) where
       by (suc place) within some = omega (arith, within)
 
   -- no update is forgotten
-  pub same-count : update_count (collected bound chain) ≡ update_count chain
+  pub same-count : update_count (collected_chain bound chain) ≡ update_count chain
   same-count = omega (arith, older-within, length-drop older chain.kept)
 
   -- nothing is dropped if none is older
-  pub none-older : older ≡ 0 → collected bound chain ≡ chain
+  pub none-older : older ≡ 0 → collected_chain bound chain ≡ chain
   none-older none =
       let same : chain.dropped + 0 ≡ chain.dropped = omega arith in
       (λ i. record { dropped = chain.dropped + none i; kept = drop (none i) chain.kept })
@@ -104,10 +105,10 @@ module _ (bound : Clock) (chain : ChainView) where
   module _ (ordered : (a b c : Clock) → IsTrue (is_before a b) → IsTrue (is_at_most b c) → IsTrue (is_before a c))
       (program : Stamp) (below : IsTrue (is_at_most bound program.clock)) where
     -- the oldest version that is kept is before the program, if any was dropped
-    oldest-before : 0 < older → IsSomeAnd (slice_get (stamps_of chain.kept) older) (λ oldest. IsTrue (stamp_before oldest program))
+    oldest-before : 0 < older → IsSomeAnd (slice_get (stamps_of_versions chain.kept) older) (λ oldest. IsTrue (stamp_before oldest program))
     oldest-before some = by (last_place before chain.kept) refl some
       where
-        by : (place : ℕ) → last_place before chain.kept ≡ place → 0 < pred place → IsSomeAnd (slice_get (stamps_of chain.kept) (pred place)) (λ oldest. IsTrue (stamp_before oldest program))
+        by : (place : ℕ) → last_place before chain.kept ≡ place → 0 < pred place → IsSomeAnd (slice_get (stamps_of_versions chain.kept) (pred place)) (λ oldest. IsTrue (stamp_before oldest program))
         by zero is some = absurd (omega (arith, some))
         by (suc place) is some =
             stamp-there (λ oldest. IsTrue (stamp_before oldest program)) chain.kept place
@@ -115,10 +116,10 @@ module _ (bound : Clock) (chain : ChainView) where
             (λ version is_older. ordered version.stamp.clock bound program.clock is_older below) (place-passes before chain.kept place is))
 
     -- and so what is kept reaches back far enough
-    pub still-reaches : ReachesBack program chain ⊎ (chain.dropped < chain.dropped + older) → ReachesBack program (collected bound chain)
+    pub still-reaches : ReachesBack program chain ⊎ (chain.dropped < chain.dropped + older) → ReachesBack program (collected_chain bound chain)
     still-reaches was some = elim (cases_lt 0 older) [
       | inl more ↦
-          let first : slice_get (stamps_of (drop older chain.kept)) 0 ≡ slice_get (stamps_of chain.kept) older = ap (λ (stamps : List Stamp). slice_get stamps 0) (sym (drop-map (λ (version : Version). version.stamp) older chain.kept)) ∙ get-dropped older (stamps_of chain.kept) in
+          let first : slice_get (stamps_of_versions (drop older chain.kept)) 0 ≡ slice_get (stamps_of_versions chain.kept) older = ap (λ (stamps : List Stamp). slice_get stamps 0) (sym (drop-map (λ (version : Version). version.stamp) older chain.kept)) ∙ get-dropped older (stamps_of_versions chain.kept) in
           subst (λ found. IsSomeAnd found (λ oldest. IsTrue (stamp_before oldest program))) (sym first) (oldest-before more)
       | inr none ↦
           let is : older ≡ 0 = omega (arith, none) in
@@ -128,17 +129,17 @@ module _ (bound : Clock) (chain : ChainView) where
           ]) some
     ]
 
-    module _ (pairs : List Given) (some : 0 < older) where
+    module _ (pairs : List GivenPair) (some : 0 < older) where
       abbrev stamps : List Stamp
-      stamps = stamps_of chain.kept
+      stamps = stamps_of_versions chain.kept
 
       abbrev all_seen : ℕ
       all_seen = kept_seen pairs program chain
 
       abbrev left_seen : ℕ
-      left_seen = kept_seen pairs program (collected bound chain)
+      left_seen = kept_seen pairs program (collected_chain bound chain)
 
-      stamps-left : stamps_of (drop older chain.kept) ≡ drop older stamps
+      stamps-left : stamps_of_versions (drop older chain.kept) ≡ drop older stamps
       stamps-left = sym (drop-map (λ (version : Version). version.stamp) older chain.kept)
 
       -- the program sees the oldest version that is kept
@@ -166,10 +167,10 @@ module _ (bound : Clock) (chain : ChainView) where
           ∙ sym (fold-append _ None (take older (take all_seen chain.kept)) (take left_seen (drop older chain.kept)))
           ∙ ap newest_state parts
 
-      same-last : last_seen left_seen (stamps_of (drop older chain.kept)) ≡ last_seen all_seen stamps
+      same-last : last_seen left_seen (stamps_of_versions (drop older chain.kept)) ≡ last_seen all_seen stamps
       same-last = ap (last_seen left_seen) stamps-left ∙ sym (last-dropped older left_seen all_seen stamps both some-left)
 
-      same-view : view_of pairs program (collected bound chain) ≡ view_of pairs program chain
+      same-view : view_of pairs program (collected_chain bound chain) ≡ view_of pairs program chain
       same-view =
           let updates : (chain.dropped + older) + left_seen ≡ chain.dropped + all_seen = omega (arith, both) in
           λ i. record {
@@ -179,7 +180,7 @@ module _ (bound : Clock) (chain : ChainView) where
           }
 
     -- no view changes
-    pub view-stays : (pairs : List Given) → view_of pairs program (collected bound chain) ≡ view_of pairs program chain
+    pub view-stays : (pairs : List GivenPair) → view_of pairs program (collected_chain bound chain) ≡ view_of pairs program chain
     view-stays pairs = elim (cases_lt 0 older) [
       | inl some ↦ same-view pairs some
       | inr none ↦ ap (view_of pairs program) (none-older (omega (arith, none)))

@@ -5,7 +5,7 @@ use Rattle.std.specs.Prelude.{nat_le, fold}
 use Rattle.std.proofs.lemmas.List.{length-append}
 use Rattle.graph_ops.specs.declared.op.Op.{Op}
 use Rattle.graph_ops.specs.Operations.{State}
-use Rattle.graph_ops.specs.VertexOps.{state_after, none_refused}
+use Rattle.graph_ops.specs.VertexOps.{state_after_ops, none_refused}
 use Rattle.vector_stamp.specs.declared.clock.Clock.{Clock}
 use Rattle.vector_stamp.specs.declared.clock.Stamp.{Stamp}
 use Rattle.vector_stamp.specs.Order.{is_before}
@@ -14,21 +14,24 @@ use Rattle.version_parts.specs.declared.lists.Lists.{Lists}
 use Rattle.version_parts.specs.Counts.{count_updates, changes}
 use Rattle.version_parts.specs.States.{state_at}
 use Rattle.version_chain.specs.declared.version.Version.{Version}
-use Rattle.version_chain.specs.Chains.{stamps_of, newest_state}
+use Rattle.version_chain.specs.Chains.{stamps_of_versions, newest_state}
 use Rattle.version_chain.specs.Keeping.{kept_from, IsCounted, HaveParts}
 use Rattle.version_chain.specs.Updates.{ResultFrom, all_changes}
 
 -- The versions that are kept
 
 module _ (lists : Lists) where
+  -- there are as many versions as stamps
   pub kept_length : (before : ℕ) (stamps : List Stamp) → length (kept_from before lists stamps) ≡ length stamps
   kept_length before [] = refl
   kept_length before (stamp ∷ stamps) = ap suc (kept_length (before + 1) stamps)
 
-  pub kept_stamps : (before : ℕ) (stamps : List Stamp) → stamps_of (kept_from before lists stamps) ≡ stamps
+  -- the versions have these stamps
+  pub kept_stamps : (before : ℕ) (stamps : List Stamp) → stamps_of_versions (kept_from before lists stamps) ≡ stamps
   kept_stamps before [] = refl
   kept_stamps before (stamp ∷ stamps) = ap (λ (rest : List Stamp). stamp ∷ rest) (kept_stamps (before + 1) stamps)
 
+  -- the versions of two lists of stamps are those of the first, and then those of the second from there on
   pub kept_append : (before : ℕ) (first second : List Stamp) → kept_from before lists (first ++ second) ≡ kept_from before lists first ++ kept_from (before + length first) lists second
   kept_append before [] second = let same : before ≡ before + 0 = omega arith in ap (λ (n : ℕ). kept_from n lists second) same
   kept_append before (stamp ∷ first) second =
@@ -36,6 +39,7 @@ module _ (lists : Lists) where
       ap (λ (rest : List Version). record { stamp = stamp; state = state_at (before + 1) lists } ∷ rest)
       (kept_append (before + 1) first second ∙ ap (λ (n : ℕ). kept_from (before + 1) lists first ++ kept_from n lists second) same)
 
+  -- the versions of the stamps without the first few are those of all stamps without as many first ones
   pub kept_drop : (before n : ℕ) (stamps : List Stamp) → kept_from (before + n) lists (drop n stamps) ≡ drop n (kept_from before lists stamps)
   kept_drop before zero stamps = let same : before + 0 ≡ before = omega arith in ap (λ (n : ℕ). kept_from n lists stamps) same
   kept_drop before (suc n) [] = refl
@@ -57,6 +61,7 @@ module _ (lists : Lists) where
       let same : dropped + 1 + length stamps ≡ dropped + suc (length stamps) = omega arith in
       newest_from (dropped + 1) stamps ∙ ap (λ (n : ℕ). state_at n lists) same
 
+  -- the last version before a bound is at the place of the last stamp before it
   pub place_kept : (bound : Clock) (before : ℕ) (stamps : List Stamp) → last_place (λ (version : Version). is_before version.stamp.clock bound) (kept_from before lists stamps) ≡ last_place (λ (stamp : Stamp). is_before stamp.clock bound) stamps
   place_kept bound before [] = refl
   place_kept bound before (stamp ∷ stamps) = ap (with_front (is_before stamp.clock bound)) (place_kept bound (before + 1) stamps)
@@ -89,6 +94,7 @@ items_of lists number = count_updates (λ update. update == number) lists
 abbrev pub CountsOn : ℕ → ℕ → Lists → Lists → ℕ → Type 0
 CountsOn dropped now_dropped was now update = (items_of now update ≤ items_of was update) × (now_dropped ≡ 0 → (dropped ≡ 0) × (items_of now update ≡ items_of was update))
 
+-- if states stay, and no update gains items, nor loses any unless versions are dropped, the parts still fit the updates
 pub have_on : (dropped now_dropped before : ℕ) (was now : Lists) (updates : List (List Op))
     → ((update : ℕ) → before ≤ update → update ≤ before + length updates → state_at update now ≡ state_at update was)
     → ((update : ℕ) → before < update → update ≤ before + length updates → CountsOn dropped now_dropped was now update)
@@ -99,7 +105,7 @@ have_on dropped now_dropped before was now (ops ∷ updates) states counts have 
     let next : state_at (before + 1) now ≡ state_at (before + 1) was = states (before + 1) (omega arith) (omega arith) in
     let count : CountsOn dropped now_dropped was now (before + 1) = counts (before + 1) (omega arith) (omega arith) in (
       subst (λ (state : State). IsTrue (none_refused ops state)) (sym here) have.0,
-      next ∙ have.1 ∙ ap (state_after ops) (sym here),
+      next ∙ have.1 ∙ ap (state_after_ops ops) (sym here),
       record { most = (let less = count.0 in let most = have.2.most in omega (arith, less, most)); exact = λ none. let both = count.1 none in both.1 ∙ have.2.exact both.0 },
       have_on dropped now_dropped (before + 1) was now updates (λ update after within. states update (omega (arith, after)) (omega (arith, within))) (λ update after within. counts update (omega (arith, after)) (omega (arith, within))) have.3,
     )
@@ -107,22 +113,24 @@ have_on dropped now_dropped before was now (ops ∷ updates) states counts have 
 module _ (dropped : ℕ) (lists : Lists) where
   -- one more update
   pub have_more : (before : ℕ) (updates : List (List Op)) (ops : List Op) (last : ℕ) → last ≡ before + length updates → HaveParts dropped before lists updates
-      → IsTrue (none_refused ops (state_at last lists)) → state_at (last + 1) lists ≡ state_after ops (state_at last lists) → IsCounted dropped (items_of lists (last + 1)) (changes ops)
+      → IsTrue (none_refused ops (state_at last lists)) → state_at (last + 1) lists ≡ state_after_ops ops (state_at last lists) → IsCounted dropped (items_of lists (last + 1)) (changes ops)
       → HaveParts dropped before lists (updates ++ ops ∷ [])
   have_more before [] ops last is have passes state count =
       let same : last ≡ before = omega (arith, is) in (
         subst (λ (n : ℕ). IsTrue (none_refused ops (state_at n lists))) same passes,
-        subst (λ (n : ℕ). state_at (n + 1) lists ≡ state_after ops (state_at n lists)) same state,
+        subst (λ (n : ℕ). state_at (n + 1) lists ≡ state_after_ops ops (state_at n lists)) same state,
         subst (λ (n : ℕ). IsCounted dropped (items_of lists (n + 1)) (changes ops)) same count,
         tt,
       )
   have_more before (first ∷ updates) ops last is have passes state count = (have.0, have.1, have.2, have_more (before + 1) updates ops last (omega (arith, is)) have.3 passes state count)
 
+  -- parts of updates are also parts of any number of the first of them
   pub have_first : (before n : ℕ) (updates : List (List Op)) → HaveParts dropped before lists updates → HaveParts dropped before lists (take n updates)
   have_first before zero updates have = tt
   have_first before (suc n) [] have = tt
   have_first before (suc n) (ops ∷ updates) have = (have.0, have.1, have.2, have_first (before + 1) n updates have.3)
 
+  -- and of those after any number, counted on from there
   pub have_later : (before n : ℕ) (updates : List (List Op)) (at : ℕ) → at ≡ before + n → HaveParts dropped before lists updates → HaveParts dropped at lists (drop n updates)
   have_later before zero updates at is have = let same : before ≡ at = omega (arith, is) in subst (λ (m : ℕ). HaveParts dropped m lists updates) same have
   have_later before (suc n) [] at is have = tt
@@ -147,6 +155,7 @@ module _ (dropped : ℕ) (lists : Lists) where
         let most = have.2.most in
         subst (λ (n : ℕ). count_updates (λ other. nat_le other n) lists ≤ count_updates (λ other. nat_le other before) lists + (changes ops + all_changes updates)) same (omega (arith, rest, most, one_more before))
 
+    -- if no version was dropped, updates add as many items as they have operations other than `get`
     pub have_exact : dropped ≡ 0 → (before : ℕ) (updates : List (List Op)) → HaveParts dropped before lists updates
         → count_updates (λ other. nat_le other (before + length updates)) lists ≡ count_updates (λ other. nat_le other before) lists + all_changes updates
     have_exact none before [] have = let same : before + 0 ≡ before = omega arith in

@@ -2,7 +2,7 @@
 use Rattle.std.specs.Prelude.{◌≡◌, ℕ, ◌+◌, ◌^◌, ◌-◌, ◌<◌, ◌≤◌, List, [], ◌∷◌, ◌++◌, map, fold, length, None, IsTrue}
 use Rattle.graph_ops.specs.declared.op.Op.{Op}
 use Rattle.graph_ops.specs.Operations.{State}
-use Rattle.graph_ops.specs.VertexOps.{state_after, none_refused}
+use Rattle.graph_ops.specs.VertexOps.{state_after_ops, none_refused}
 use Rattle.vector_stamp.specs.declared.clock.Stamp.{Stamp}
 use Rattle.version_chain.specs.declared.version.Version.{Version}
 
@@ -20,8 +20,8 @@ abbrev pub update_count : ChainView → ℕ
 update_count chain = chain.dropped + length chain.kept
 
 -- the stamps of versions
-abbrev pub stamps_of : List Version → List Stamp
-stamps_of versions = map (λ (version : Version). version.stamp) versions
+abbrev pub stamps_of_versions : List Version → List Stamp
+stamps_of_versions versions = map (λ (version : Version). version.stamp) versions
 
 -- the state after the last of these versions; absent if there is none
 abbrev pub newest_state : List Version → State
@@ -29,7 +29,7 @@ newest_state versions = fold (λ (state : State) (version : Version). version.st
 
 -- the version that an update makes of the newest one
 abbrev pub next_version : Stamp → List Op → List Version → Version
-next_version stamp ops versions = record { stamp = stamp; state = state_after ops (newest_state versions) }
+next_version stamp ops versions = record { stamp = stamp; state = state_after_ops ops (newest_state versions) }
 
 -- the chain with one more version
 abbrev pub with_version : Version → ChainView → ChainView

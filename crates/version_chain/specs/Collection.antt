@@ -12,8 +12,8 @@ abbrev pub older_versions : Clock → List Version → ℕ
 older_versions bound versions = pred (last_place (λ (version : Version). is_before version.stamp.clock bound) versions)
 
 -- the chain without those older versions: the newest one before the bound and all later ones are kept
-abbrev pub collected : Clock → ChainView → ChainView
-collected bound chain = record {
+abbrev pub collected_chain : Clock → ChainView → ChainView
+collected_chain bound chain = record {
   dropped = chain.dropped + older_versions bound chain.kept;
   kept = drop (older_versions bound chain.kept) chain.kept;
 }

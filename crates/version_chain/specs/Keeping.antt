@@ -1,7 +1,7 @@
 -- How a chain keeps its versions: the stamps of their updates, and the parts that were written.
 use Rattle.std.specs.Prelude.{◌≡◌, ◌≤◌, ◌<◌, ◌+◌, ◌^◌, ◌==◌, ℕ, cond, nat_le, List, [], ◌∷◌, length, None, IsTrue}
 use Rattle.graph_ops.specs.declared.op.Op.{Op}
-use Rattle.graph_ops.specs.VertexOps.{state_after, none_refused}
+use Rattle.graph_ops.specs.VertexOps.{state_after_ops, none_refused}
 use Rattle.vector_stamp.specs.declared.clock.Stamp.{Stamp}
 use Rattle.version_parts.specs.declared.lists.Lists.{Lists}
 use Rattle.version_parts.specs.Counts.{count_updates, changes, size_of}
@@ -29,7 +29,7 @@ abbrev pub HaveParts : ℕ → ℕ → Lists → List (List Op) → Type 0
 HaveParts dropped before lists [] = Unit {0}
 HaveParts dropped before lists (ops ∷ updates) =
     IsTrue (none_refused ops (state_at before lists))
-    × (state_at (before + 1) lists ≡ state_after ops (state_at before lists))
+    × (state_at (before + 1) lists ≡ state_after_ops ops (state_at before lists))
     × IsCounted dropped (count_updates (λ update. update == before + 1) lists) (changes ops)
     × HaveParts dropped (before + 1) lists updates
 

@@ -2,7 +2,7 @@
 use Rattle.std.specs.Prelude.{◌≡◌, ◌≤◌, ◌+◌, ℕ, List, [], ◌∷◌, None, IsTrue}
 use Rattle.graph_ops.specs.declared.op.Op.{Op}
 use Rattle.graph_ops.specs.Operations.{State}
-use Rattle.graph_ops.specs.VertexOps.{state_after, none_refused}
+use Rattle.graph_ops.specs.VertexOps.{state_after_ops, none_refused}
 use Rattle.version_parts.specs.Counts.{changes, size_of}
 use Rattle.version_chain.specs.declared.version.Version.{Version}
 use Rattle.version_chain.specs.Chains.{ChainView}
@@ -11,7 +11,7 @@ use Rattle.version_chain.specs.Chains.{ChainView}
 abbrev pub ResultFrom : State → List (List Op) → List Version → Type 0
 ResultFrom state [] [] = Unit {0}
 ResultFrom state (ops ∷ updates) (version ∷ versions) =
-    IsTrue (none_refused ops state) × (version.state ≡ state_after ops state)
+    IsTrue (none_refused ops state) × (version.state ≡ state_after_ops ops state)
     × ResultFrom version.state updates versions
 ResultFrom state _ _ = ⊥
 

@@ -3,11 +3,11 @@ ghost use Rattle.std.specs.Prelude.{◌≡◌, ◌≢◌, ◌+◌, ◌<◌, ◌�
 ghost use Rattle.vector_stamp.specs.declared.clock.Stamp.{Stamp};
 ghost use Rattle.vector_stamp.specs.Order.{id_of, is_at_most};
 ghost use Rattle.vector_stamp.specs.Coherence.{AreCoherent};
-ghost use Rattle.vector_stamp.specs.Precedence.{Given};
+ghost use Rattle.vector_stamp.specs.Precedence.{GivenPair};
 ghost use Rattle.vector_stamp.specs.Settling.{pairs_of};
 ghost use Rattle.version_chain.specs.declared.version.Version.{Version};
-ghost use Rattle.version_chain.specs.Chains.{ChainView, no_updates, update_count, stamps_of, newest_state, with_version, with_update, IsNextUpdate, KeepsOne};
-ghost use Rattle.version_chain.specs.Collection.{collected};
+ghost use Rattle.version_chain.specs.Chains.{ChainView, no_updates, update_count, stamps_of_versions, newest_state, with_version, with_update, IsNextUpdate, KeepsOne};
+ghost use Rattle.version_chain.specs.Collection.{collected_chain};
 ghost use Rattle.version_chain.specs.Updates.{IsPartCount, IsPartBound};
 ghost use Rattle.version_chain.specs.Views.{has_unordered, view_of, put_before, entries_for, ReachesBack};
 
@@ -121,9 +121,9 @@ impl Chain {
     /// If no clock is before it, all stay.
     /// No view changes for a program whose clock the bound is at most. It takes no memory.
     pub fn collect(&mut self, bound: &Clock)
-        ensures kept { self.new ≡ collected bound.now self.old }
+        ensures kept { self.new ≡ collected_chain bound.now self.old }
         ensures count { update_count self.new ≡ update_count self.old }
-        ensures views { (pairs : List Given) (program : Stamp) → IsTrue (is_at_most bound.now program.clock)
+        ensures views { (pairs : List GivenPair) (program : Stamp) → IsTrue (is_at_most bound.now program.clock)
             → view_of pairs program self.new ≡ view_of pairs program self.old }
         ensures base { (program : Stamp) → IsTrue (is_at_most bound.now program.clock)
             → ReachesBack program self.old ⊎ (self.old.dropped < self.new.dropped) → ReachesBack program self.new }
@@ -134,7 +134,7 @@ impl Chain {
 
     // Drops those versions.
     fn drop_older(&mut self, bound: &Clock)
-        ensures { self.new ≡ collected bound.now self.old }
+        ensures { self.new ≡ collected_chain bound.now self.old }
     {
         let older = older_versions(self.stamps.as_slice(), bound);
         if older == 0 {
@@ -171,8 +171,8 @@ impl Chain {
         stamp: Stamp,
         judge: &mut J,
     ) -> Result<View, AllocError>
-        requires other_ids { All (λ update. id_of update ≢ id_of stamp) (stamps_of self.now.kept) }
-        requires coherent { AreCoherent (stamp ∷ stamps_of self.now.kept ++ J.known judge.old) }
+        requires other_ids { All (λ update. id_of update ≢ id_of stamp) (stamps_of_versions self.now.kept) }
+        requires coherent { AreCoherent (stamp ∷ stamps_of_versions self.now.kept ++ J.known judge.old) }
         requires base { ReachesBack stamp self.now }
         ensures view { IfOk result (λ view. view ≡ view_of (J.pairs judge.old) stamp self.now) }
         ensures base { IfOk result (λ view. 1 ≤ self.now.dropped → self.now.dropped < view.updates) }
@@ -180,12 +180,12 @@ impl Chain {
             ≡ J.pairs judge.old ++ pairs_of (put_before (J.pairs judge.old) stamp self.now) stamp) }
         ensures no_pair { OnErr result (J.pairs judge.new ≡ J.pairs judge.old) }
         ensures known { (event : Stamp) → Contains (J.known judge.new) event
-            → Contains (J.known judge.old) event ⊎ Contains (stamp ∷ stamps_of self.now.kept) event }
+            → Contains (J.known judge.old) event ⊎ Contains (stamp ∷ stamps_of_versions self.now.kept) event }
         ensures stay_known { (event : Stamp) → Contains (J.known judge.old) event → Contains (J.known judge.new) event }
         ensures logged { OnOk result (IsTrue J.keeps_log
             → J.log_of judge.new ≡ J.log_of judge.old ++ entries_for (J.pairs judge.old) author stamp self.now) }
         ensures not_logged { OnErr result (IsTrue J.keeps_log → J.log_of judge.new ≡ J.log_of judge.old) }
-        ensures not_asked { has_unordered stamp (stamps_of self.now.kept) ≡ false → judge.new ≡ judge.old }
+        ensures not_asked { has_unordered stamp (stamps_of_versions self.now.kept) ≡ false → judge.new ≡ judge.old }
     {
         look_back(
             alloc,

@@ -6,7 +6,7 @@ ghost use Rattle.vector_stamp.specs.Coherence.{AreCoherent};
 ghost use Rattle.vector_stamp.specs.Precedence.{precedes};
 ghost use Rattle.vector_stamp.specs.Seeing.{is_seen};
 ghost use Rattle.vector_stamp.specs.Settling.{additions_from, places_of, pairs_of, entries_of_call};
-ghost use Rattle.version_chain.specs.Chains.{stamps_of};
+ghost use Rattle.version_chain.specs.Chains.{stamps_of_versions};
 ghost use Rattle.version_chain.specs.Keeping.{kept_from};
 ghost use Rattle.version_chain.specs.Looks.{read_of};
 ghost use Rattle.version_parts.specs.States.{state_at};
@@ -172,8 +172,8 @@ pub(crate) fn look_back<J: Judge>(
     parts: &Parts,
 ) -> Result<View, AllocError>
     requires other_ids { All (λ update. id_of update ≢ id_of program)
-        (stamps_of (kept_from dropped parts.now stamps.now)) }
-    requires coherent { AreCoherent (program ∷ stamps_of (kept_from dropped parts.now stamps.now)
+        (stamps_of_versions (kept_from dropped parts.now stamps.now)) }
+    requires coherent { AreCoherent (program ∷ stamps_of_versions (kept_from dropped parts.now stamps.now)
         ++ J.known judge.old) }
     requires small { dropped + length stamps.now < 2 ^ 64 }
     ensures view { IfOk result (λ view. view
@@ -185,13 +185,13 @@ pub(crate) fn look_back<J: Judge>(
     ensures no_pair { OnErr result (J.pairs judge.new ≡ J.pairs judge.old) }
     ensures known { (stamp : Stamp) → Contains (J.known judge.new) stamp
         → Contains (J.known judge.old) stamp
-        ⊎ Contains (program ∷ stamps_of (kept_from dropped parts.now stamps.now)) stamp }
+        ⊎ Contains (program ∷ stamps_of_versions (kept_from dropped parts.now stamps.now)) stamp }
     ensures stay_known { (stamp : Stamp) → Contains (J.known judge.old) stamp → Contains (J.known judge.new) stamp }
     ensures logged { OnOk result (IsTrue J.keeps_log → J.log_of judge.new ≡ J.log_of judge.old
         ++ entries_for (J.pairs judge.old) author program
         (record { dropped = dropped; kept = kept_from dropped parts.now stamps.now })) }
     ensures not_logged { OnErr result (IsTrue J.keeps_log → J.log_of judge.new ≡ J.log_of judge.old) }
-    ensures not_asked { has_unordered program (stamps_of (kept_from dropped parts.now stamps.now)) ≡ false
+    ensures not_asked { has_unordered program (stamps_of_versions (kept_from dropped parts.now stamps.now)) ≡ false
         → judge.new ≡ judge.old }
 {
     parts_and_unions_are_coherent();

@@ -32,6 +32,7 @@ first chains p a makes none =
     (subst (λ (ops : List Op). IsNextUpdate no_updates 0 ops) (sym makes.ops)
     (record { count = refl; small = omega arith; passes = refl })))
 
+-- three parts that make three different vertices, none of which has updates, are next updates
 pub three_next : (chains : Chains) (p q r : Part) (a b c : Name) → Makes p a → Makes q b → Makes r c → same_name a b ≡ false → same_name a c ≡ false → same_name b c ≡ false
     → chain_of chains a ≡ None → chain_of chains b ≡ None → chain_of chains c ≡ None → AreNextUpdates chains (p ∷ q ∷ r ∷ [])
 three_next chains p q r a b c of_p of_q of_r ab ac bc no_a no_b no_c = record {
@@ -50,6 +51,7 @@ three_next chains p q r a b c of_p of_q of_r ab ac bc no_a no_b no_c = record {
     pairs (suc (suc i)) (suc (suc zero)) d less below = absurd (omega (arith, less))
     pairs (suc i) (suc (suc (suc j))) d less below = absurd (omega (arith, below))
 
+-- a chain that isn't found is none
 pub none_of : (x : Option ChainView) → is_some x ≡ false → x ≡ None
 none_of None none = refl
 none_of (Some chain) none = absurd cc

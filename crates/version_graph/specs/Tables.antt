@@ -25,9 +25,9 @@ with_chain v None chains = map.remove chains v
 with_chain v (Some chain) chains = map.insert chains v chain
 
 -- the finite map of a table
-abbrev pub held : List (Name × ChainView) → Chains
-held [] = map.empty
-held (slot ∷ rest) = with_chain slot.0 (with_updates (Some slot.1)) (held rest)
+abbrev pub chains_held : List (Name × ChainView) → Chains
+chains_held [] = map.empty
+chains_held (slot ∷ rest) = with_chain slot.0 (with_updates (Some slot.1)) (chains_held rest)
 
 -- the chain has a newest update that can be taken back
 abbrev pub HasNewest : Option ChainView → Type 0

@@ -4,8 +4,8 @@ ghost use Rattle.std.specs.Option.{option_map};
 ghost use Rattle.weave_data.specs.declared.name.Name.{Name};
 ghost use Rattle.vector_stamp.specs.declared.clock.Stamp.{Stamp};
 ghost use Rattle.vector_stamp.specs.Order.{is_at_most};
-ghost use Rattle.vector_stamp.specs.Precedence.{Given};
-ghost use Rattle.version_chain.specs.Collection.{collected};
+ghost use Rattle.vector_stamp.specs.Precedence.{GivenPair};
+ghost use Rattle.version_chain.specs.Collection.{collected_chain};
 ghost use Rattle.version_chain.specs.Views.{view_of};
 ghost use Rattle.version_graph.specs.Graphs.{chain_of, chain_or_new, after_parts, AreNextUpdates};
 
@@ -28,14 +28,14 @@ pub struct VersionGraph {
 impl Model for VersionGraph {
     ghost use Rattle.std.specs.FinMap as map;
     ghost use Rattle.version_graph.specs.Graphs.{Chains, coded_chain};
-    ghost use Rattle.version_graph.specs.Tables.{held};
+    ghost use Rattle.version_graph.specs.Tables.{chains_held};
     ghost use Rattle.graph_ops.specs.Codes.{coded_name};
 
     ghost Value = { Chains };
 
     ghost coded = { map.code coded_name coded_chain };
 
-    ghost view = { λ g. held g.table.entries };
+    ghost view = { λ g. chains_held g.table.entries };
 }
 
 impl VersionGraph {
@@ -80,8 +80,8 @@ impl VersionGraph {
 /// Collects each chain: its versions older than the newest one whose clock is before the bound are dropped.
 /// No view changes for a program whose clock the bound is at most. It takes no memory.
 pub fn collect_all(graph: &mut VersionGraph, bound: &Clock)
-    ensures chains { (v : Name) → chain_of graph.new v ≡ option_map (collected bound.now) (chain_of graph.old v) }
-    ensures views { (v : Name) (pairs : List Given) (program : Stamp) → IsTrue (is_at_most bound.now program.clock)
+    ensures chains { (v : Name) → chain_of graph.new v ≡ option_map (collected_chain bound.now) (chain_of graph.old v) }
+    ensures views { (v : Name) (pairs : List GivenPair) (program : Stamp) → IsTrue (is_at_most bound.now program.clock)
         → view_of pairs program (chain_or_new (chain_of graph.new v))
         ≡ view_of pairs program (chain_or_new (chain_of graph.old v)) }
 {

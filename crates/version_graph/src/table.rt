@@ -7,7 +7,7 @@ ghost use Rattle.weave_data.specs.declared.name.Name.{Name};
 ghost use Rattle.graph_ops.specs.declared.part.Part.{Part};
 ghost use Rattle.version_chain.specs.declared.version.Version.{Version};
 ghost use Rattle.version_chain.specs.Chains.{ChainView, with_version, IsNextUpdate, KeepsOne};
-ghost use Rattle.version_chain.specs.Collection.{collected};
+ghost use Rattle.version_chain.specs.Collection.{collected_chain};
 ghost use Rattle.version_graph.specs.Graphs.{chain_or_new, after_part, after_parts};
 ghost use Rattle.version_graph.specs.Tables.{chain_at, with_updates, at_vertex, HasNewest, WereApplied};
 
@@ -121,7 +121,7 @@ fn take_one_back(table: &mut Table, vertex: Name)
 /// Collects each chain.
 pub(crate) fn collect_each(table: &mut Table, bound: &Clock)
     ensures { (v : Name) → chain_at v table.new.entries
-        ≡ option_map (collected bound.now) (chain_at v table.old.entries) }
+        ≡ option_map (collected_chain bound.now) (chain_at v table.old.entries) }
 {
     collections_leave_views();
     // It writes to each chain, and removes none.

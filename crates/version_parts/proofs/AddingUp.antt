@@ -7,7 +7,7 @@ use Rattle.weave_data.specs.declared.name.Name.{Name}
 use Rattle.version_parts.specs.declared.edge.EdgeItems.{EdgeItems}
 use Rattle.version_parts.specs.declared.lists.Lists.{Lists}
 use Rattle.version_parts.specs.declared.track.Item.{Item}
-use Rattle.version_parts.specs.Counts.{total, count_items, count_edge, count_updates, count_of}
+use Rattle.version_parts.specs.Counts.{total, count_items, count_edge, count_updates, count_in_lists}
 use Rattle.version_parts.specs.Placed.{AreUpTo}
 use Rattle.version_parts.specs.States.{Tracks}
 use Rattle.version_parts.proofs.Placing.{lists_weaker, counts_agree}
@@ -32,11 +32,13 @@ module _ (test first second : ℕ → Bool) (parts : (n : ℕ) → cond (test n)
 none_pass : (lists : Lists) → count_updates (λ update. false) lists ≡ 0
 none_pass lists = let twice = lists_sum (λ update. false) (λ update. false) (λ update. false) (λ n. refl) lists in omega (arith, twice)
 
-pub all_counted : (newest : ℕ) (lists : Lists) → AreUpTo newest lists → count_updates (λ update. nat_le update newest) lists ≡ count_of lists
+-- if no item is of an update after the newest one, those of the updates up to it are all items of the vertex
+pub all_counted : (newest : ℕ) (lists : Lists) → AreUpTo newest lists → count_updates (λ update. nat_le update newest) lists ≡ count_in_lists lists
 all_counted newest lists within =
     counts_agree (λ update. nat_le update newest) (λ update. true) lists
     (lists_weaker (λ time. time.update ≤ newest) (λ time. nat_le time.update newest ≡ true) (λ time old. le-leb time.update newest old) lists within)
 
+-- if no item is of an update after the newest one, a later update has no items
 pub none_later : (newest update : ℕ) (lists : Lists) → newest < update → AreUpTo newest lists → count_updates (λ other. other == update) lists ≡ 0
 none_later newest update lists later within =
     counts_agree (λ other. other == update) (λ other. false) lists
@@ -64,5 +66,6 @@ one_update update n = elim (cases_lt update n) [
       ]
 ]
 
+-- the items of the updates up to the next one are those of the updates up to this one and those of the next
 pub one_more_update : (update : ℕ) (lists : Lists) → count_updates (λ other. nat_le other (update + 1)) lists ≡ count_updates (λ other. nat_le other update) lists + count_updates (λ other. other == update + 1) lists
 one_more_update update lists = lists_sum (λ other. nat_le other (update + 1)) (λ other. nat_le other update) (λ other. other == update + 1) (one_update update) lists

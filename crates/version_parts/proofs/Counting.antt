@@ -19,12 +19,12 @@ use Rattle.version_parts.specs.declared.lists.Lists.{Lists}
 use Rattle.version_parts.specs.declared.time.Time.{Time}
 use Rattle.version_parts.specs.declared.track.Item.{Item}
 use Rattle.version_parts.specs.Counts.{has_items, total, count_items, count_edge, count_updates, changes_of, size_of}
-use Rattle.version_parts.specs.Cuts.{left_items, cut_tracks, cut_edge, left_edge, cut_edges, cut_lists, until, collected}
+use Rattle.version_parts.specs.Cuts.{left_items, cut_tracks, cut_edge, left_edge, cut_edges, cut_lists, lists_until, collected_lists}
 use Rattle.version_parts.specs.KeptValues.{with_value, kept_values}
 use Rattle.version_parts.specs.Ordered.{TagsRise, KeysRise, KeysRiseFor}
-use Rattle.version_parts.specs.States.{Tracks, value_at, values_at, live_edge, edge_at, edges_at, record_at, state_at, items_or_none, with_item, edge_or_none, with_edge_item, with_item_of, with_op, Written, NoItem, OfVertex, OfProp, OfEdge, with_written, written_by}
+use Rattle.version_parts.specs.States.{Tracks, value_at, track_values_at, live_edge, edge_at, edges_at, record_at, state_at, items_or_none, with_item, edge_or_none, with_edge_item, with_item_of, with_op, WrittenItem, NoItem, OfVertex, OfProp, OfEdge, with_written, written_by}
 use Rattle.version_parts.specs.Times.{beginning}
-use Rattle.version_parts.specs.Tracks.{or_else, unless_later, last_at, shown, live_at, since_at, from_oldest, cut_items, inner_cut}
+use Rattle.version_parts.specs.Tracks.{or_else, unless_later, last_at, shown_value, live_at, since_at, from_oldest, cut_items, inner_cut}
 use Rattle.version_parts.proofs.KeptLaws.{none_above, above_less}
 use Rattle.version_parts.proofs.OneMore.{items_of_written, one_item}
 
@@ -36,6 +36,7 @@ of_option f (Some value) = f value
 -- Totals
 
 module _ {A : Type 0} (f : A → ℕ) where
+  -- where keys rise, a put adds the number of the new value to the total and takes off that of the old one
   pub total_put : (key : Name) (value : A) (es : List (Name × A)) → IsRising es → total f (put key value es) + of_option f (at_key key es) ≡ total f es + f value
   total_put key value [] rising = omega arith
   total_put key value (e ∷ es) rising =
@@ -50,6 +51,7 @@ module _ {A : Type 0} (f : A → ℕ) where
   with_total key (Some value) es = refl
 
 module _ {A B : Type 0} (f : B → ℕ) (h : A → Option B) where
+  -- if what is left of each value has the number that `g` gives the value, the total left is the total of `g`
   pub total_kept : (g : A → ℕ) → ((value : A) → of_option f (h value) ≡ g value) → (es : List (Name × A)) → total f (kept_values h es) ≡ total g es
   total_kept g same [] = refl
   total_kept g same (e ∷ es) =
@@ -57,6 +59,7 @@ module _ {A B : Type 0} (f : B → ℕ) (h : A → Option B) where
       let here = same e.1 in
       omega (arith, rest, here, with_total f e.0 (h e.1) (kept_values h es))
 
+  -- if what is left of each value has at most the number that `g` gives the value, so have the totals
   pub total_less : (g : A → ℕ) → ((value : A) → of_option f (h value) ≤ g value) → (es : List (Name × A)) → total f (kept_values h es) ≤ total g es
   total_less g less [] = omega arith
   total_less g less (e ∷ es) =
@@ -64,6 +67,7 @@ module _ {A B : Type 0} (f : B → ℕ) (h : A → Option B) where
       let here = less e.1 in
       omega (arith, rest, here, with_total f e.0 (h e.1) (kept_values h es))
 
+  -- if one function leaves of each value at most as much as another does, the same is true of the totals
   pub totals_less : {C : Type 0} (g : C → ℕ) (v : A → Option C) → ((value : A) → of_option f (h value) ≤ of_option g (v value)) → (es : List (Name × A)) → total f (kept_values h es) ≤ total g (kept_values v es)
   totals_less g v less [] = omega arith
   totals_less g v less (e ∷ es) =
@@ -84,10 +88,12 @@ total_split {A} f es place e inside is =
 -- One list
 
 module _ {X : Type 0} where
+  -- an item at the end adds one to the count of a test that its update passes, and nothing to others
   pub count_push : (test : ℕ → Bool) (items : List (Item X)) (item : Item X) → count_items test (items ++ item ∷ []) ≡ count_items test items + cond (test item.time.update) 1 0
   count_push test [] item = omega arith
   count_push test (first ∷ rest) item = let more = count_push test rest item in omega (arith, more)
 
+  -- a test that every update passes counts all items of a list
   pub count_all : (items : List (Item X)) → count_items (λ update. true) items ≡ length items
   count_all [] = refl
   count_all (item ∷ rest) = let more = count_all rest in omega (arith, more)
@@ -113,14 +119,15 @@ module _ {X : Type 0} where
   count_older test oldest since [] = omega arith
   count_older test oldest since (item ∷ rest) =
       let more : count_items test (from_oldest oldest since rest) ≤ count_items test rest = count_older test oldest since rest in
-      elim (is_some (last_at oldest rest)) as (λ b. count_items test (cond b (from_oldest oldest since rest) (cond (nat_le item.time.update oldest && not (is_some (shown since item))) rest (item ∷ rest))) ≤ cond (test item.time.update) 1 0 + count_items test rest) [
+      elim (is_some (last_at oldest rest)) as (λ b. count_items test (cond b (from_oldest oldest since rest) (cond (nat_le item.time.update oldest && not (is_some (shown_value since item))) rest (item ∷ rest))) ≤ cond (test item.time.update) 1 0 + count_items test rest) [
         | true ↦ omega (arith, more)
-        | false ↦ elim (nat_le item.time.update oldest && not (is_some (shown since item))) as (λ b. count_items test (cond b rest (item ∷ rest)) ≤ cond (test item.time.update) 1 0 + count_items test rest) [
+        | false ↦ elim (nat_le item.time.update oldest && not (is_some (shown_value since item))) as (λ b. count_items test (cond b rest (item ∷ rest)) ≤ cond (test item.time.update) 1 0 + count_items test rest) [
           | true ↦ omega arith
           | false ↦ omega arith
         ]
       ]
 
+  -- a cut leaves at most as many items that pass a test as there were
   pub count_cut : (cut : Cut) (test : ℕ → Bool) (items : List (Item X)) → count_items test (cut_items cut items) ≤ count_items test items
   count_cut (Older oldest since) test items = count_older test oldest since items
   count_cut (Newer newest) test [] = omega arith
@@ -149,23 +156,23 @@ module _ {X : Type 0} where
   old_left : (oldest : ℕ) (since : Option Time) (items : List (Item X)) → count_items (λ update. nat_le update oldest) (from_oldest oldest since items) ≤ of_option (λ (live : Time × X). 1) (live_at oldest since items)
   old_left oldest since [] = omega arith
   old_left oldest since (item ∷ rest) =
-      elim (is_some (last_at oldest rest)) as (λ b. is_some (last_at oldest rest) ≡ b → count_items (λ update. nat_le update oldest) (cond b (from_oldest oldest since rest) (cond (nat_le item.time.update oldest && not (is_some (shown since item))) rest (item ∷ rest))) ≤ of_option (λ (live : Time × X). 1) (option_and_then (shown since) (or_else (last_at oldest rest) (unless_later oldest item)))) [
-        | true ↦ λ e. subst (λ (o : Option (Item X)). count_items (λ update. nat_le update oldest) (from_oldest oldest since rest) ≤ of_option (λ (live : Time × X). 1) (option_and_then (shown since) o)) (over (last_at oldest rest) e) (old_left oldest since rest)
-        | false ↦ λ e. alone (none_old oldest rest e) (last_at oldest rest) e (nat_le item.time.update oldest) refl (shown since item) refl
+      elim (is_some (last_at oldest rest)) as (λ b. is_some (last_at oldest rest) ≡ b → count_items (λ update. nat_le update oldest) (cond b (from_oldest oldest since rest) (cond (nat_le item.time.update oldest && not (is_some (shown_value since item))) rest (item ∷ rest))) ≤ of_option (λ (live : Time × X). 1) (option_and_then (shown_value since) (or_else (last_at oldest rest) (unless_later oldest item)))) [
+        | true ↦ λ e. subst (λ (o : Option (Item X)). count_items (λ update. nat_le update oldest) (from_oldest oldest since rest) ≤ of_option (λ (live : Time × X). 1) (option_and_then (shown_value since) o)) (over (last_at oldest rest) e) (old_left oldest since rest)
+        | false ↦ λ e. alone (none_old oldest rest e) (last_at oldest rest) e (nat_le item.time.update oldest) refl (shown_value since item) refl
       ] refl
     where
       over : (o : Option (Item X)) → is_some o ≡ true → o ≡ or_else o (unless_later oldest item)
       over None some = absurd cc
       over (Some other) some = refl
 
-      alone : count_items (λ update. nat_le update oldest) rest ≡ 0 → (o : Option (Item X)) → is_some o ≡ false → (b : Bool) → nat_le item.time.update oldest ≡ b → (says : Option (Time × X)) → shown since item ≡ says
-          → count_items (λ update. nat_le update oldest) (cond (b && not (is_some says)) rest (item ∷ rest)) ≤ of_option (λ (live : Time × X). 1) (option_and_then (shown since) (or_else o (cond b (Some item) None)))
+      alone : count_items (λ update. nat_le update oldest) rest ≡ 0 → (o : Option (Item X)) → is_some o ≡ false → (b : Bool) → nat_le item.time.update oldest ≡ b → (says : Option (Time × X)) → shown_value since item ≡ says
+          → count_items (λ update. nat_le update oldest) (cond (b && not (is_some says)) rest (item ∷ rest)) ≤ of_option (λ (live : Time × X). 1) (option_and_then (shown_value since) (or_else o (cond b (Some item) None)))
       alone none (Some other) gone b old says is = absurd cc
       alone none None gone false old says is = let here : cond {A = ℕ} (nat_le item.time.update oldest) 1 0 ≡ 0 = ap (λ b. cond b 1 0) old in omega (arith, none, here)
       alone none None gone true old None is = omega (arith, none)
       alone none None gone true old (Some live) is =
           let here : cond {A = ℕ} (nat_le item.time.update oldest) 1 0 ≡ 1 = ap (λ b. cond b 1 0) old in
-          let one : of_option (λ (l : Time × X). 1) (shown since item) ≡ 1 = ap (of_option (λ (l : Time × X). 1)) is in
+          let one : of_option (λ (l : Time × X). 1) (shown_value since item) ≡ 1 = ap (of_option (λ (l : Time × X). 1)) is in
           omega (arith, none, here, one)
 
 -- An operation
@@ -200,13 +207,14 @@ no_change : (b : Bool) (n : ℕ) → n ≡ n + cond b 0 0
 no_change true n = omega arith
 no_change false n = omega arith
 
-written_count : (test : ℕ → Bool) (time : Time) (written : Written) (lists : Lists) → IsRising {X = List (Item Name)} [] → KeysRiseFor written lists
+written_count : (test : ℕ → Bool) (time : Time) (written : WrittenItem) (lists : Lists) → IsRising {X = List (Item Name)} [] → KeysRiseFor written lists
     → count_updates test (with_written time written lists) ≡ count_updates test lists + cond (test time.update) (items_of_written written) 0
 written_count test time NoItem lists none rise = no_change (test time.update) (count_updates test lists)
 written_count test time (OfVertex value) lists none rise = omega (arith, count_push test lists.presence (record { time = time; value = value }))
 written_count test time (OfProp key value) lists none rise = omega (arith, tracks_count test key (record { time = time; value = value }) lists.props rise)
 written_count test time (OfEdge name tag value) lists none rise = omega (arith, edges_count test name tag (record { time = time; value = value }) lists.edges none rise)
 
+-- where keys rise, an operation that isn't a read adds one item of its update; a read adds none
 pub op_count : (test : ℕ → Bool) (time : Time) (op : Op) (lists : Lists) → IsRising {X = List (Item Name)} [] → KeysRise op lists → count_updates test (with_op time op lists) ≡ count_updates test lists + cond (test time.update) (changes_of op) 0
 op_count test time op lists none rise =
     written_count test time (written_by op) lists none rise
@@ -231,7 +239,8 @@ edges_newer test newest edges = total_kept (count_edge test) (left_edge (Newer n
     left_edge_count test (cut_items (Newer newest) edge.targets) (cut_tracks (Newer newest) edge.tags)
     ∙ (λ i. count_newer test newest edge.targets i + tracks_newer test newest edge.tags i)) edges
 
-pub until_count : (test : ℕ → Bool) (newest : ℕ) (lists : Lists) → count_updates test (until newest lists) ≡ count_updates (λ update. test update && nat_le update newest) lists
+-- when the items after an update are dropped, a test counts those up to it that passed before
+pub until_count : (test : ℕ → Bool) (newest : ℕ) (lists : Lists) → count_updates test (lists_until newest lists) ≡ count_updates (λ update. test update && nat_le update newest) lists
 until_count test newest lists = λ i. count_newer test newest lists.presence i + (tracks_newer test newest lists.props i + edges_newer test newest lists.edges i)
 
 tracks_less : (cut : Cut) (test : ℕ → Bool) (tracks : Tracks) → total (count_items test) (cut_tracks cut tracks) ≤ total (count_items test) tracks
@@ -241,18 +250,19 @@ edges_less : (cut : Cut) (test : ℕ → Bool) (edges : List (Name × EdgeItems)
 edges_less cut test edges = total_less (count_edge test) (left_edge cut) (count_edge test) (λ edge.
     omega (arith, left_edge_count test (cut_items cut edge.targets) (cut_tracks (inner_cut cut edge.targets) edge.tags), count_cut cut test edge.targets, tracks_less (inner_cut cut edge.targets) test edge.tags)) edges
 
+-- a cut of a vertex leaves at most as many of its items that pass a test as there were
 pub cut_count : (cut : Cut) (test : ℕ → Bool) (lists : Lists) → count_updates test (cut_lists cut lists) ≤ count_updates test lists
 cut_count cut test lists = omega (arith, count_cut cut test lists.presence, tracks_less (inner_cut cut lists.presence) test lists.props, edges_less (inner_cut cut lists.presence) test lists.edges)
 
 -- What a collection leaves of old items
 
-none_since : {X : Type 0} (update : ℕ) (o : Option (Item X)) → option_and_then (shown None) o ≡ None
+none_since : {X : Type 0} (update : ℕ) (o : Option (Item X)) → option_and_then (shown_value None) o ≡ None
 none_since update None = refl
 none_since update (Some item) = refl
 
-values_none : (update : ℕ) (tracks : Tracks) → values_at update None tracks ≡ []
+values_none : (update : ℕ) (tracks : Tracks) → track_values_at update None tracks ≡ []
 values_none update [] = refl
-values_none update (pair ∷ rest) = ap (λ (o : Option (Time × Name)). with_value pair.0 (option_map (λ (live : Time × Name). live.1) o) (values_at update None rest)) (none_since update (last_at update pair.1)) ∙ values_none update rest
+values_none update (pair ∷ rest) = ap (λ (o : Option (Time × Name)). with_value pair.0 (option_map (λ (live : Time × Name). live.1) o) (track_values_at update None rest)) (none_since update (last_at update pair.1)) ∙ values_none update rest
 
 edges_none : (update : ℕ) (edges : List (Name × EdgeItems)) → edges_at update None edges ≡ []
 edges_none update [] = refl
@@ -262,37 +272,38 @@ one_value : (o : Option (Time × Name)) → of_option (λ (live : Time × Name).
 one_value None = refl
 one_value (Some live) = refl
 
-tracks_old : (oldest : ℕ) (since : Option Time) (tracks : Tracks) → total (count_items (λ update. nat_le update oldest)) (cut_tracks (Older oldest since) tracks) ≤ length (values_at oldest since tracks)
+tracks_old : (oldest : ℕ) (since : Option Time) (tracks : Tracks) → total (count_items (λ update. nat_le update oldest)) (cut_tracks (Older oldest since) tracks) ≤ length (track_values_at oldest since tracks)
 tracks_old oldest since tracks =
     let less = totals_less (count_items (λ update. nat_le update oldest)) (left_items (Older oldest since)) (λ (value : Name). 1) (value_at oldest since) (λ items.
     omega (arith, left_count (λ update. nat_le update oldest) (from_oldest oldest since items), old_left oldest since items, one_value (live_at oldest since items))) tracks in
-    omega (arith, less, total_ones (values_at oldest since tracks))
+    omega (arith, less, total_ones (track_values_at oldest since tracks))
 
 edge_old : (oldest : ℕ) (since : Option Time) (edge : EdgeItems) → count_edge (λ update. nat_le update oldest) (cut_edge (Older oldest since) edge) ≤ of_option (λ (found : Edge). 1 + length found.tags) (edge_at oldest since edge)
 edge_old oldest since edge =
     let tags = tracks_old oldest (since_at oldest since edge.targets) edge.tags in
     by (live_at oldest since edge.targets) (old_left oldest since edge.targets) tags
   where
-    by : (o : Option (Time × Name)) {n m : ℕ} → n ≤ of_option (λ (live : Time × Name). 1) o → m ≤ length (values_at oldest (option_map (λ (live : Time × Name). live.0) o) edge.tags) → n + m ≤ of_option (λ (found : Edge). 1 + length found.tags) (option_map (live_edge oldest edge.tags) o)
-    by None first second = let none : length (values_at oldest None edge.tags) ≡ 0 = ap length (values_none oldest edge.tags) in omega (arith, first, second, none)
+    by : (o : Option (Time × Name)) {n m : ℕ} → n ≤ of_option (λ (live : Time × Name). 1) o → m ≤ length (track_values_at oldest (option_map (λ (live : Time × Name). live.0) o) edge.tags) → n + m ≤ of_option (λ (found : Edge). 1 + length found.tags) (option_map (live_edge oldest edge.tags) o)
+    by None first second = let none : length (track_values_at oldest None edge.tags) ≡ 0 = ap length (values_none oldest edge.tags) in omega (arith, first, second, none)
     by (Some live) first second = omega (arith, first, second)
 
 edges_old : (oldest : ℕ) (since : Option Time) (edges : List (Name × EdgeItems)) → total (count_edge (λ update. nat_le update oldest)) (cut_edges (Older oldest since) edges) ≤ total (λ (found : Edge). 1 + length found.tags) (edges_at oldest since edges)
 edges_old oldest since edges = totals_less (count_edge (λ update. nat_le update oldest)) (left_edge (Older oldest since)) (λ (found : Edge). 1 + length found.tags) (edge_at oldest since) (λ edge.
     omega (arith, left_edge_count (λ update. nat_le update oldest) (from_oldest oldest since edge.targets) (cut_tracks (Older oldest (since_at oldest since edge.targets)) edge.tags), edge_old oldest since edge)) edges
 
-pub collected_old : (oldest : ℕ) (lists : Lists) → count_updates (λ update. nat_le update oldest) (collected oldest lists) ≤ size_of (state_at oldest lists)
+-- of the updates up to the oldest, a collection leaves at most as many items as the state after it has parts
+pub collected_old : (oldest : ℕ) (lists : Lists) → count_updates (λ update. nat_le update oldest) (collected_lists oldest lists) ≤ size_of (state_at oldest lists)
 collected_old oldest lists =
     by (live_at oldest (Some beginning) lists.presence) (old_left oldest (Some beginning) lists.presence)
     (tracks_old oldest (since_at oldest (Some beginning) lists.presence) lists.props)
     (edges_old oldest (since_at oldest (Some beginning) lists.presence) lists.edges)
   where
     by : (o : Option (Time × Unit {0})) {n m k : ℕ} → n ≤ of_option (λ (live : Time × Unit {0}). 1) o
-        → m ≤ length (values_at oldest (option_map (λ (live : Time × Unit {0}). live.0) o) lists.props)
+        → m ≤ length (track_values_at oldest (option_map (λ (live : Time × Unit {0}). live.0) o) lists.props)
         → k ≤ total (λ (found : Edge). 1 + length found.tags) (edges_at oldest (option_map (λ (live : Time × Unit {0}). live.0) o) lists.edges)
         → n + (m + k) ≤ size_of (option_map (λ (live : Time × Unit {0}). record_at oldest (Some live.0) lists) o)
     by None first second third =
-        let none : length (values_at oldest None lists.props) ≡ 0 = ap length (values_none oldest lists.props) in
+        let none : length (track_values_at oldest None lists.props) ≡ 0 = ap length (values_none oldest lists.props) in
         let no_edges : total (λ (found : Edge). 1 + length found.tags) (edges_at oldest None lists.edges) ≡ 0 = ap (total (λ (found : Edge). 1 + length found.tags)) (edges_none oldest lists.edges) in
         omega (arith, first, second, third, none, no_edges)
     by (Some live) first second third = omega (arith, first, second, third)

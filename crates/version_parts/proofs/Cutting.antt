@@ -12,11 +12,11 @@ use Rattle.version_parts.specs.declared.lists.Lists.{Lists}
 use Rattle.version_parts.specs.declared.time.Time.{Time}
 use Rattle.version_parts.specs.declared.track.Item.{Item}
 use Rattle.version_parts.specs.Counts.{has_items}
-use Rattle.version_parts.specs.Cuts.{left_items, cut_tracks, cut_edge, left_edge, cut_edges, cut_lists, until, collected}
-use Rattle.version_parts.specs.States.{Tracks, value_at, values_at, live_edge, edge_at, edges_at, record_at, state_at}
+use Rattle.version_parts.specs.Cuts.{left_items, cut_tracks, cut_edge, left_edge, cut_edges, cut_lists, lists_until, collected_lists}
+use Rattle.version_parts.specs.States.{Tracks, value_at, track_values_at, live_edge, edge_at, edges_at, record_at, state_at}
 use Rattle.version_parts.specs.Staying.{StaysHidden, Spares}
 use Rattle.version_parts.specs.Times.{beginning, is_later, counts}
-use Rattle.version_parts.specs.Tracks.{or_else, unless_later, last_at, shown, live_at, since_at, from_oldest, cut_items, inner_cut}
+use Rattle.version_parts.specs.Tracks.{or_else, unless_later, last_at, shown_value, live_at, since_at, from_oldest, cut_items, inner_cut}
 use Rattle.version_parts.proofs.KeptLaws.{kept_alike, kept_twice}
 use Rattle.version_parts.proofs.OneMore.{made_edge, made_record}
 use Rattle.version_parts.proofs.Pushing.{not_later}
@@ -71,9 +71,9 @@ module _ {X : Type 0} where
       alone (Some other) old none b h = absurd (let found = found_on oldest update on rest (ap is_some old) in let gone = ap is_some none in cc)
 
   -- an item that isn't shown, later
-  stays_hidden : (oldest : ℕ) (since later_since : Option Time) (item : Item X) → item.time.update ≤ oldest → StaysHidden oldest since later_since → is_some (shown since item) ≡ false → shown later_since item ≡ None
+  stays_hidden : (oldest : ℕ) (since later_since : Option Time) (item : Item X) → item.time.update ≤ oldest → StaysHidden oldest since later_since → is_some (shown_value since item) ≡ false → shown_value later_since item ≡ None
   stays_hidden oldest since later_since item old hides hidden =
-      elim (counts since item.time) as (λ b. counts since item.time ≡ b → is_some (cond b (option_map {U = Time × X} (λ (x : X). (item.time, x)) item.value) None) ≡ false → shown later_since item ≡ None) [
+      elim (counts since item.time) as (λ b. counts since item.time ≡ b → is_some (cond b (option_map {U = Time × X} (λ (x : X). (item.time, x)) item.value) None) ≡ false → shown_value later_since item ≡ None) [
         | true ↦ λ e h. no_value item.value h
         | false ↦ λ e h. ap (λ b. cond b (option_map {U = Time × X} (λ (x : X). (item.time, x)) item.value) None) (hides item.time old e)
       ] refl hidden
@@ -99,10 +99,10 @@ module _ {X : Type 0} where
   older_stay : (oldest : ℕ) (oldest_since since : Option Time) (update : ℕ) → oldest ≤ update → StaysHidden oldest oldest_since since → (items : List (Item X)) → live_at update since (from_oldest oldest oldest_since items) ≡ live_at update since items
   older_stay oldest oldest_since since update on hides [] = refl
   older_stay oldest oldest_since since update on hides (item ∷ rest) =
-      elim (is_some (last_at oldest rest)) as (λ b. is_some (last_at oldest rest) ≡ b → live_at update since (cond b (from_oldest oldest oldest_since rest) (cond (nat_le item.time.update oldest && not (is_some (shown oldest_since item))) rest (item ∷ rest))) ≡ option_and_then (shown since) (or_else (last_at update rest) (unless_later update item))) [
-        | true ↦ λ e. older_stay oldest oldest_since since update on hides rest ∙ ap (option_and_then (shown since)) (over (last_at update rest) (found_on oldest update on rest e))
-        | false ↦ λ e. elim (nat_le item.time.update oldest && not (is_some (shown oldest_since item))) as (λ b. (nat_le item.time.update oldest && not (is_some (shown oldest_since item))) ≡ b → live_at update since (cond b rest (item ∷ rest)) ≡ option_and_then (shown since) (or_else (last_at update rest) (unless_later update item))) [
-          | true ↦ λ gone. dropped (and_parts (nat_le item.time.update oldest) (not (is_some (shown oldest_since item))) gone)
+      elim (is_some (last_at oldest rest)) as (λ b. is_some (last_at oldest rest) ≡ b → live_at update since (cond b (from_oldest oldest oldest_since rest) (cond (nat_le item.time.update oldest && not (is_some (shown_value oldest_since item))) rest (item ∷ rest))) ≡ option_and_then (shown_value since) (or_else (last_at update rest) (unless_later update item))) [
+        | true ↦ λ e. older_stay oldest oldest_since since update on hides rest ∙ ap (option_and_then (shown_value since)) (over (last_at update rest) (found_on oldest update on rest e))
+        | false ↦ λ e. elim (nat_le item.time.update oldest && not (is_some (shown_value oldest_since item))) as (λ b. (nat_le item.time.update oldest && not (is_some (shown_value oldest_since item))) ≡ b → live_at update since (cond b rest (item ∷ rest)) ≡ option_and_then (shown_value since) (or_else (last_at update rest) (unless_later update item))) [
+          | true ↦ λ gone. dropped (and_parts (nat_le item.time.update oldest) (not (is_some (shown_value oldest_since item))) gone)
           | false ↦ λ stays. refl
         ] refl
       ] refl
@@ -115,22 +115,23 @@ module _ {X : Type 0} where
       not_true true h = absurd cc
       not_true false h = refl
 
-      alone : (o : Option (Item X)) → unless_later update item ≡ Some item → shown since item ≡ None → option_and_then (shown since) o ≡ option_and_then (shown since) (or_else o (unless_later update item))
-      alone None here hidden = sym (ap (option_and_then (shown since)) here ∙ hidden)
+      alone : (o : Option (Item X)) → unless_later update item ≡ Some item → shown_value since item ≡ None → option_and_then (shown_value since) o ≡ option_and_then (shown_value since) (or_else o (unless_later update item))
+      alone None here hidden = sym (ap (option_and_then (shown_value since)) here ∙ hidden)
       alone (Some other) here hidden = refl
 
-      dropped : (nat_le item.time.update oldest ≡ true) × (not (is_some (shown oldest_since item)) ≡ true) → live_at update since rest ≡ option_and_then (shown since) (or_else (last_at update rest) (unless_later update item))
+      dropped : (nat_le item.time.update oldest ≡ true) × (not (is_some (shown_value oldest_since item)) ≡ true) → live_at update since rest ≡ option_and_then (shown_value since) (or_else (last_at update rest) (unless_later update item))
       dropped facts =
           let old = leb-true item.time.update oldest facts.0 in
-          alone (last_at update rest) (in_time update item (omega (arith, old, on))) (stays_hidden oldest oldest_since since item old hides (not_true (is_some (shown oldest_since item)) facts.1))
+          alone (last_at update rest) (in_time update item (omega (arith, old, on))) (stays_hidden oldest oldest_since since item old hides (not_true (is_some (shown_value oldest_since item)) facts.1))
 
+  -- what a part is after an update that the cut spares stays as it was
   pub live_stays : (cut : Cut) (update : ℕ) (since : Option Time) (items : List (Item X)) → Spares cut update since → live_at update since (cut_items cut items) ≡ live_at update since items
-  live_stays (Newer newest) update since items spares = ap (option_and_then (shown since)) (newer_stay newest update spares items)
+  live_stays (Newer newest) update since items spares = ap (option_and_then (shown_value since)) (newer_stay newest update spares items)
   live_stays (Older oldest oldest_since) update since items spares = older_stay oldest oldest_since since update spares.0 spares.1 items
 
   -- what a live item is
 
-  shown_says : (since : Option Time) (item : Item X) (live : Time × X) → shown since item ≡ Some live → (item.time ≡ live.0) × (is_some (shown since item) ≡ true)
+  shown_says : (since : Option Time) (item : Item X) (live : Time × X) → shown_value since item ≡ Some live → (item.time ≡ live.0) × (is_some (shown_value since item) ≡ true)
   shown_says since item live is = (by (counts since item.time) is, ap is_some is)
     where
       time_of : (value : Option X) → option_map {U = Time × X} (λ (x : X). (item.time, x)) value ≡ Some live → item.time ≡ live.0
@@ -148,19 +149,19 @@ module _ {X : Type 0} where
   -- the parts of a part that is there, since it is
   hides_inner : (oldest : ℕ) (oldest_since since : Option Time) (update : ℕ) → oldest ≤ update → StaysHidden oldest oldest_since since → (items : List (Item X)) (live : Time × X) → live_at update since items ≡ Some live → StaysHidden oldest (since_at oldest oldest_since items) (Some live.0)
   hides_inner oldest oldest_since since update on hides items live is time old hidden =
-      elim (last_at update items) as (λ (o : Option (Item X)). last_at update items ≡ o → option_and_then (shown since) o ≡ Some live → is_later time live.0 ≡ false) [
+      elim (last_at update items) as (λ (o : Option (Item X)). last_at update items ≡ o → option_and_then (shown_value since) o ≡ Some live → is_later time live.0 ≡ false) [
         | None ↦ λ e h. absurd cc
         | Some item ↦ λ e h. elim (last_moves oldest update on items item e) [
-          | inl same ↦ by_same item same h (is_some (shown oldest_since item)) refl (nat_le item.time.update oldest) refl
+          | inl same ↦ by_same item same h (is_some (shown_value oldest_since item)) refl (nat_le item.time.update oldest) refl
           | inr more ↦ not_later time live.0 (let at = (shown_says since item live h).0 in inl (let below : time.update < item.time.update = omega (arith, old, more) in subst (λ (t : Time). time.update < t.update) at below))
         ]
       ] refl is
     where
-      by_same : (item : Item X) → last_at oldest items ≡ Some item → shown since item ≡ Some live → (b : Bool) → is_some (shown oldest_since item) ≡ b → (early : Bool) → nat_le item.time.update oldest ≡ early → is_later time live.0 ≡ false
+      by_same : (item : Item X) → last_at oldest items ≡ Some item → shown_value since item ≡ Some live → (b : Bool) → is_some (shown_value oldest_since item) ≡ b → (early : Bool) → nat_le item.time.update oldest ≡ early → is_later time live.0 ≡ false
       by_same item same shows true some before before_is =
           let since_same : since_at oldest oldest_since items ≡ Some item.time =
-          ap (λ (o : Option (Item X)). option_map (λ (l : Time × X). l.0) (option_and_then (shown oldest_since) o)) same
-          ∙ since_is (shown oldest_since item) item.time some (λ l e. (shown_says oldest_since item l e).0) in
+          ap (λ (o : Option (Item X)). option_map (λ (l : Time × X). l.0) (option_and_then (shown_value oldest_since) o)) same
+          ∙ since_is (shown_value oldest_since item) item.time some (λ l e. (shown_says oldest_since item l e).0) in
           let at = (shown_says since item live shows).0 in
           sym (ap (λ (s : Option Time). counts s time) (since_same ∙ ap Some at)) ∙ hidden
       by_same item same shows false none true before =
@@ -178,7 +179,7 @@ value_left : (update : ℕ) (since : Option Time) (items : List (Item Name)) →
 value_left update since [] = refl
 value_left update since (item ∷ rest) = refl
 
-values_stay : (cut : Cut) (update : ℕ) (since : Option Time) (tracks : Tracks) → Spares cut update since → values_at update since (cut_tracks cut tracks) ≡ values_at update since tracks
+values_stay : (cut : Cut) (update : ℕ) (since : Option Time) (tracks : Tracks) → Spares cut update since → track_values_at update since (cut_tracks cut tracks) ≡ track_values_at update since tracks
 values_stay cut update since tracks spares =
     kept_twice (left_items cut) (value_at update since) tracks
     ∙ kept_alike (λ (items : List (Item Name)). option_and_then (value_at update since) (left_items cut items)) (value_at update since) (λ items.
@@ -214,13 +215,15 @@ state_stays cut update lists spares =
       | None ↦ λ e. refl
       | Some live ↦ λ e.
           let inner : Spares (inner_cut cut lists.presence) update (Some live.0) = inner_spares cut update (Some beginning) lists.presence live spares e in
-          let props : values_at update (Some live.0) (cut_tracks (inner_cut cut lists.presence) lists.props) ≡ values_at update (Some live.0) lists.props = values_stay (inner_cut cut lists.presence) update (Some live.0) lists.props inner in
+          let props : track_values_at update (Some live.0) (cut_tracks (inner_cut cut lists.presence) lists.props) ≡ track_values_at update (Some live.0) lists.props = values_stay (inner_cut cut lists.presence) update (Some live.0) lists.props inner in
           let edges : edges_at update (Some live.0) (cut_edges (inner_cut cut lists.presence) lists.edges) ≡ edges_at update (Some live.0) lists.edges = edges_stay (inner_cut cut lists.presence) update (Some live.0) lists.edges inner in
           λ i. Some (made_record (props i) (edges i))
     ] refl
 
-pub until_stays : (newest update : ℕ) (lists : Lists) → update ≤ newest → state_at update (until newest lists) ≡ state_at update lists
+-- dropping the items after an update leaves the state after it, and after each before it, as it was
+pub until_stays : (newest update : ℕ) (lists : Lists) → update ≤ newest → state_at update (lists_until newest lists) ≡ state_at update lists
 until_stays newest update lists within = state_stays (Newer newest) update lists within
 
-pub collected_stays : (oldest update : ℕ) (lists : Lists) → oldest ≤ update → state_at update (collected oldest lists) ≡ state_at update lists
+-- a collection leaves the state after the oldest update, and after each later one, as it was
+pub collected_stays : (oldest update : ℕ) (lists : Lists) → oldest ≤ update → state_at update (collected_lists oldest lists) ≡ state_at update lists
 collected_stays oldest update lists on = state_stays (Older oldest (Some beginning)) update lists (on, λ time old hidden. hidden)

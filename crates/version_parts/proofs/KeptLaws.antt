@@ -14,7 +14,7 @@ use Rattle.std.specs.Option.{option_and_then}
 use Rattle.std.proofs.lemmas.Map.Keys.{sorted_head, sorted_tail}
 use Rattle.weave_data.specs.declared.name.Name.{Name}
 use Rattle.weave_data.specs.Names.{name_cmp}
-use Rattle.weave_data.specs.Pairs.{IsRising, at_key, put, without}
+use Rattle.weave_data.specs.Pairs.{IsRising, at_key, put, without_key}
 use Rattle.version_parts.specs.KeptValues.{with_value, with_change, kept_values}
 
 weaker : {P Q : Name → Type 0} → ((k : Name) → P k → Q k) → (ks : List Name) → AllByRecursion P ks → AllByRecursion Q ks
@@ -36,6 +36,7 @@ one_key a b equal = slice_cmp-IsAntisymmetric nat_cmp-IsAntisymmetric a b equal
 abbrev pub AreAbove : {X : Type 0} → Name → List (Name × X) → Type 0
 AreAbove key pairs = AllByRecursion (λ k. name_cmp key k ≡ Less) (keys_of pairs)
 
+-- where keys rise, a key below the first one is below them all
 pub above_less : {X : Type 0} (key : Name) (e : Name × X) (es : List (Name × X)) → IsRising (e ∷ es) → name_cmp key e.0 ≡ Less → AreAbove key (e ∷ es)
 above_less key e es rising less = (less, weaker (λ k above. nat_list_cmp_total.trans key e.0 k less above) (keys_of es) (sorted_head name_cmp e.0 (keys_of es) rising))
 
@@ -47,10 +48,11 @@ module _ {X : Type 0} (key : Name) where
   put_above value [] above = refl
   put_above value (e ∷ es) above = ap (λ o. match_ordering o ((key, value) ∷ e ∷ es) ((e.0, value) ∷ es) (e ∷ put key value es)) above.0
 
-  without_above : (pairs : List (Name × X)) → AreAbove key pairs → without key pairs ≡ pairs
+  without_above : (pairs : List (Name × X)) → AreAbove key pairs → without_key key pairs ≡ pairs
   without_above [] above = refl
-  without_above (e ∷ es) above = ap (λ o. cond (is_eq o) es (e ∷ without key es)) above.0 ∙ ap (λ rest. e ∷ rest) (without_above es above.1)
+  without_above (e ∷ es) above = ap (λ o. cond (is_eq o) es (e ∷ without_key key es)) above.0 ∙ ap (λ rest. e ∷ rest) (without_above es above.1)
 
+  -- at a key that is below all keys of a map there is no value
   pub none_above : (pairs : List (Name × X)) → AreAbove key pairs → at_key key pairs ≡ None
   none_above [] above = refl
   none_above (e ∷ es) above = ap (λ o. cond (is_eq o) (Some e.1) (at_key key es)) above.0 ∙ none_above es above.1
@@ -61,13 +63,13 @@ module _ {X : Type 0} (key : Name) where
 
   change_here : (k : Name) (change old : Option X) (pairs : List (Name × X)) → name_cmp key k ≡ Equal → AreAbove key pairs → with_value k change pairs ≡ with_change key change (with_value k old pairs)
   change_here k None None pairs equal above = sym (without_above pairs above)
-  change_here k None (Some was) pairs equal above = sym (ap (λ o. cond (is_eq o) pairs ((k, was) ∷ without key pairs)) equal)
+  change_here k None (Some was) pairs equal above = sym (ap (λ o. cond (is_eq o) pairs ((k, was) ∷ without_key key pairs)) equal)
   change_here k (Some now) None pairs equal above = ap (λ (q : Name). (q, now) ∷ pairs) (sym (one_key key k equal)) ∙ sym (put_above now pairs above)
   change_here k (Some now) (Some was) pairs equal above = sym (ap (λ o. match_ordering o ((key, now) ∷ (k, was) ∷ pairs) ((k, now) ∷ pairs) ((k, was) ∷ put key now pairs)) equal)
 
   change_past : (k : Name) (change old : Option X) (pairs : List (Name × X)) → name_cmp key k ≡ Greater → with_value k old (with_change key change pairs) ≡ with_change key change (with_value k old pairs)
   change_past k change None pairs greater = refl
-  change_past k None (Some was) pairs greater = sym (ap (λ o. cond (is_eq o) pairs ((k, was) ∷ without key pairs)) greater)
+  change_past k None (Some was) pairs greater = sym (ap (λ o. cond (is_eq o) pairs ((k, was) ∷ without_key key pairs)) greater)
   change_past k (Some now) (Some was) pairs greater = sym (ap (λ o. match_ordering o ((key, now) ∷ (k, was) ∷ pairs) ((k, now) ∷ pairs) ((k, was) ∷ put key now pairs)) greater)
 
   value_here : (k : Name) (value : Option X) (pairs : List (Name × X)) → name_cmp key k ≡ Equal → at_key key pairs ≡ None → at_key key (with_value k value pairs) ≡ value
@@ -157,6 +159,7 @@ module _ {A B : Type 0} (f : A → Option B) where
   kept_agree g [] same = refl
   kept_agree g (e ∷ es) same = let rest : kept_values f es ≡ kept_values g es = kept_agree g es same.1 in λ i. with_value e.0 (same.0 i) (rest i)
 
+  -- two functions that make the same of every value leave the same of every map
   pub kept_alike : (g : A → Option B) → ((value : A) → f value ≡ g value) → (es : List (Name × A)) → kept_values f es ≡ kept_values g es
   kept_alike g same [] = refl
   kept_alike g same (e ∷ es) = let rest : kept_values f es ≡ kept_values g es = kept_alike g same es in λ i. with_value e.0 (same e.1 i) (rest i)

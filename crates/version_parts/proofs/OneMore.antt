@@ -4,7 +4,7 @@ use Rattle.std.proofs.Common.{◌≡◌, ◌≤◌, ◌<◌, inl, ℕ, Bool, tru
 use Rattle.std.specs.List.{AllByRecursion}
 use Rattle.std.specs.Option.{option_map, option_and_then}
 use Rattle.weave_data.specs.declared.name.Name.{Name}
-use Rattle.weave_data.specs.Pairs.{IsRising, at_key, has, put, without, is_full}
+use Rattle.weave_data.specs.Pairs.{IsRising, at_key, has, put, without_key, is_full}
 use Rattle.weave_data.proofs.Changing.{none_rise}
 use Rattle.graph_ops.specs.declared.op.Op.{Op}
 use Rattle.graph_ops.specs.declared.op.Op.TheVariants.{Create, Delete, Set, Unset, Link, Unlink, Tag, Untag, Get}
@@ -12,7 +12,7 @@ use Rattle.graph_ops.specs.declared.op.Reason.{Reason}
 use Rattle.graph_ops.specs.declared.op.Reason.TheVariants.{Exists, NoKey, EdgeExists, NoEdge, Full}
 use Rattle.graph_ops.specs.declared.record.Edge.{Edge}
 use Rattle.graph_ops.specs.declared.record.Record.{Record}
-use Rattle.graph_ops.specs.Operations.{State, Outcome, becomes, on_edge, applied}
+use Rattle.graph_ops.specs.Operations.{State, Outcome, done_with, on_edge, outcome_of_op}
 use Rattle.graph_ops.specs.VertexOps.{state_left}
 use Rattle.version_parts.specs.declared.edge.EdgeItems.{EdgeItems}
 use Rattle.version_parts.specs.declared.lists.Lists.{Lists}
@@ -20,16 +20,16 @@ use Rattle.version_parts.specs.declared.time.Time.{Time}
 use Rattle.version_parts.specs.declared.track.Item.{Item}
 use Rattle.version_parts.specs.Counts.{changes_of}
 use Rattle.version_parts.specs.KeptValues.{with_change}
-use Rattle.version_parts.specs.Ordered.{IsBefore, AreBefore, TagsRise, KeysRise, KeysRiseFor}
+use Rattle.version_parts.specs.Ordered.{IsEarlierTime, AreBefore, TagsRise, KeysRise, KeysRiseFor}
 use Rattle.version_parts.specs.Placed.{AllInTracks, AllInEdge, AllInEdges}
-use Rattle.version_parts.specs.States.{Tracks, value_at, values_at, live_edge, edge_at, edges_at, record_at, state_at, items_or_none, with_item, edge_or_none, with_edge_item, with_item_of, with_op, Written, NoItem, OfVertex, OfProp, OfEdge, with_written, written_by}
+use Rattle.version_parts.specs.States.{Tracks, value_at, track_values_at, live_edge, edge_at, edges_at, record_at, state_at, items_or_none, with_item, edge_or_none, with_edge_item, with_item_of, with_op, WrittenItem, NoItem, OfVertex, OfProp, OfEdge, with_written, written_by}
 use Rattle.version_parts.specs.Times.{beginning, counts}
 use Rattle.version_parts.specs.Tracks.{live_at}
 use Rattle.version_parts.proofs.KeptLaws.{kept_put, kept_same, at_kept, kept_none, of_key}
 use Rattle.version_parts.proofs.Pushing.{later, not_later, all_weaker, live_before, live_after, says, live_has, none_counts}
 
 -- how many items are added
-abbrev pub items_of_written : Written → ℕ
+abbrev pub items_of_written : WrittenItem → ℕ
 items_of_written NoItem = 0
 items_of_written (OfVertex value) = 1
 items_of_written (OfProp key value) = 1
@@ -70,7 +70,7 @@ tags_rise (Some edge) rise = rise
 -- Before the update of the item
 
 module _ (update : ℕ) (since : Option Time) where
-  values_stay : (key : Name) (item : Item Name) (tracks : Tracks) → IsRising tracks → update < item.time.update → values_at update since (with_item key item tracks) ≡ values_at update since tracks
+  values_stay : (key : Name) (item : Item Name) (tracks : Tracks) → IsRising tracks → update < item.time.update → track_values_at update since (with_item key item tracks) ≡ track_values_at update since tracks
   values_stay key item tracks rising after =
       let items : List (Item Name) = items_or_none (at_key key tracks) in
       kept_same (value_at update since) key (items ++ item ∷ []) tracks rising
@@ -109,9 +109,9 @@ module _ (update : ℕ) (time : Time) (lists : Lists) (after : update < time.upd
 
   links_stay : (name : Name) (tag value : Option Name) → IsRising lists.edges × TagsRise name lists.edges → state_at update (record lists { edges = with_item_of name tag (record { time = time; value = value }) lists.edges }) ≡ state_at update lists
   links_stay name tag value rise = states_alike update (record lists { edges = with_item_of name tag (record { time = time; value = value }) lists.edges }) lists refl
-      (λ since. ap (λ (edges : List (Name × Edge)). record { props = values_at update since lists.props; edges = edges }) (edges_stay update since name tag (record { time = time; value = value }) lists.edges rise.0 rise.1 after))
+      (λ since. ap (λ (edges : List (Name × Edge)). record { props = track_values_at update since lists.props; edges = edges }) (edges_stay update since name tag (record { time = time; value = value }) lists.edges rise.0 rise.1 after))
 
-  written_stays : (written : Written) → KeysRiseFor written lists → state_at update (with_written time written lists) ≡ state_at update lists
+  written_stays : (written : WrittenItem) → KeysRiseFor written lists → state_at update (with_written time written lists) ≡ state_at update lists
   written_stays NoItem rise = refl
   written_stays (OfVertex value) rise = presence_stays value
   written_stays (OfProp key value) rise = props_stay key value rise
@@ -128,24 +128,24 @@ said time None = refl
 said time (Some x) = refl
 
 module _ (update : ℕ) (since : Option Time) (time : Time) (counted : counts since time ≡ true) (now : time.update ≤ update) where
-  values_change : (key : Name) (value : Option Name) (tracks : Tracks) → IsRising tracks → values_at update since (with_item key (record { time = time; value = value }) tracks) ≡ with_change key value (values_at update since tracks)
+  values_change : (key : Name) (value : Option Name) (tracks : Tracks) → IsRising tracks → track_values_at update since (with_item key (record { time = time; value = value }) tracks) ≡ with_change key value (track_values_at update since tracks)
   values_change key value tracks rising =
       let items : List (Item Name) = items_or_none (at_key key tracks) in
       kept_put (value_at update since) key (items ++ record { time = time; value = value } ∷ []) tracks rising
-      ∙ ap (λ (o : Option (Time × Name)). with_change key (option_map (λ (live : Time × Name). live.1) o) (values_at update since tracks)) (live_after update since items (record { time = time; value = value }) now ∙ says since time value counted)
-      ∙ ap (λ (o : Option Name). with_change key o (values_at update since tracks)) (said time value)
+      ∙ ap (λ (o : Option (Time × Name)). with_change key (option_map (λ (live : Time × Name). live.1) o) (track_values_at update since tracks)) (live_after update since items (record { time = time; value = value }) now ∙ says since time value counted)
+      ∙ ap (λ (o : Option Name). with_change key o (track_values_at update since tracks)) (said time value)
 
   -- what was there before an edge is hidden
-  edge_made : (value : Option Name) (edge : EdgeItems) → AllInTracks (λ earlier. IsBefore earlier time) edge.tags
+  edge_made : (value : Option Name) (edge : EdgeItems) → AllInTracks (λ earlier. IsEarlierTime earlier time) edge.tags
       → edge_at update since (with_edge_item None (record { time = time; value = value }) edge) ≡ option_map (λ (target : Name). record { target = target; tags = [] }) value
   edge_made value edge before =
       ap (option_map (live_edge update edge.tags)) (live_after update since edge.targets (record { time = time; value = value }) now ∙ says since time value counted)
       ∙ made value
     where
-      hidden : (tracks : Tracks) → AllInTracks (λ earlier. IsBefore earlier time) tracks → AllByRecursion (λ (pair : Name × List (Item Name)). value_at update (Some time) pair.1 ≡ None) tracks
+      hidden : (tracks : Tracks) → AllInTracks (λ earlier. IsEarlierTime earlier time) tracks → AllByRecursion (λ (pair : Name × List (Item Name)). value_at update (Some time) pair.1 ≡ None) tracks
       hidden [] all = tt
       hidden (pair ∷ rest) all = (
-        ap (option_map (λ (live : Time × Name). live.1)) (none_counts update (Some time) pair.1 (all_weaker (λ earlier. IsBefore earlier time) (λ earlier. counts (Some time) earlier ≡ false) (λ earlier is. not_later earlier time is) pair.1 all.0)),
+        ap (option_map (λ (live : Time × Name). live.1)) (none_counts update (Some time) pair.1 (all_weaker (λ earlier. IsEarlierTime earlier time) (λ earlier. counts (Some time) earlier ≡ false) (λ earlier is. not_later earlier time is) pair.1 all.0)),
         hidden rest all.1,
       )
 
@@ -154,14 +154,14 @@ module _ (update : ℕ) (since : Option Time) (time : Time) (counted : counts si
       made (Some target) = ap (λ (tags : List (Name × Name)). Some (made_edge target tags)) (kept_none (value_at update (Some time)) edge.tags (hidden edge.tags before))
 
 -- an edge that is there, with a tag changed
-tag_changed : (update : ℕ) (since : Option Time) (time : Time) → time.update ≤ update → (key : Name) (value : Option Name) (edge : EdgeItems) (found : Edge) → IsRising edge.tags → AllInEdge (λ earlier. IsBefore earlier time) edge → edge_at update since edge ≡ Some found
+tag_changed : (update : ℕ) (since : Option Time) (time : Time) → time.update ≤ update → (key : Name) (value : Option Name) (edge : EdgeItems) (found : Edge) → IsRising edge.tags → AllInEdge (λ earlier. IsEarlierTime earlier time) edge → edge_at update since edge ≡ Some found
     → edge_at update since (with_edge_item (Some key) (record { time = time; value = value }) edge) ≡ Some (record found { tags = with_change key value found.tags })
 tag_changed update since time now key value edge found rising before there =
     elim (live_at update since edge.targets) as (λ (o : Option (Time × Name)). live_at update since edge.targets ≡ o → option_map (live_edge update edge.tags) o ≡ Some found → option_map (live_edge update (with_item key (record { time = time; value = value }) edge.tags)) o ≡ Some (record found { tags = with_change key value found.tags })) [
       | None ↦ λ e h. absurd cc
       | Some live ↦ λ e h.
           let is : live_edge update edge.tags live ≡ found = cc in
-          let counted : counts (Some live.0) time ≡ true = later time live.0 (live_has (λ earlier. IsBefore earlier time) update since edge.targets live before.0 e) in
+          let counted : counts (Some live.0) time ≡ true = later time live.0 (live_has (λ earlier. IsEarlierTime earlier time) update since edge.targets live before.0 e) in
           ap (λ (tags : List (Name × Name)). Some (made_edge live.1 tags)) (values_change update (Some live.0) time counted now key value edge.tags rising)
           ∙ ap (λ (made : Edge). Some (made_edge made.target (with_change key value made.tags))) is
     ] refl there
@@ -174,17 +174,17 @@ edge_before P name edges all =
       | Some edge ↦ λ e. of_key name (AllInEdge P) edges edge all e
     ] refl
 
-all_hidden : (time : Time) (tracks : Tracks) → AllInTracks (λ earlier. IsBefore earlier time) tracks → AllByRecursion (λ (pair : Name × List (Item Name)). value_at time.update (Some time) pair.1 ≡ None) tracks
+all_hidden : (time : Time) (tracks : Tracks) → AllInTracks (λ earlier. IsEarlierTime earlier time) tracks → AllByRecursion (λ (pair : Name × List (Item Name)). value_at time.update (Some time) pair.1 ≡ None) tracks
 all_hidden time [] all = tt
 all_hidden time (pair ∷ rest) all = (
-  ap (option_map (λ (live : Time × Name). live.1)) (none_counts time.update (Some time) pair.1 (all_weaker (λ earlier. IsBefore earlier time) (λ earlier. counts (Some time) earlier ≡ false) (λ earlier is. not_later earlier time is) pair.1 all.0)),
+  ap (option_map (λ (live : Time × Name). live.1)) (none_counts time.update (Some time) pair.1 (all_weaker (λ earlier. IsEarlierTime earlier time) (λ earlier. counts (Some time) earlier ≡ false) (λ earlier is. not_later earlier time is) pair.1 all.0)),
   all_hidden time rest all.1,
 )
 
-edges_hidden : (time : Time) (edges : List (Name × EdgeItems)) → AllInEdges (λ earlier. IsBefore earlier time) edges → AllByRecursion (λ (pair : Name × EdgeItems). edge_at time.update (Some time) pair.1 ≡ None) edges
+edges_hidden : (time : Time) (edges : List (Name × EdgeItems)) → AllInEdges (λ earlier. IsEarlierTime earlier time) edges → AllByRecursion (λ (pair : Name × EdgeItems). edge_at time.update (Some time) pair.1 ≡ None) edges
 edges_hidden time [] all = tt
 edges_hidden time (pair ∷ rest) all = (
-  ap (option_map (live_edge time.update pair.1.tags)) (none_counts time.update (Some time) pair.1.targets (all_weaker (λ earlier. IsBefore earlier time) (λ earlier. counts (Some time) earlier ≡ false) (λ earlier is. not_later earlier time is) pair.1.targets all.0.0)),
+  ap (option_map (live_edge time.update pair.1.tags)) (none_counts time.update (Some time) pair.1.targets (all_weaker (λ earlier. IsEarlierTime earlier time) (λ earlier. counts (Some time) earlier ≡ false) (λ earlier is. not_later earlier time is) pair.1.targets all.0.0)),
   edges_hidden time rest all.1,
 )
 
@@ -206,42 +206,42 @@ module _ (time : Time) (lists : Lists) (before : AreBefore time lists) (numbered
   after_all = later time beginning (inl (omega (arith, numbered)))
 
   after_made : (live : Time × Unit {0}) → made ≡ Some live → counts (Some live.0) time ≡ true
-  after_made live is = later time live.0 (live_has (λ earlier. IsBefore earlier time) update (Some beginning) lists.presence live before.0 is)
+  after_made live is = later time live.0 (live_has (λ earlier. IsEarlierTime earlier time) update (Some beginning) lists.presence live before.0 is)
 
   presence_now : (value : Option (Unit {0})) → live_at update (Some beginning) (lists.presence ++ record { time = time; value = value } ∷ []) ≡ option_map (λ (x : Unit {0}). (time, x)) value
   presence_now value = live_after update (Some beginning) lists.presence (record { time = time; value = value }) (omega arith) ∙ says (Some beginning) time value after_all
 
-  create_law : (v : Name) → IsTrue (is_ok (applied (Create v) (state_at update lists))) → state_at update (with_op time (Create v) lists) ≡ state_left (state_at update lists) (applied (Create v) (state_at update lists))
+  create_law : (v : Name) → IsTrue (is_ok (outcome_of_op (Create v) (state_at update lists))) → state_at update (with_op time (Create v) lists) ≡ state_left (state_at update lists) (outcome_of_op (Create v) (state_at update lists))
   create_law v passes =
       let bare : record_at update (Some time) lists ≡ record { props = []; edges = [] } =
       (λ i. record { props = kept_none (value_at update (Some time)) lists.props (all_hidden time lists.props before.1) i; edges = kept_none (edge_at update (Some time)) lists.edges (edges_hidden time lists.edges before.2) i }) in
       ap (option_map (λ (live : Time × Unit {0}). record_at update (Some live.0) lists)) (presence_now (Some tt))
       ∙ ap (λ (now : Record). Some now) bare
-      ∙ sym (left_if (is_some (state_at update lists)) Exists (becomes (record { props = []; edges = [] })) (state_at update lists) passes)
+      ∙ sym (left_if (is_some (state_at update lists)) Exists (done_with (record { props = []; edges = [] })) (state_at update lists) passes)
 
-  delete_law : (v : Name) → IsTrue (is_ok (applied (Delete v) (state_at update lists))) → state_at update (with_op time (Delete v) lists) ≡ state_left (state_at update lists) (applied (Delete v) (state_at update lists))
+  delete_law : (v : Name) → IsTrue (is_ok (outcome_of_op (Delete v) (state_at update lists))) → state_at update (with_op time (Delete v) lists) ≡ state_left (state_at update lists) (outcome_of_op (Delete v) (state_at update lists))
   delete_law v passes =
       ap (option_map (λ (live : Time × Unit {0}). record_at update (Some live.0) lists)) (presence_now None)
       ∙ gone (state_at update lists) passes
     where
-      gone : (state : State) → IsTrue (is_ok (applied (Delete v) state)) → None ≡ state_left state (applied (Delete v) state)
+      gone : (state : State) → IsTrue (is_ok (outcome_of_op (Delete v) state)) → None ≡ state_left state (outcome_of_op (Delete v) state)
       gone None passes = absurd cc
       gone (Some was) passes = refl
 
   -- an operation on a vertex that is there
   on_made : (op : Op) (now : Lists) → now.presence ≡ lists.presence
-      → (IsTrue (is_ok (applied op None)) → ⊥)
-      → ((live : Time × Unit {0}) → made ≡ Some live → IsTrue (is_ok (applied op (read (Some live)))) → Some (record_at update (Some live.0) now) ≡ state_left (read (Some live)) (applied op (read (Some live))))
-      → IsTrue (is_ok (applied op (state_at update lists))) → state_at update now ≡ state_left (state_at update lists) (applied op (state_at update lists))
+      → (IsTrue (is_ok (outcome_of_op op None)) → ⊥)
+      → ((live : Time × Unit {0}) → made ≡ Some live → IsTrue (is_ok (outcome_of_op op (read (Some live)))) → Some (record_at update (Some live.0) now) ≡ state_left (read (Some live)) (outcome_of_op op (read (Some live))))
+      → IsTrue (is_ok (outcome_of_op op (state_at update lists))) → state_at update now ≡ state_left (state_at update lists) (outcome_of_op op (state_at update lists))
   on_made op now same missing there passes =
       ap (λ (presence : List (Item (Unit {0}))). option_map (λ (live : Time × Unit {0}). record_at update (Some live.0) now) (live_at update (Some beginning) presence)) same
-      ∙ elim made as (λ (o : Option (Time × Unit {0})). made ≡ o → IsTrue (is_ok (applied op (read o))) → option_map (λ (live : Time × Unit {0}). record_at update (Some live.0) now) o ≡ state_left (read o) (applied op (read o))) [
+      ∙ elim made as (λ (o : Option (Time × Unit {0})). made ≡ o → IsTrue (is_ok (outcome_of_op op (read o))) → option_map (λ (live : Time × Unit {0}). record_at update (Some live.0) now) o ≡ state_left (read o) (outcome_of_op op (read o))) [
         | None ↦ λ e h. absurd (missing h)
         | Some live ↦ λ e h. there live e h
       ] refl passes
 
   props_law : (key : Name) (value : Option Name) (live : Time × Unit {0}) → IsRising lists.props → made ≡ Some live
-      → Some (record_at update (Some live.0) (record lists { props = with_item key (item value) lists.props })) ≡ Some (record (record_at update (Some live.0) lists) { props = with_change key value (values_at update (Some live.0) lists.props) })
+      → Some (record_at update (Some live.0) (record lists { props = with_item key (item value) lists.props })) ≡ Some (record (record_at update (Some live.0) lists) { props = with_change key value (track_values_at update (Some live.0) lists.props) })
   props_law key value live rising is =
       ap (λ (props : List (Name × Name)). Some (made_record props (edges_at update (Some live.0) lists.edges))) (values_change update (Some live.0) time (after_made live is) (omega arith) key value lists.props rising)
 
@@ -249,7 +249,7 @@ module _ (time : Time) (lists : Lists) (before : AreBefore time lists) (numbered
       → edge_at update (Some live.0) (with_edge_item tag (item value) (edge_or_none (at_key name lists.edges))) ≡ now
       → Some (record_at update (Some live.0) (record lists { edges = with_item_of name tag (item value) lists.edges })) ≡ Some (record (record_at update (Some live.0) lists) { edges = with_change name now (edges_at update (Some live.0) lists.edges) })
   links_law name tag value live now rising is =
-      ap (λ (edges : List (Name × Edge)). Some (made_record (values_at update (Some live.0) lists.props) edges))
+      ap (λ (edges : List (Name × Edge)). Some (made_record (track_values_at update (Some live.0) lists.props) edges))
       (kept_put (edge_at update (Some live.0)) name (with_edge_item tag (item value) (edge_or_none (at_key name lists.edges))) lists.edges rising
       ∙ ap (λ (o : Option Edge). with_change name o (edges_at update (Some live.0) lists.edges)) is)
 
@@ -257,31 +257,31 @@ module _ (time : Time) (lists : Lists) (before : AreBefore time lists) (numbered
   link_now : (name : Name) (value : Option Name) (live : Time × Unit {0}) → made ≡ Some live
       → edge_at update (Some live.0) (with_edge_item None (item value) (edge_or_none (at_key name lists.edges))) ≡ option_map (λ (target : Name). record { target = target; tags = [] }) value
   link_now name value live is =
-      edge_made update (Some live.0) time (after_made live is) (omega arith) value (edge_or_none (at_key name lists.edges)) (edge_before (λ earlier. IsBefore earlier time) name lists.edges before.2).1
+      edge_made update (Some live.0) time (after_made live is) (omega arith) value (edge_or_none (at_key name lists.edges)) (edge_before (λ earlier. IsEarlierTime earlier time) name lists.edges before.2).1
 
   -- the edge that a change of a tag leaves
   tag_now : (name key : Name) (value : Option Name) (live : Time × Unit {0}) (found : Edge) → IsRising lists.edges × TagsRise name lists.edges → at_key name (edges_at update (Some live.0) lists.edges) ≡ Some found
       → edge_at update (Some live.0) (with_edge_item (Some key) (item value) (edge_or_none (at_key name lists.edges))) ≡ Some (record found { tags = with_change key value found.tags })
   tag_now name key value live found rise there =
-      tag_changed update (Some live.0) time (omega arith) key value (edge_or_none (at_key name lists.edges)) found (tags_rise (at_key name lists.edges) rise.1) (edge_before (λ earlier. IsBefore earlier time) name lists.edges before.2)
+      tag_changed update (Some live.0) time (omega arith) key value (edge_or_none (at_key name lists.edges)) found (tags_rise (at_key name lists.edges) rise.1) (edge_before (λ earlier. IsEarlierTime earlier time) name lists.edges before.2)
       (none_edge update (Some live.0) (at_key name lists.edges) ∙ sym (at_kept (edge_at update (Some live.0)) name lists.edges rise.0) ∙ there)
 
   -- the state after the operation
-  pub one_more : (op : Op) → KeysRise op lists → IsTrue (is_ok (applied op (state_at update lists))) → state_at update (with_op time op lists) ≡ state_left (state_at update lists) (applied op (state_at update lists))
+  pub one_more : (op : Op) → KeysRise op lists → IsTrue (is_ok (outcome_of_op op (state_at update lists))) → state_at update (with_op time op lists) ≡ state_left (state_at update lists) (outcome_of_op op (state_at update lists))
   one_more (Create v) rise passes = create_law v passes
   one_more (Delete v) rise passes = delete_law v passes
   one_more (Set v key value) rise passes =
       on_made (Set v key value) (with_op time (Set v key value) lists) refl (λ h. absurd cc) (λ live is h.
       let was : Record = record_at update (Some live.0) lists in
-      props_law key (Some value) live rise is ∙ sym (left_if (is_full 64 key was.props) Full (becomes (record was { props = put key value was.props })) (Some was) h)) passes
+      props_law key (Some value) live rise is ∙ sym (left_if (is_full 64 key was.props) Full (done_with (record was { props = put key value was.props })) (Some was) h)) passes
   one_more (Unset v key) rise passes =
       on_made (Unset v key) (with_op time (Unset v key) lists) refl (λ h. absurd cc) (λ live is h.
       let was : Record = record_at update (Some live.0) lists in
-      props_law key None live rise is ∙ sym (left_if (not (has key was.props)) NoKey (becomes (record was { props = without key was.props })) (Some was) h)) passes
+      props_law key None live rise is ∙ sym (left_if (not (has key was.props)) NoKey (done_with (record was { props = without_key key was.props })) (Some was) h)) passes
   one_more (Link v name target) rise passes =
       on_made (Link v name target) (with_op time (Link v name target) lists) refl (λ h. absurd cc) (λ live is h.
       let was : Record = record_at update (Some live.0) lists in
-      let done : Outcome = becomes (record was { edges = put name (record { target = target; tags = [] }) was.edges }) in
+      let done : Outcome = done_with (record was { edges = put name (record { target = target; tags = [] }) was.edges }) in
       links_law name None (Some target) live (Some (record { target = target; tags = [] })) rise.0 (link_now name (Some target) live is)
       ∙ sym (left_if (has name was.edges) EdgeExists (cond (is_full 1000 name was.edges) (Err Full) done) (Some was) h
       ∙ left_if (is_full 1000 name was.edges) Full done (Some was) (ok_if (has name was.edges) EdgeExists (cond (is_full 1000 name was.edges) (Err Full) done) h))) passes
@@ -289,28 +289,28 @@ module _ (time : Time) (lists : Lists) (before : AreBefore time lists) (numbered
       on_made (Unlink v name) (with_op time (Unlink v name) lists) refl (λ h. absurd cc) (λ live is h.
       let was : Record = record_at update (Some live.0) lists in
       links_law name None None live None rise.0 (link_now name None live is)
-      ∙ sym (left_if (not (has name was.edges)) NoEdge (becomes (record was { edges = without name was.edges })) (Some was) h)) passes
+      ∙ sym (left_if (not (has name was.edges)) NoEdge (done_with (record was { edges = without_key name was.edges })) (Some was) h)) passes
   one_more (Tag v name key value) rise passes =
       on_made (Tag v name key value) (with_op time (Tag v name key value) lists) refl (λ h. absurd cc) (λ live is h.
       let was : Record = record_at update (Some live.0) lists in
-      let rest : Edge → Outcome = (λ (edge : Edge). cond (is_full 8 key edge.tags) (Err Full) (becomes (record was { edges = put name (record edge { tags = put key value edge.tags }) was.edges }))) in
+      let rest : Edge → Outcome = (λ (edge : Edge). cond (is_full 8 key edge.tags) (Err Full) (done_with (record was { edges = put name (record edge { tags = put key value edge.tags }) was.edges }))) in
       elim (at_key name was.edges) as (λ (o : Option Edge). at_key name was.edges ≡ o → IsTrue (is_ok (on_edge o rest)) → Some (record_at update (Some live.0) (with_op time (Tag v name key value) lists)) ≡ state_left (Some was) (on_edge o rest)) [
         | None ↦ λ e k. absurd cc
         | Some found ↦ λ e k. links_law name (Some key) (Some value) live (Some (record found { tags = put key value found.tags })) rise.0 (tag_now name key (Some value) live found rise e)
-            ∙ sym (left_if (is_full 8 key found.tags) Full (becomes (record was { edges = put name (record found { tags = put key value found.tags }) was.edges })) (Some was) k)
+            ∙ sym (left_if (is_full 8 key found.tags) Full (done_with (record was { edges = put name (record found { tags = put key value found.tags }) was.edges })) (Some was) k)
       ] refl h) passes
   one_more (Untag v name key) rise passes =
       on_made (Untag v name key) (with_op time (Untag v name key) lists) refl (λ h. absurd cc) (λ live is h.
       let was : Record = record_at update (Some live.0) lists in
-      let rest : Edge → Outcome = (λ (edge : Edge). cond (not (has key edge.tags)) (Err NoKey) (becomes (record was { edges = put name (record edge { tags = without key edge.tags }) was.edges }))) in
+      let rest : Edge → Outcome = (λ (edge : Edge). cond (not (has key edge.tags)) (Err NoKey) (done_with (record was { edges = put name (record edge { tags = without_key key edge.tags }) was.edges }))) in
       elim (at_key name was.edges) as (λ (o : Option Edge). at_key name was.edges ≡ o → IsTrue (is_ok (on_edge o rest)) → Some (record_at update (Some live.0) (with_op time (Untag v name key) lists)) ≡ state_left (Some was) (on_edge o rest)) [
         | None ↦ λ e k. absurd cc
-        | Some found ↦ λ e k. links_law name (Some key) None live (Some (record found { tags = without key found.tags })) rise.0 (tag_now name key None live found rise e)
-            ∙ sym (left_if (not (has key found.tags)) NoKey (becomes (record was { edges = put name (record found { tags = without key found.tags }) was.edges })) (Some was) k)
+        | Some found ↦ λ e k. links_law name (Some key) None live (Some (record found { tags = without_key key found.tags })) rise.0 (tag_now name key None live found rise e)
+            ∙ sym (left_if (not (has key found.tags)) NoKey (done_with (record was { edges = put name (record found { tags = without_key key found.tags }) was.edges })) (Some was) k)
       ] refl h) passes
   one_more (Get v) rise passes = refl
 
--- an operation adds one item, unless it only reads
+-- the changes that an operation counts for are as many as the items that it writes
 pub one_item : (op : Op) → changes_of op ≡ items_of_written (written_by op)
 one_item (Create v) = refl
 one_item (Delete v) = refl

@@ -15,12 +15,12 @@ use Rattle.version_parts.specs.declared.lists.Lists.{Lists}
 use Rattle.version_parts.specs.declared.time.Time.{Time}
 use Rattle.version_parts.specs.declared.track.Item.{Item}
 use Rattle.version_parts.specs.Counts.{has_items, total, count_items, count_edge, count_updates}
-use Rattle.version_parts.specs.Cuts.{left_items, cut_tracks, cut_edge, has_some, left_edge, cut_edges, cut_lists, until, collected}
+use Rattle.version_parts.specs.Cuts.{left_items, cut_tracks, cut_edge, has_some, left_edge, cut_edges, cut_lists, lists_until, collected_lists}
 use Rattle.version_parts.specs.KeptValues.{with_value, kept_values}
 use Rattle.version_parts.specs.Placed.{AllInTracks, AllInEdge, AllInEdges, AllInLists, AreUpTo}
-use Rattle.version_parts.specs.States.{Tracks, value_at, values_at, live_edge, edge_at, edges_at, record_at, state_at, items_or_none, with_item, edge_or_none, with_edge_item, with_item_of, with_op, Written, NoItem, OfVertex, OfProp, OfEdge, with_written, written_by}
+use Rattle.version_parts.specs.States.{Tracks, value_at, track_values_at, live_edge, edge_at, edges_at, record_at, state_at, items_or_none, with_item, edge_or_none, with_edge_item, with_item_of, with_op, WrittenItem, NoItem, OfVertex, OfProp, OfEdge, with_written, written_by}
 use Rattle.version_parts.specs.Times.{beginning}
-use Rattle.version_parts.specs.Tracks.{or_else, last_at, shown, live_at, from_oldest, cut_items, inner_cut, AllTimes}
+use Rattle.version_parts.specs.Tracks.{or_else, last_at, shown_value, live_at, from_oldest, cut_items, inner_cut, AllTimes}
 use Rattle.version_parts.proofs.KeptLaws.{all_put, of_key, kept_agree}
 use Rattle.version_parts.proofs.OneMore.{edge_before, made_edge, made_record}
 use Rattle.version_parts.proofs.Pushing.{all_weaker, all_push}
@@ -49,29 +49,34 @@ module _ (P : Time → Type 0) where
       let edge : EdgeItems = edge_or_none (at_key name edges) in
       all_put name (AllInEdge P) (with_edge_item tag item edge) edges (edge_put tag item edge (edge_before P name edges all) here) all
 
-  all_written : (time : Time) (written : Written) (lists : Lists) → AllInLists P lists → P time → AllInLists P (with_written time written lists)
+  all_written : (time : Time) (written : WrittenItem) (lists : Lists) → AllInLists P lists → P time → AllInLists P (with_written time written lists)
   all_written time NoItem lists all here = all
   all_written time (OfVertex value) lists all here = (all_push P lists.presence (record { time = time; value = value }) all.0 here, all.1, all.2)
   all_written time (OfProp key value) lists all here = (all.0, tracks_put key (record { time = time; value = value }) lists.props all.1 here, all.2)
   all_written time (OfEdge name tag value) lists all here = (all.0, all.1, edges_put name tag (record { time = time; value = value }) lists.edges all.2 here)
 
+  -- what holds of all times of a vertex and of a new time still holds with the item of an operation at that time
   pub all_op : (time : Time) (op : Op) (lists : Lists) → AllInLists P lists → P time → AllInLists P (with_op time op lists)
   all_op time op lists all here = all_written time (written_by op) lists all here
 
 -- A weaker fact
 
 module _ (P Q : Time → Type 0) (weaker : (time : Time) → P time → Q time) where
+  -- what follows from a fact that holds of all times of properties or tags holds of them all too
   pub tracks_weaker : (tracks : Tracks) → AllInTracks P tracks → AllInTracks Q tracks
   tracks_weaker [] all = tt
   tracks_weaker (pair ∷ rest) all = (all_weaker P Q weaker pair.1 all.0, tracks_weaker rest all.1)
 
+  -- the same of the times of an edge
   pub edge_weaker : (edge : EdgeItems) → AllInEdge P edge → AllInEdge Q edge
   edge_weaker edge all = (all_weaker P Q weaker edge.targets all.0, tracks_weaker edge.tags all.1)
 
+  -- the same of the times of all edges
   pub edges_weaker : (edges : List (Name × EdgeItems)) → AllInEdges P edges → AllInEdges Q edges
   edges_weaker [] all = tt
   edges_weaker (pair ∷ rest) all = (edge_weaker pair.1 all.0, edges_weaker rest all.1)
 
+  -- the same of all times of a vertex
   pub lists_weaker : (lists : Lists) → AllInLists P lists → AllInLists Q lists
   lists_weaker lists all = (all_weaker P Q weaker lists.presence all.0, tracks_weaker lists.props all.1, edges_weaker lists.edges all.2)
 
@@ -88,6 +93,7 @@ module _ (P : Time → Type 0) (always : (time : Time) → P time) where
   all_edges [] = tt
   all_edges (pair ∷ rest) = ((all_items pair.1.targets, all_tracks pair.1.tags), all_edges rest)
 
+  -- what is true of every time holds of all times of a vertex
   pub all_lists : (lists : Lists) → AllInLists P lists
   all_lists lists = (all_items lists.presence, all_tracks lists.props, all_edges lists.edges)
 
@@ -128,9 +134,9 @@ module _ (P Q : Time → Type 0) where
   cut_all {X} (Older oldest since) keeps (item ∷ rest) all =
       let more : AllTimes Q (from_oldest oldest since rest) = cut_all (Older oldest since) keeps rest all.1 in
       let same : AllTimes Q rest = all_weaker P Q (λ time holds. keeps time holds tt) rest all.1 in
-      elim (is_some (last_at oldest rest)) as (λ b. AllTimes Q (cond b (from_oldest oldest since rest) (cond (nat_le item.time.update oldest && not (is_some (shown since item))) rest (item ∷ rest)))) [
+      elim (is_some (last_at oldest rest)) as (λ b. AllTimes Q (cond b (from_oldest oldest since rest) (cond (nat_le item.time.update oldest && not (is_some (shown_value since item))) rest (item ∷ rest)))) [
         | true ↦ more
-        | false ↦ elim (nat_le item.time.update oldest && not (is_some (shown since item))) as (λ b. AllTimes Q (cond b rest (item ∷ rest))) [
+        | false ↦ elim (nat_le item.time.update oldest && not (is_some (shown_value since item))) as (λ b. AllTimes Q (cond b rest (item ∷ rest))) [
           | true ↦ same
           | false ↦ (keeps item.time all.0 tt, same)
         ]
@@ -147,6 +153,7 @@ module _ (P Q : Time → Type 0) where
       subst (AllInEdge Q) (left_is (has_some (cut_edge cut edge)) (cut_edge cut edge) left is)
       (cut_all cut keeps edge.targets holds.0, tracks_cut (inner_cut cut edge.targets) (λ time p in_cut. keeps time p (inner_left cut edge.targets time in_cut)) edge.tags holds.1)) edges all
 
+  -- what follows from a fact of all times, and from what a cut says of those it leaves, holds of those it leaves
   pub lists_cut : (cut : Cut) → ((time : Time) → P time → IsLeftBy cut time → Q time) → (lists : Lists) → AllInLists P lists → AllInLists Q (cut_lists cut lists)
   lists_cut cut keeps lists all = (
     cut_all cut keeps lists.presence all.0,
@@ -154,10 +161,12 @@ module _ (P Q : Time → Type 0) where
     edges_cut (inner_cut cut lists.presence) (λ time p in_cut. keeps time p (inner_left cut lists.presence time in_cut)) lists.edges all.2,
   )
 
-pub until_within : (newest : ℕ) (lists : Lists) → AreUpTo newest (until newest lists)
+-- when the items after an update are dropped, all items are of it or of those before it
+pub until_within : (newest : ℕ) (lists : Lists) → AreUpTo newest (lists_until newest lists)
 until_within newest lists = lists_cut (λ time. Unit {0}) (λ time. time.update ≤ newest) (Newer newest) (λ time any left. left) lists (all_lists (λ time. Unit {0}) (λ time. tt) lists)
 
-pub collected_within : (oldest newest : ℕ) (lists : Lists) → AreUpTo newest lists → AreUpTo newest (collected oldest lists)
+-- if all items are of the newest update or those before it, so are the ones that a collection leaves
+pub collected_within : (oldest newest : ℕ) (lists : Lists) → AreUpTo newest lists → AreUpTo newest (collected_lists oldest lists)
 collected_within oldest newest lists within = lists_cut (λ time. time.update ≤ newest) (λ time. time.update ≤ newest) (Older oldest (Some beginning)) (λ time p left. p) lists within
 
 -- After the newest update nothing changes
@@ -172,13 +181,13 @@ module _ (newest update : ℕ) (past : newest ≤ update) where
       λ i. or_else (more i) (here i)
 
   live_past : {X : Type 0} (since : Option Time) (items : List (Item X)) → AllTimes (λ time. time.update ≤ newest) items → live_at update since items ≡ live_at newest since items
-  live_past since items all = ap (option_and_then (shown since)) (last_past items all)
+  live_past since items all = ap (option_and_then (shown_value since)) (last_past items all)
 
   all_past : (since : Option Time) (tracks : Tracks) → AllInTracks (λ time. time.update ≤ newest) tracks → AllByRecursion (λ (pair : Name × List (Item Name)). value_at update since pair.1 ≡ value_at newest since pair.1) tracks
   all_past since [] all = tt
   all_past since (pair ∷ rest) all = (ap (option_map (λ (live : Time × Name). live.1)) (live_past since pair.1 all.0), all_past since rest all.1)
 
-  values_past : (since : Option Time) (tracks : Tracks) → AllInTracks (λ time. time.update ≤ newest) tracks → values_at update since tracks ≡ values_at newest since tracks
+  values_past : (since : Option Time) (tracks : Tracks) → AllInTracks (λ time. time.update ≤ newest) tracks → track_values_at update since tracks ≡ track_values_at newest since tracks
   values_past since tracks all = kept_agree (value_at update since) (value_at newest since) tracks (all_past since tracks all)
 
   edge_past : (since : Option Time) (edge : EdgeItems) → AllInEdge (λ time. time.update ≤ newest) edge → edge_at update since edge ≡ edge_at newest since edge
@@ -196,13 +205,14 @@ module _ (newest update : ℕ) (past : newest ≤ update) where
   edges_past : (since : Option Time) (edges : List (Name × EdgeItems)) → AllInEdges (λ time. time.update ≤ newest) edges → edges_at update since edges ≡ edges_at newest since edges
   edges_past since edges all = kept_agree (edge_at update since) (edge_at newest since) edges (all_edges_past since edges all)
 
+  -- if no item is of an update after the newest one, the state after a later update is the one after the newest
   pub state_past : (lists : Lists) → AreUpTo newest lists → state_at update lists ≡ state_at newest lists
   state_past lists all =
       ap (option_map (λ (live : Time × Unit {0}). record_at update (Some live.0) lists)) (live_past (Some beginning) lists.presence all.0)
       ∙ elim (live_at newest (Some beginning) lists.presence) as (λ (o : Option (Time × Unit {0})). option_map (λ (live : Time × Unit {0}). record_at update (Some live.0) lists) o ≡ option_map (λ (live : Time × Unit {0}). record_at newest (Some live.0) lists) o) [
         | None ↦ refl
         | Some live ↦
-            let props : values_at update (Some live.0) lists.props ≡ values_at newest (Some live.0) lists.props = values_past (Some live.0) lists.props all.1 in
+            let props : track_values_at update (Some live.0) lists.props ≡ track_values_at newest (Some live.0) lists.props = values_past (Some live.0) lists.props all.1 in
             let edges : edges_at update (Some live.0) lists.edges ≡ edges_at newest (Some live.0) lists.edges = edges_past (Some live.0) lists.edges all.2 in
             λ i. Some (made_record (props i) (edges i))
       ]
@@ -231,6 +241,7 @@ module _ (test other : ℕ → Bool) where
       let more : total (count_edge test) rest ≡ total (count_edge other) rest = edges_agree rest all.1 in
       λ i. (targets i + tags i) + more i
 
+  -- two tests that agree on the updates of all items of a vertex count as many of them
   pub counts_agree : (lists : Lists) → AllInLists (λ time. test time.update ≡ other time.update) lists → count_updates test lists ≡ count_updates other lists
   counts_agree lists all =
       let presence : count_items test lists.presence ≡ count_items other lists.presence = items_agree lists.presence all.0 in

@@ -10,12 +10,15 @@ use Rattle.version_parts.specs.declared.track.Item.{Item}
 use Rattle.version_parts.specs.States.{Tracks, items_or_none, with_item, edge_or_none, with_edge_item, with_item_of}
 
 module _ {X : Type 0} (key : Name) (pairs held after : List (Name × X)) (empty was now : X) (out : held ≡ put key empty pairs) where
+  -- while the value is out, with an empty one in its place, the map still has the key
   pub still_there : IsTrue (has key held)
   still_there = ap (has key) out ∙ ap is_some (found_put key empty pairs)
 
+  -- putting a value in over the empty one is the same as putting it over the value that was taken out
   pub put_again : after ≡ put key now held → after ≡ put key now pairs
   put_again back_in = back_in ∙ ap (put key now) out ∙ put_over key now empty pairs
 
+  -- where keys rise, putting in again the value that was taken out leaves the map as it was
   pub as_before : IsRising pairs → at_key key pairs ≡ Some was → after ≡ put key now held → now ≡ was → after ≡ pairs
   as_before rising there back_in same = put_again back_in ∙ ap (λ (value : X). put key value pairs) same ∙ put_same key was pairs rising there
 

@@ -7,14 +7,14 @@ use Rattle.std.proofs.Math.ListN.{drop_of_length-le}
 use Rattle.weave_data.specs.declared.name.Name.{Name}
 use Rattle.weave_data.proofs.Changing.{none_rise}
 use Rattle.graph_ops.specs.declared.op.Op.{Op}
-use Rattle.graph_ops.specs.Operations.{State, applied}
-use Rattle.graph_ops.specs.VertexOps.{state_left, state_after, none_refused}
+use Rattle.graph_ops.specs.Operations.{State, outcome_of_op}
+use Rattle.graph_ops.specs.VertexOps.{state_left, state_after_ops, none_refused}
 use Rattle.version_parts.specs.declared.lists.Lists.{Lists}
 use Rattle.version_parts.specs.declared.time.Time.{Time}
 use Rattle.version_parts.specs.declared.track.Item.{Item}
-use Rattle.version_parts.specs.Counts.{count_updates, count_of, changes, changes_of}
-use Rattle.version_parts.specs.Cuts.{until}
-use Rattle.version_parts.specs.Ordered.{IsBefore, AreBefore, KeysRise}
+use Rattle.version_parts.specs.Counts.{count_updates, count_in_lists, changes, changes_of}
+use Rattle.version_parts.specs.Cuts.{lists_until}
+use Rattle.version_parts.specs.Ordered.{IsEarlierTime, AreBefore, KeysRise}
 use Rattle.version_parts.specs.Placed.{AllInLists, AreUpTo}
 use Rattle.version_parts.specs.States.{state_at, with_op}
 use Rattle.version_parts.specs.Updates.{IsUnderWay}
@@ -32,16 +32,17 @@ cond_sum : (b : Bool) (x y : ℕ) → cond b (x + y) 0 ≡ cond b x 0 + cond b y
 cond_sum true x y = refl
 cond_sum false x y = omega arith
 
+-- an update is under way with no items yet if all items are of earlier ones and its operations pass
 pub begun : (update : ℕ) (ops : List Op) (start : Lists) → AllInLists (λ time. time.update < update) start → IsTrue (none_refused ops (state_at update start)) → IsUnderWay update 0 ops start start
 begun update ops start before passes = record {
-  before = lists_weaker (λ time. time.update < update) (λ time. IsBefore time (record { update = update; place = 0 })) (λ time below. inl below) start before;
+  before = lists_weaker (λ time. time.update < update) (λ time. IsEarlierTime time (record { update = update; place = 0 })) (λ time below. inl below) start before;
   earlier = λ other below. refl;
   passes = passes;
   state = refl;
   counts = λ test. refl;
 }
 
-next_before : (update place : ℕ) (time : Time) → IsBefore time (record { update = update; place = place }) → IsBefore time (record { update = update; place = place + 1 })
+next_before : (update place : ℕ) (time : Time) → IsEarlierTime time (record { update = update; place = place }) → IsEarlierTime time (record { update = update; place = place + 1 })
 next_before update place time (inl below) = inl below
 next_before update place time (inr same) = inr (same.0, omega (arith, same.1))
 
@@ -59,19 +60,20 @@ module _ (update place : ℕ) (ops : List Op) (start now : Lists) (way : IsUnder
     split : drop place ops ≡ op ∷ rest
     split = drop-cons ops place op inside ∙ (λ i. sym is i ∷ drop (sym (add-one place) i) ops)
 
-    both : (IsTrue (is_ok (applied op state))) × (IsTrue (none_refused rest (state_left state (applied op state))))
-    both = and_parts (is_ok (applied op state)) (none_refused rest (state_left state (applied op state))) (subst (λ (xs : List Op). IsTrue (none_refused xs state)) split way.passes)
+    both : (IsTrue (is_ok (outcome_of_op op state))) × (IsTrue (none_refused rest (state_left state (outcome_of_op op state))))
+    both = and_parts (is_ok (outcome_of_op op state)) (none_refused rest (state_left state (outcome_of_op op state))) (subst (λ (xs : List Op). IsTrue (none_refused xs state)) split way.passes)
 
-    after : state_at update (with_op time op now) ≡ state_left state (applied op state)
+    after : state_at update (with_op time op now) ≡ state_left state (outcome_of_op op state)
     after = one_more time now way.before numbered op rise both.0
 
+    -- where keys rise, the item of the next operation brings the update one place further
     pub next : IsUnderWay update (place + 1) ops start (with_op time op now)
     next = record {
-      before = all_op (λ earlier. IsBefore earlier (record { update = update; place = place + 1 })) time op now
-          (lists_weaker (λ earlier. IsBefore earlier time) (λ earlier. IsBefore earlier (record { update = update; place = place + 1 })) (next_before update place) now way.before) (inr (refl, omega arith));
+      before = all_op (λ earlier. IsEarlierTime earlier (record { update = update; place = place + 1 })) time op now
+          (lists_weaker (λ earlier. IsEarlierTime earlier time) (λ earlier. IsEarlierTime earlier (record { update = update; place = place + 1 })) (next_before update place) now way.before) (inr (refl, omega arith));
       earlier = λ other below. earlier_stay other time now below op rise ∙ way.earlier other below;
       passes = subst (λ (s : State). IsTrue (none_refused rest s)) (sym after) both.1;
-      state = ap (state_after rest) after ∙ ap (λ (xs : List Op). state_after xs state) (sym split) ∙ way.state;
+      state = ap (state_after_ops rest) after ∙ ap (λ (xs : List Op). state_after_ops xs state) (sym split) ∙ way.state;
       counts = λ test.
           let added = op_count test time op now (none_rise {X = List (Item Name)} [] refl) rise in
           let was : count_updates test now + cond (test update) (changes_of op + changes rest) 0 ≡ count_updates test start + cond (test update) (changes ops) 0 =
@@ -79,12 +81,15 @@ module _ (update place : ℕ) (ops : List Op) (start now : Lists) (way : IsUnder
           omega (arith, added, was, cond_sum (test update) (changes_of op) (changes rest));
     }
 
+    -- the same of lists that are equal to those with this item
     pub next_is : (result : Lists) → result ≡ with_op time op now → IsUnderWay update (place + 1) ops start result
     next_is result e = subst (IsUnderWay update (place + 1) ops start) (sym e) next
 
+  -- while an update is under way, all items are of it or of those before it
   pub way_within : AreUpTo update now
-  way_within = lists_weaker (λ earlier. IsBefore earlier (record { update = update; place = place })) (λ earlier. earlier.update ≤ update) (λ earlier is. no_later_update earlier (record { update = update; place = place }) is) now way.before
+  way_within = lists_weaker (λ earlier. IsEarlierTime earlier (record { update = update; place = place })) (λ earlier. earlier.update ≤ update) (λ earlier is. no_later_update earlier (record { update = update; place = place }) is) now way.before
 
+  -- a test that the update fails counts as many items as at the start
   pub way_others : (test : ℕ → Bool) → test update ≡ false → count_updates test now ≡ count_updates test start
   way_others test none =
       let here : cond (test update) (changes (drop place ops)) 0 ≡ 0 = ap (λ b. cond b (changes (drop place ops)) 0) none in
@@ -96,9 +101,11 @@ module _ (update place : ℕ) (ops : List Op) (start now : Lists) (way : IsUnder
     none_left : drop place ops ≡ []
     none_left = drop_of_length-le ops past
 
-    pub ended_state : state_at update now ≡ state_after ops (state_at update start)
-    ended_state = ap (λ (xs : List Op). state_after xs (state_at update now)) (sym none_left) ∙ way.state
+    -- when all operations are done, the state after the update is the one they lead to from that at the start
+    pub ended_state : state_at update now ≡ state_after_ops ops (state_at update start)
+    ended_state = ap (λ (xs : List Op). state_after_ops xs (state_at update now)) (sym none_left) ∙ way.state
 
+    -- when all operations are done, each that isn't a read has added one item of the update, and nothing else came
     pub ended_counts : (test : ℕ → Bool) → count_updates test now ≡ count_updates test start + cond (test update) (changes ops) 0
     ended_counts test =
         let left : cond (test update) (changes (drop place ops)) 0 ≡ cond {A = ℕ} (test update) 0 0 = ap (λ (xs : List Op). cond (test update) (changes xs) 0) none_left in
@@ -109,7 +116,8 @@ module _ (update place : ℕ) (ops : List Op) (start now : Lists) (way : IsUnder
 -- An update whose items were added in part is taken back
 
 module _ (before : ℕ) (start now : Lists) (within : AreUpTo before start) (others : (test : ℕ → Bool) → test (before + 1) ≡ false → count_updates test now ≡ count_updates test start) where
-  pub undone_counts : (test : ℕ → Bool) → count_updates test (until before now) ≡ count_updates test start
+  -- if all items were of earlier updates and only the next one added some, dropping these leaves all counts as before
+  pub undone_counts : (test : ℕ → Bool) → count_updates test (lists_until before now) ≡ count_updates test start
   undone_counts test =
       until_count test before now
       ∙ others (λ update. test update && nat_le update before) (ap (λ b. test (before + 1) && b) (lt-leb (before + 1) before (omega arith)) ∙ neither (test (before + 1)))
@@ -124,5 +132,6 @@ module _ (before : ℕ) (start now : Lists) (within : AreUpTo before start) (oth
       both true = refl
       both false = refl
 
-pub undone_states : (before update : ℕ) (start now : Lists) → update ≤ before → ((other : ℕ) → other < before + 1 → state_at other now ≡ state_at other start) → state_at update (until before now) ≡ state_at update start
+-- if the states after the updates up to one stayed, dropping later items leaves these states as at the start
+pub undone_states : (before update : ℕ) (start now : Lists) → update ≤ before → ((other : ℕ) → other < before + 1 → state_at other now ≡ state_at other start) → state_at update (lists_until before now) ≡ state_at update start
 undone_states before update start now old earlier = until_stays before update now old ∙ earlier update (omega (arith, old))

@@ -34,8 +34,8 @@ count_updates test lists =
     count_items test lists.presence + (total (count_items test) lists.props + total (count_edge test) lists.edges)
 
 -- all items of a vertex
-abbrev pub count_of : Lists → ℕ
-count_of lists = count_updates (λ update. true) lists
+abbrev pub count_in_lists : Lists → ℕ
+count_in_lists lists = count_updates (λ update. true) lists
 
 -- the items that an operation adds: one, unless it only reads
 abbrev pub changes_of : Op → ℕ

@@ -46,9 +46,9 @@ cut_lists cut lists = record {
 }
 
 -- without the items of updates after this one
-abbrev pub until : ℕ → Lists → Lists
-until update lists = cut_lists (Newer update) lists
+abbrev pub lists_until : ℕ → Lists → Lists
+lists_until update lists = cut_lists (Newer update) lists
 
 -- without the items that no state from the oldest update on has
-abbrev pub collected : ℕ → Lists → Lists
-collected oldest lists = cut_lists (Older oldest (Some beginning)) lists
+abbrev pub collected_lists : ℕ → Lists → Lists
+collected_lists oldest lists = cut_lists (Older oldest (Some beginning)) lists

@@ -1,4 +1,4 @@
--- Items of an update and of those before it, and later ones. Only proofs use this.
+-- Items of an update and of those before it, and later ones. Only proofs use this. No public contract cites this.
 use Rattle.std.specs.Prelude.{◌≡◌, ◌≤◌, ◌<◌, ℕ, zero, suc, List, [], ◌∷◌}
 use Rattle.std.specs.List.{AllByRecursion}
 use Rattle.version_parts.specs.declared.track.Item.{Item}

@@ -27,12 +27,12 @@ abbrev pub value_at : ℕ → Option Time → List (Item Name) → Option Name
 value_at update since items = option_map (λ (live : Time × Name). live.1) (live_at update since items)
 
 -- the properties or tags
-abbrev pub values_at : ℕ → Option Time → Tracks → List (Name × Name)
-values_at update since tracks = kept_values (value_at update since) tracks
+abbrev pub track_values_at : ℕ → Option Time → Tracks → List (Name × Name)
+track_values_at update since tracks = kept_values (value_at update since) tracks
 
 -- an edge with this target, there since that time
 abbrev pub live_edge : ℕ → Tracks → Time × Name → Edge
-live_edge update tags live = record { target = live.1; tags = values_at update (Some live.0) tags }
+live_edge update tags live = record { target = live.1; tags = track_values_at update (Some live.0) tags }
 
 -- an edge of a vertex that is there since `since`
 abbrev pub edge_at : ℕ → Option Time → EdgeItems → Option Edge
@@ -45,7 +45,7 @@ edges_at update since edges = kept_values (edge_at update since) edges
 -- the record of a vertex that is there since `since`
 abbrev pub record_at : ℕ → Option Time → Lists → Record
 record_at update since lists =
-    record { props = values_at update since lists.props; edges = edges_at update since lists.edges }
+    record { props = track_values_at update since lists.props; edges = edges_at update since lists.edges }
 
 -- the state after an update: a vertex is there if the last item of its presence has a value. What was written before it
 -- was made is hidden, and so are the tags that an edge had before it was linked
@@ -58,14 +58,14 @@ state_at update lists =
 
 -- The item that an operation adds, without its time: which part of the vertex it is an item of, and the value of that
 -- part, or None if the part goes. An item of an edge is one of its target, or of one of its tags.
-pub data Written : Type 0 where
-  NoItem : Written
-  OfVertex : Option (Unit {0}) → Written
-  OfProp : (key : Name) (value : Option Name) → Written
-  OfEdge : (name : Name) (tag value : Option Name) → Written
+pub data WrittenItem : Type 0 where
+  NoItem : WrittenItem
+  OfVertex : Option (Unit {0}) → WrittenItem
+  OfProp : (key : Name) (value : Option Name) → WrittenItem
+  OfEdge : (name : Name) (tag value : Option Name) → WrittenItem
 
 -- what each operation adds; one that only reads adds nothing
-abbrev pub written_by : Op → Written
+abbrev pub written_by : Op → WrittenItem
 written_by (Create v) = OfVertex (Some tt)
 written_by (Delete v) = OfVertex None
 written_by (Set v key value) = OfProp key (Some value)
@@ -104,7 +104,7 @@ abbrev pub with_item_of : Name → Option Name → Item Name → List (Name × E
 with_item_of name tag item edges = put name (with_edge_item tag item (edge_or_none (at_key name edges))) edges
 
 -- the lists with an item of this time
-abbrev pub with_written : Time → Written → Lists → Lists
+abbrev pub with_written : Time → WrittenItem → Lists → Lists
 with_written time NoItem lists = lists
 with_written time (OfVertex value) lists =
     record lists { presence = lists.presence ++ record { time = time; value = value } ∷ [] }

@@ -1,4 +1,4 @@
--- Which states a cut leaves as they are. Only proofs use this.
+-- Which states a cut leaves as they are. Only proofs use this. No public contract cites this.
 use Rattle.std.specs.Prelude.{◌≡◌, ◌≤◌, ℕ, false, Option}
 use Rattle.version_parts.specs.declared.cut.Cut.{Cut}
 use Rattle.version_parts.specs.declared.cut.Cut.TheVariants.{Newer, Older}

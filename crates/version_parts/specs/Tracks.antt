@@ -24,12 +24,13 @@ module _ {X : Type 0} where
   last_at update (item ∷ rest) = or_else (last_at update rest) (unless_later update item)
 
   -- what an item says of a part of a thing that is there since `since`: its value, with its time
-  abbrev pub shown : Option Time → Item X → Option (Time × X)
-  shown since item = if counts since item.time then option_map (λ (value : X). (item.time, value)) item.value else None
+  abbrev pub shown_value : Option Time → Item X → Option (Time × X)
+  shown_value since item =
+      if counts since item.time then option_map (λ (value : X). (item.time, value)) item.value else None
 
   -- what the part is after an update, with the time since when
   abbrev pub live_at : ℕ → Option Time → List (Item X) → Option (Time × X)
-  live_at update since items = option_and_then (shown since) (last_at update items)
+  live_at update since items = option_and_then (shown_value since) (last_at update items)
 
   -- the time since when the part is there
   abbrev pub since_at : ℕ → Option Time → List (Item X) → Option Time
@@ -41,7 +42,7 @@ module _ {X : Type 0} where
   from_oldest oldest since [] = []
   from_oldest oldest since (item ∷ rest) =
       if is_some (last_at oldest rest) then from_oldest oldest since rest
-      else if nat_le item.time.update oldest && not (is_some (shown since item)) then rest
+      else if nat_le item.time.update oldest && not (is_some (shown_value since item)) then rest
       else item ∷ rest
 
   -- what a cut leaves

@@ -1,6 +1,6 @@
 //! How many items there are.
 ghost use Rattle.std.specs.Prelude.{◌≡◌, ◌<◌, ◌^◌, true};
-ghost use Rattle.version_parts.specs.Counts.{total, count_items, count_edge, count_of};
+ghost use Rattle.version_parts.specs.Counts.{total, count_items, count_edge, count_in_lists};
 
 use crate::edge::EdgeItems;
 use crate::lists::Lists;
@@ -9,8 +9,8 @@ use weave_data::{Name, NameMap};
 
 /// How many items a vertex has.
 pub(crate) fn count_of(lists: &Lists) -> u64
-    requires { count_of lists.now < 2 ^ 64 }
-    ensures { result ≡ count_of lists.now }
+    requires { count_in_lists lists.now < 2 ^ 64 }
+    ensures { result ≡ count_in_lists lists.now }
 {
     let props = count_tracks(&lists.props);
     let edges = count_edges(&lists.edges);

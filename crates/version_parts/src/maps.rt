@@ -6,7 +6,7 @@ ghost use Rattle.version_parts.specs.Counts.{has_items};
 ghost use Rattle.version_parts.specs.Cuts.{cut_tracks, left_items};
 ghost use Rattle.version_parts.specs.KeptValues.{kept_values};
 ghost use Rattle.version_parts.specs.Placed.{AllInTracks};
-ghost use Rattle.version_parts.specs.States.{value_at, values_at, with_item};
+ghost use Rattle.version_parts.specs.States.{value_at, track_values_at, with_item};
 ghost use Rattle.version_parts.specs.Tracks.{cut_items};
 
 use crate::cut::Cut;
@@ -92,7 +92,7 @@ pub(crate) fn values_at(
     update: u64,
     since: Option<Time>,
 ) -> Result<NameMap<Name>, AllocError>
-    ensures { IfOk result (λ values. values ≡ values_at update since tracks.now) }
+    ensures { IfOk result (λ values. values ≡ track_values_at update since tracks.now) }
 {
     let pairs = tracks.as_slice();
     let values = pairs_at(alloc, pairs, update, since)?;

@@ -1,8 +1,8 @@
 //! The parts of a vertex's versions.
 ghost use Rattle.std.specs.Prelude.{◌≡◌, ◌≤◌, ◌<◌, ◌+◌, ◌-◌, ◌^◌, ◌&&◌, ℕ, Bool, cond, nat_le, IsTrue, IfOk, OnOk, OnErr};
-ghost use Rattle.graph_ops.specs.VertexOps.{state_after, none_refused};
-ghost use Rattle.version_parts.specs.Counts.{count_updates, count_of, changes, size_of};
-ghost use Rattle.version_parts.specs.Cuts.{cut_lists, until, collected};
+ghost use Rattle.graph_ops.specs.VertexOps.{state_after_ops, none_refused};
+ghost use Rattle.version_parts.specs.Counts.{count_updates, count_in_lists, changes, size_of};
+ghost use Rattle.version_parts.specs.Cuts.{cut_lists, lists_until, collected_lists};
 ghost use Rattle.version_parts.specs.Placed.{AreUpTo};
 ghost use Rattle.version_parts.specs.States.{no_items, state_at};
 
@@ -25,14 +25,14 @@ pub struct Parts {
 
 impl Model for Parts {
     ghost use Rattle.std.specs.Prelude.{◌≡◌};
-    ghost use Rattle.version_parts.specs.Counts.{count_of};
+    ghost use Rattle.version_parts.specs.Counts.{count_in_lists};
     ghost use Rattle.version_parts.specs.declared.lists.Lists.{Lists};
 
     ghost Value = { Lists };
 
     ghost view = { λ parts. parts.lists };
 
-    ghost invariant = { λ parts. parts.count ≡ count_of parts.lists };
+    ghost invariant = { λ parts. parts.count ≡ count_in_lists parts.lists };
 }
 
 impl Parts {
@@ -48,7 +48,7 @@ impl Parts {
 
     /// How many items there are.
     pub fn count(&self) -> u64
-        ensures { result ≡ count_of self.now }
+        ensures { result ≡ count_in_lists self.now }
     {
         self.count
     }
@@ -67,7 +67,7 @@ impl Parts {
         requires small { before < 2 ^ 64 - 1 }
         requires passes { IsTrue (none_refused ops.now (state_at before self.old)) }
         ensures state { OnOk result (state_at (before + 1) self.new
-            ≡ state_after ops.now (state_at before self.old)) }
+            ≡ state_after_ops ops.now (state_at before self.old)) }
         ensures earlier { (update : ℕ) → update ≤ before → state_at update self.new ≡ state_at update self.old }
         ensures within { OnOk result (AreUpTo (before + 1) self.new) }
         ensures still_within { OnErr result (AreUpTo before self.new) }
@@ -93,7 +93,7 @@ impl Parts {
 
     /// Drops the items of updates after the first `newest` ones. It takes no memory.
     pub fn take_back(&mut self, newest: u64)
-        ensures items { self.new ≡ until newest self.old }
+        ensures items { self.new ≡ lists_until newest self.old }
         ensures states { (update : ℕ) → update ≤ newest → state_at update self.new ≡ state_at update self.old }
         ensures within { AreUpTo newest self.new }
         ensures counts { (test : ℕ → Bool) → count_updates test self.new
@@ -104,7 +104,7 @@ impl Parts {
 
     /// Drops the items that no state from the oldest update on has. It takes no memory.
     pub fn collect(&mut self, oldest: u64)
-        ensures items { self.new ≡ collected oldest self.old }
+        ensures items { self.new ≡ collected_lists oldest self.old }
         ensures states { (update : ℕ) → oldest ≤ update → state_at update self.new ≡ state_at update self.old }
         ensures within { (newest : ℕ) → AreUpTo newest self.old → AreUpTo newest self.new }
         ensures counts { (test : ℕ → Bool) → count_updates test self.new ≤ count_updates test self.old }

@@ -2,7 +2,7 @@
 ghost use Rattle.std.specs.Prelude.{◌≡◌, ◌≤◌, ◌∷◌, ◌++◌, [], length, drop, take, is_some, option_copied, OnOk, OnErr};
 ghost use Rattle.std.specs.List.Sorted.{IsNonDecreasingBy};
 ghost use Rattle.std.specs.Option.{option_to_list};
-ghost use Rattle.version_parts.specs.Tracks.{last_at, shown, live_at, since_at, from_oldest, cut_items, inner_cut, AllTimes};
+ghost use Rattle.version_parts.specs.Tracks.{last_at, shown_value, live_at, since_at, from_oldest, cut_items, inner_cut, AllTimes};
 ghost use Rattle.version_parts.specs.Splits.{IsSplit};
 ghost use Rattle.version_parts.specs.Counts.{has_items};
 
@@ -167,7 +167,7 @@ fn last_at<T>(items: &[Item<T>], update: u64) -> Option<&Item<T>>
 
 // What an item says of a part of a thing that is there since `since`.
 fn shown<T: Copy>(item: &Item<T>, since: Option<Time>) -> Option<(Time, T)>
-    ensures { result ≡ shown since item.now }
+    ensures { result ≡ shown_value since item.now }
 {
     if !item.time.counts(since) {
         return None;
@@ -177,7 +177,7 @@ fn shown<T: Copy>(item: &Item<T>, since: Option<Time>) -> Option<(Time, T)>
 }
 
 fn is_shown<T>(item: &Item<T>, since: Option<Time>) -> bool
-    ensures { result ≡ is_some (shown since item.now) }
+    ensures { result ≡ is_some (shown_value since item.now) }
 {
     item.time.counts(since) && item.value.is_some()
 }

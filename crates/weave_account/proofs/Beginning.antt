@@ -6,7 +6,7 @@ use Rattle.std.proofs.lemmas.List.Elements.{Contains-append_left, Contains-appen
 use Rattle.weave_data.proofs.Members.{has_head, has_tail, has_none, has_flat}
 use Rattle.vector_stamp.specs.declared.clock.Stamp.{Stamp}
 use Rattle.weave_entries.specs.declared.gate_log.GateEntry.{GateEntry}
-use Rattle.weave_entries.specs.GateReplay.{Begun, tx_by, program_by, txs_of, programs_of, begun_in}
+use Rattle.weave_entries.specs.GateReplay.{BegunRequest, tx_by, program_by, txs_of, programs_of, begun_in}
 use Rattle.weave_account.specs.declared.account.Account.{Account}
 use Rattle.weave_account.specs.Account.{gate_log, all_begun, stamp_of}
 use Rattle.weave_data.proofs.Images.{flat-has}
@@ -20,30 +20,30 @@ list-there (xs ∷ xss) zero y h = has_head xs xss
 list-there (xs ∷ xss) (suc i) y h = has_tail xs xss (get_or xss i []) (list-there xss i y h)
 
 -- what was begun as a transaction is among all that was begun
-pub tx-begun : (log : List GateEntry) (begun : Begun) → Contains (txs_of log) begun → Contains (begun_in log) begun
+pub tx-begun : (log : List GateEntry) (begun : BegunRequest) → Contains (txs_of log) begun → Contains (begun_in log) begun
 tx-begun log begun h =
     let from = flat-has (λ (entry : GateEntry). tx_by entry.author entry.deed) log begun h in
     has_flat (λ (entry : GateEntry). tx_by entry.author entry.deed ++ program_by entry.author entry.deed) log from.0 begun from.1.0
     (Contains-append_left (tx_by (from.0).author (from.0).deed) (program_by (from.0).author (from.0).deed) begun from.1.1)
 
 -- what was begun as a program is among all that was begun
-pub program-begun : (log : List GateEntry) (begun : Begun) → Contains (programs_of log) begun → Contains (begun_in log) begun
+pub program-begun : (log : List GateEntry) (begun : BegunRequest) → Contains (programs_of log) begun → Contains (begun_in log) begun
 program-begun log begun h =
     let from = flat-has (λ (entry : GateEntry). program_by entry.author entry.deed) log begun h in
     has_flat (λ (entry : GateEntry). tx_by entry.author entry.deed ++ program_by entry.author entry.deed) log from.0 begun from.1.0
     (Contains-append_right (tx_by (from.0).author (from.0).deed) (program_by (from.0).author (from.0).deed) begun from.1.1)
 
 -- what was begun at one gatekeeper was begun
-pub all-in : (account : Account) (home : ℕ) (begun : Begun) → Contains (begun_in (gate_log account home)) begun
+pub all-in : (account : Account) (home : ℕ) (begun : BegunRequest) → Contains (begun_in (gate_log account home)) begun
     → Contains (all_begun account) begun
 all-in account home begun h =
     let entry =
     flat-has (λ (entry : GateEntry). tx_by entry.author entry.deed ++ program_by entry.author entry.deed) (gate_log account home) begun h in
     has_flat begun_in account.gates (gate_log account home) begun (list-there account.gates home entry.0 entry.1.0) h
 
-module _ (account : Account) (once : AllPairs (λ (a b : Begun). a.request ≢ b.request) (all_begun account)) where
+module _ (account : Account) (once : AllPairs (λ (a b : BegunRequest). a.request ≢ b.request) (all_begun account)) where
   -- what was begun at one gatekeeper is among all that was
-  pub all-has : (home : ℕ) (begun : Begun) → Contains (begun_in (gate_log account home)) begun
+  pub all-has : (home : ℕ) (begun : BegunRequest) → Contains (begun_in (gate_log account home)) begun
       → Contains (all_begun account) begun
   all-has home begun h =
       let entry =
@@ -51,9 +51,9 @@ module _ (account : Account) (once : AllPairs (λ (a b : Begun). a.request ≢ b
       has_flat begun_in account.gates (gate_log account home) begun (list-there account.gates home entry.0 entry.1.0) h
 
   -- a begun request has the stamp of its begin
-  pub begun-stamp : (begun : Begun) → Contains (all_begun account) begun → stamp_of account begun.request ≡ Some begun.stamp
+  pub begun-stamp : (begun : BegunRequest) → Contains (all_begun account) begun → stamp_of account begun.request ≡ Some begun.stamp
   begun-stamp begun h =
-      ap (option_map (λ (b : Begun). b.stamp)) (find_by_key (λ (b : Begun). b.request) (all_begun account) begun once h)
+      ap (option_map (λ (b : BegunRequest). b.stamp)) (find_by_key (λ (b : BegunRequest). b.request) (all_begun account) begun once h)
 
   -- a transaction has the stamp of its begin
   pub tx-stamp : (home author r : ℕ) (stamp : Stamp)

@@ -21,7 +21,7 @@ use Rattle.weave_entries.specs.declared.store_log.StoreEntry.{StoreEntry}
 use Rattle.weave_entries.specs.declared.verdict.Counted.{Counted}
 use Rattle.weave_entries.specs.declared.verdict.Verdict.{Verdict}
 use Rattle.weave_entries.specs.declared.verdict.Verdict.TheVariants.{Committed, Conflict, Refused}
-use Rattle.weave_entries.specs.GateReplay.{Begun}
+use Rattle.weave_entries.specs.GateReplay.{BegunRequest}
 use Rattle.weave_entries.specs.Sending.{IsCountsOf, message_to, messages_of, shards_named}
 use Rattle.weave_entries.specs.ShardReplay.{Update, applied_messages, arrived_at, processed_of, updates_in, updates_of}
 use Rattle.weave_entries.specs.StoreReplay.{Commit, Judgement, count_naming, judged_by, judgements_of}
@@ -67,13 +67,13 @@ module _ (script : Script) (account : Account) (basis : Basis script account) wh
   pub stamped-begun : (r : ℕ) (stamp : Stamp) → stamp_of account r ≡ Some stamp → IsBegunStamp account stamp
   stamped-begun r stamp e =
       let b = begin-of script account basis r stamp e in
-      subst (Contains (begun_stamps account)) b.3 (has_map (λ (b : Begun). b.stamp) (all_begun account) b.0 b.1)
+      subst (Contains (begun_stamps account)) b.3 (has_map (λ (b : BegunRequest). b.stamp) (all_begun account) b.0 b.1)
 
   -- that of a judgement
   pub judged-stamp : (judged : Judgement) → Contains (judgements_of account.store) judged → IsBegunStamp account judged.stamp
   judged-stamp judged h =
       let b = judged-begun script account basis judged h in
-      subst (Contains (begun_stamps account)) b.3 (has_map (λ (b : Begun). b.stamp) (all_begun account) b.0 b.1)
+      subst (Contains (begun_stamps account)) b.3 (has_map (λ (b : BegunRequest). b.stamp) (all_begun account) b.0 b.1)
 
   -- that of what a session began last
   pub last-stamped : (session : ℕ) (stamp : Stamp) → (session_of [] (session_log account session)).last ≡ Some stamp
@@ -82,7 +82,7 @@ module _ (script : Script) (account : Account) (basis : Basis script account) wh
 
   -- Updates
 
-  verdict-stamp : (log : List GateEntry) (begun : Begun) (ops : List Op) (verdict : Verdict) (a : Addressed)
+  verdict-stamp : (log : List GateEntry) (begun : BegunRequest) (ops : List Op) (verdict : Verdict) (a : Addressed)
       → Contains (messages_of script.shards log begun ops verdict) a → (a.message).stamp ≡ begun.stamp
   verdict-stamp log begun ops (Committed number answers counts) a h =
       let image = map-has (message_to script.shards log begun ops counts) (shards_named script.shards counts) a h in

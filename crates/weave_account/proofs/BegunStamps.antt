@@ -9,7 +9,7 @@ use Rattle.program_defs.specs.declared.script.Script.{Script}
 use Rattle.weave_entries.specs.declared.gate_log.GateEntry.{GateEntry}
 use Rattle.weave_entries.specs.declared.gate_log.GateDeed.{GateDeed}
 use Rattle.weave_entries.specs.declared.gate_log.GateDeed.TheVariants.{BeganTx, BeganProgram, Sent, Nop, Heard, Raised, Finished}
-use Rattle.weave_entries.specs.GateReplay.{Begun, begun_by, begun_in, clocks_by, clocks_in, ticks_of}
+use Rattle.weave_entries.specs.GateReplay.{BegunRequest, begun_by, begun_in, clocks_by, clocks_in, ticks_of}
 use Rattle.report_rules.specs.ReportOf.{is_stamp_of}
 use Rattle.weave_account.specs.declared.account.Account.{Account}
 use Rattle.weave_account.specs.Account.{gate_log}
@@ -18,12 +18,12 @@ use Rattle.weave_account.proofs.Replying.{home-within}
 use Rattle.weave_account.proofs.Basis.{Basis}
 
 -- the clock of a begin is one of its deed
-begun-clock : (author : ℕ) (deed : GateDeed) (begun : Begun) → Contains (begun_by author deed) begun
+begun-clock : (author : ℕ) (deed : GateDeed) (begun : BegunRequest) → Contains (begun_by author deed) begun
     → Contains (clocks_by deed) begun.stamp.clock
 begun-clock author (BeganTx r stamp) begun h =
-    subst (λ (b : Begun). Contains (stamp.clock ∷ []) b.stamp.clock) (only _ begun h) (has_head stamp.clock [])
+    subst (λ (b : BegunRequest). Contains (stamp.clock ∷ []) b.stamp.clock) (only _ begun h) (has_head stamp.clock [])
 begun-clock author (BeganProgram r stamp) begun h =
-    subst (λ (b : Begun). Contains (stamp.clock ∷ []) b.stamp.clock) (only _ begun h) (has_head stamp.clock [])
+    subst (λ (b : BegunRequest). Contains (stamp.clock ∷ []) b.stamp.clock) (only _ begun h) (has_head stamp.clock [])
 begun-clock author (Sent r messages) begun h = absurd (has_none begun h)
 begun-clock author (Nop shard number stamp low) begun h = absurd (has_none begun h)
 begun-clock author (Heard clock) begun h = absurd (has_none begun h)
@@ -31,7 +31,7 @@ begun-clock author (Raised epoch) begun h = absurd (has_none begun h)
 begun-clock author (Finished r) begun h = absurd (has_none begun h)
 
 -- the clock of a begun request is one of its gatekeeper's log
-pub clock-there : (log : List GateEntry) (begun : Begun) → Contains (begun_in log) begun
+pub clock-there : (log : List GateEntry) (begun : BegunRequest) → Contains (begun_in log) begun
     → Contains (clocks_in log) begun.stamp.clock
 clock-there log begun h =
     let entry = flat-has (λ (e : GateEntry). begun_by e.author e.deed) log begun h in
@@ -55,7 +55,7 @@ none-past (xs ∷ xss) (suc i) le = none-past xss i (omega (arith, le))
 
 module _ (script : Script) (account : Account) (basis : Basis script account) where
   -- a known clock counts no event of a gatekeeper that the script hasn't
-  pub stamp-of-script : (home : ℕ) (begun : Begun) → Contains (begun_in (gate_log account home)) begun
+  pub stamp-of-script : (home : ℕ) (begun : BegunRequest) → Contains (begun_in (gate_log account home)) begun
       → IsTrue (has_64_bits begun.stamp.clock) → begun.stamp.home ≡ home → IsTrue (is_stamp_of script begun.stamp)
   stamp-of-script home begun there small home-is =
       let within = home-within script account basis home begun there in

@@ -6,7 +6,7 @@ use Rattle.vector_stamp.specs.declared.clock.Stamp.{Stamp}
 use Rattle.vector_stamp.specs.Coherence.{AreCoherent}
 use Rattle.program_defs.specs.declared.script.Script.{Script}
 use Rattle.weave_entries.specs.declared.gate_log.GateEntry.{GateEntry}
-use Rattle.weave_entries.specs.GateReplay.{Begun, begun_by, begun_in, stamps_of}
+use Rattle.weave_entries.specs.GateReplay.{BegunRequest, begun_by, begun_in, stamps_of}
 use Rattle.weave_entries.specs.GateRules.{IsGateLog}
 use Rattle.weave_account.specs.declared.account.Account.{Account}
 use Rattle.weave_account.specs.Account.{gate_log, all_begun}
@@ -24,9 +24,9 @@ module _ (laws : LawsForAccounts) (shards : ℕ) (account : Account) (few : leng
     all : AreCoherent (stamps_of (gate_log account stamp.home))
     has : Contains (stamps_of (gate_log account stamp.home)) stamp
 
-  stamp-at : (stamp : Stamp) → Contains (map (λ (b : Begun). b.stamp) (all_begun account)) stamp → IsStampAt stamp
+  stamp-at : (stamp : Stamp) → Contains (map (λ (b : BegunRequest). b.stamp) (all_begun account)) stamp → IsStampAt stamp
   stamp-at stamp h =
-      let image = map-has (λ (b : Begun). b.stamp) (all_begun account) stamp h in
+      let image = map-has (λ (b : BegunRequest). b.stamp) (all_begun account) stamp h in
       let log = flat-has begun_in account.gates image.of image.has in
       let home = place-of account.gates log.0 log.1.0 in
       let there : Contains (begun_in (gate_log account home.0)) image.of = subst (λ l. Contains (begun_in l) image.of) (sym home.1) log.1.1 in
@@ -43,7 +43,7 @@ module _ (laws : LawsForAccounts) (shards : ℕ) (account : Account) (few : leng
       }
 
   -- the stamps of all begun requests are coherent
-  pub seen-coherent : AreCoherent (map (λ (b : Begun). b.stamp) (all_begun account))
+  pub seen-coherent : AreCoherent (map (λ (b : BegunRequest). b.stamp) (all_begun account))
   seen-coherent =
       record {
         homes = λ a ha. (stamp-at a ha).below;
@@ -62,7 +62,7 @@ module _ (laws : LawsForAccounts) (shards : ℕ) (account : Account) (few : leng
 
 -- this holds in an account
 pub begun-coherent : (script : Script) (account : Account) → Basis script account
-    → AreCoherent (map (λ (b : Begun). b.stamp) (all_begun account))
+    → AreCoherent (map (λ (b : BegunRequest). b.stamp) (all_begun account))
 begun-coherent script account basis =
     let as-many = basis.is.gatekeepers.as_many in
     let few = basis.limits.few_gates in

@@ -27,7 +27,7 @@ use Rattle.weave_entries.specs.declared.shard_log.ShardDeed.{ShardDeed}
 use Rattle.weave_entries.specs.declared.shard_log.ShardDeed.TheVariants.{Arrived, Applied, Visited, Collected}
 use Rattle.weave_entries.specs.declared.store_log.StoreEntry.{StoreEntry}
 use Rattle.weave_entries.specs.Logs.{AtEachEntry}
-use Rattle.weave_entries.specs.GateReplay.{Begun, addressed_to, channel_of, running_of, stamps_by}
+use Rattle.weave_entries.specs.GateReplay.{BegunRequest, addressed_to, channel_of, running_of, stamps_by}
 use Rattle.weave_entries.specs.ShardReplay.{Update, arrived_at, bound_of, dropped_after, dropped_from, last_of, meet_if, meet_of_all, older_than, processed_count, updates_of}
 use Rattle.weave_entries.specs.ShardRules.{IsKeptFor, dropped_of}
 use Rattle.weave_account.specs.declared.account.Account.{Account}
@@ -264,7 +264,7 @@ module _ (laws : LawsForAccounts) (gates shards : ℕ) (seen : Account) (shard :
           subst HasEightCounts low
           (laws.low_eight gate shards shard (gate_log seen gate) (omega (arith, within, few)) (sent.logs gate) message (arrived-there gate (processed_count gate log) message is))
 
-  module _ (home : ℕ) (inside : home < gates) (program : Begun) (running : Contains (running_of (gate_log seen home)) program) where
+  module _ (home : ℕ) (inside : home < gates) (program : BegunRequest) (running : Contains (running_of (gate_log seen home)) program) where
     -- the low mark of the program's gatekeeper is at most the program's stamp
     low-below : (message : Message) → last_of home log ≡ Some message → IsTrue (is_at_most message.low program.stamp.clock)
     low-below message e =
@@ -306,7 +306,7 @@ sent-before gates shards seen shard before after sent = record {
 }
 
 module _ (laws : LawsForAccounts) (gates shards : ℕ) (seen : Account) (shard : ℕ) (log : List ShardEntry) (has : HasSeen shards seen.store shard log) (sent : HasSeenSent gates shards seen shard log)
-    (home : ℕ) (inside : home < gates) (program : Begun) (running : Contains (running_of (gate_log seen home)) program) (v : Name) (here : shard_of v shards ≡ shard) where
+    (home : ℕ) (inside : home < gates) (program : BegunRequest) (running : Contains (running_of (gate_log seen home)) program) (v : Name) (here : shard_of v shards ≡ shard) where
   -- if any version was dropped, the oldest one kept is before the program
   oldest-seen : 0 < dropped_of v log
       → IsSomeAnd (oldest_kept v log) (λ (update : Update). IsTrue (stamp_before update.stamp program.stamp))
@@ -352,7 +352,7 @@ module _ (script : Script) (account : Account) (basis : Basis script account) wh
   }
 
   -- a gatekeeper where a program is running is one of the script's
-  pub running-inside : (home : ℕ) (program : Begun) → Contains (running_of (gate_log account home)) program → home < script.gates
+  pub running-inside : (home : ℕ) (program : BegunRequest) → Contains (running_of (gate_log account home)) program → home < script.gates
   running-inside home program running =
       let entry =
       flat-has (λ (e : GateEntry). stamps_by e.deed) (gate_log account home) program.stamp

@@ -27,7 +27,7 @@ use Rattle.report_rules.specs.declared.report.ReplyState.TheVariants.{Unbegun, B
 use Rattle.report_rules.specs.declared.report.Report.{Report}
 use Rattle.weave_data.specs.Facts.{AllHold}
 use Rattle.report_rules.specs.RightReport.{IsConflictInPlace, conflicts_clause}
-use Rattle.report_rules.specs.Lookups.{is_some_and, AreBoth, request_at, same_session, names_vertex, number_of, is_committed}
+use Rattle.report_rules.specs.Lookups.{is_some_and, AreBoth, request_at, same_session, request_names_vertex, committed_number, is_committed}
 use Rattle.weave_account.specs.declared.account.Account.{Account}
 use Rattle.weave_account.specs.Account.{stamp_of, pairs_in, commits_in, Precedence}
 use Rattle.weave_account.specs.Store.{Conflicts, IsRightVerdict, InTurn}
@@ -134,7 +134,7 @@ module _ (script : Script) (account : Account) (basis : Basis script account) (r
       commits-listed script account basis report reported commit.request
       (in-has (requests_of_commits (commits_in account)) commit.request (has_map (λ (c : Commit). c.request) (commits_in account) commit h)) in
       elim (listed-is script account report reported.matches commit.request (order-has report report.order reported.order commit.request listed).1) [
-        | inl tx ↦ subst (λ o. IsTrue (is_some_and (λ (reply : Reply). is_some (number_of reply.state)) o)) (sym tx.reply_is) (subst (λ s. IsTrue (is_some (number_of s))) (sym tx.state) refl)
+        | inl tx ↦ subst (λ o. IsTrue (is_some_and (λ (reply : Reply). is_some (committed_number reply.state)) o)) (sym tx.reply_is) (subst (λ s. IsTrue (is_some (committed_number s))) (sym tx.state) refl)
         | inr program ↦
             let work : (program.request).work ≡ Change commit.ops =
             subst (λ q. IsSomeAnd q (λ (request : Request). request.work ≡ Change commit.ops)) program.request_is
@@ -144,7 +144,7 @@ module _ (script : Script) (account : Account) (basis : Basis script account) (r
 
   -- a commit that names a vertex is a request that does
   pub commit-names : (commit : Commit) (v : Name) → Contains (commits_in account) commit → IsTrue (names v commit)
-      → IsTrue (names_vertex script commit.request v)
+      → IsTrue (request_names_vertex script commit.request v)
   commit-names commit v h named =
       subst IsTrue (sym (work-named (request_at script commit.request) commit.ops v (known script account basis report reported commit h).work)) named
 
@@ -190,9 +190,9 @@ module _ (script : Script) (account : Account) (basis : Basis script account) (r
       let precedes : RequestBefore script account r newer = precedes-by r newer judged.stamp last.stamp stamp-r stamp-newer conflict.precedes in
       let work : IsSomeAnd (request_at script r) (λ (request : Request). request.work ≡ Change judged.ops) =
       subst (λ k. IsSomeAnd (request_at script k) (λ (request : Request). request.work ≡ Change judged.ops)) at.request_is (at.rule).work in
-      let named-r : IsTrue (names_vertex script r v) = subst IsTrue (sym (work-named (request_at script r) judged.ops v work)) conflict.named in
-      let named-newer : IsTrue (names_vertex script newer v) =
-      subst (λ k. IsTrue (names_vertex script k v)) conflict.newer_is (commit-names last v last-in found.1) in
+      let named-r : IsTrue (request_names_vertex script r v) = subst IsTrue (sym (work-named (request_at script r) judged.ops v work)) conflict.named in
+      let named-newer : IsTrue (request_names_vertex script newer v) =
+      subst (λ k. IsTrue (request_names_vertex script k v)) conflict.newer_is (commit-names last v last-in found.1) in
       let committed : IsTrue (is_committed report newer) =
       subst (λ k. IsTrue (is_committed report k)) conflict.newer_is (is-committed last last-in) in
       let other : ¬ IsTrue (same_session script r newer) = λ same.

@@ -21,7 +21,7 @@ use Rattle.weave_entries.specs.declared.session_log.SessionEntry.{SessionEntry}
 use Rattle.weave_entries.specs.declared.session_log.SessionDeed.TheVariants as session
 use Rattle.weave_entries.specs.declared.verdict.Verdict.TheVariants.{Committed}
 use Rattle.weave_entries.specs.Logs.{AtEachEntry}
-use Rattle.weave_entries.specs.GateReplay.{Begun, clocks_in, ticks_of}
+use Rattle.weave_entries.specs.GateReplay.{BegunRequest, clocks_in, ticks_of}
 use Rattle.weave_entries.specs.GateRules.{FitsAs, IsGateLog, HearsAs}
 use Rattle.weave_entries.specs.SessionReplay.{FitsSession, session_of}
 use Rattle.weave_entries.specs.StoreReplay.{Judgement, judged_by}
@@ -203,10 +203,11 @@ no-program (suc zero) request program e w =
     let same : t2 ≡ request = cc in let clash : Change [] ≡ Look program = ap (λ (q : Request). q.work) same ∙ w in cc
 no-program (suc (suc r)) request program e w = cc
 
+-- the logs of this example, in which an epoch is raised and heard of, are an account
 pub worked-epoch : IsAccount script account
 worked-epoch =
     record {
-      gatekeepers = record { as_many = refl; logs = fits; begins = begins; once = pairs-two (λ (a b : Begun). a.request ≢ b.request) _ _ (λ e. cc) };
+      gatekeepers = record { as_many = refl; logs = fits; begins = begins; once = pairs-two (λ (a b : BegunRequest). a.request ≢ b.request) _ _ (λ e. cc) };
       clocks = record { known = known; hears_no_more = hears };
       sessions = record { logs = session-fits; stamps = of-two (HasSessionStamp account) script t1 t2 refl refl refl; replies = session-replies; finished_are_replied = of-two (IsRepliedIfFinished account) script t1 t2 refl (λ look. absurd cc) (λ look. absurd cc) };
       store = record { judges = judges; once = pairs-two (λ (a b : Judgement). a.request ≢ b.request) _ _ (λ e. cc); in_turn = pairs-two (λ (a b : Judgement). InTurn script a.request b.request) _ _ (λ e. cc) };

@@ -11,7 +11,7 @@ use Rattle.weave_data.specs.Names.{same_name}
 use Rattle.graph_ops.specs.Operations.{State}
 use Rattle.program_defs.specs.declared.program.Program.{Program}
 use Rattle.weave_entries.specs.Logs.{AtEachEntry}
-use Rattle.weave_entries.specs.GateReplay.{Begun, clocks_in}
+use Rattle.weave_entries.specs.GateReplay.{BegunRequest, clocks_in}
 use Rattle.weave_entries.specs.GateRules.{FitsAs, IsGateLog, HearsAs}
 use Rattle.weave_entries.specs.OracleReplay.{settled_entry}
 use Rattle.weave_entries.specs.SessionReplay.{FitsSession, session_of}
@@ -373,10 +373,11 @@ reads-in-turn (suc (suc r)) request program e w = cc
 
 -- The account
 
+-- the logs of this example, in which a visit has the oracle put a transaction before its program, are an account
 pub worked-marked : IsAccount script account
 worked-marked =
     record {
-      gatekeepers = record { as_many = refl; logs = fits; begins = begins; once = pairs-two (λ (x y : Begun). x.request ≢ y.request) _ _ (λ e. cc) };
+      gatekeepers = record { as_many = refl; logs = fits; begins = begins; once = pairs-two (λ (x y : BegunRequest). x.request ≢ y.request) _ _ (λ e. cc) };
       clocks = record { known = known; hears_no_more = hears };
       sessions = record { logs = session-fits; stamps = of-two (HasSessionStamp account) script t1 p refl refl refl; replies = session-replies; finished_are_replied = of-two (IsRepliedIfFinished account) script t1 p refl (λ look. absurd cc) (λ look done. refl) };
       store = record { judges = judges; once = pairs-one (λ (x y : Judgement). x.request ≢ y.request) _; in_turn = pairs-one (λ (x y : Judgement). InTurn script x.request y.request) _ };

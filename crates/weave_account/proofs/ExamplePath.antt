@@ -31,7 +31,7 @@ use Rattle.weave_entries.specs.StoreReplay.{Commit, names_vertex, last_naming, J
 use Rattle.weave_account.specs.declared.account.Account.{Account}
 use Rattle.weave_account.specs.Account.{Precedence, gate_log, session_log, stamp_of}
 use Rattle.weave_account.specs.Gatekeepers.{BeginsAs}
-use Rattle.weave_entries.specs.GateReplay.{Begun, ticks_of}
+use Rattle.weave_entries.specs.GateReplay.{BegunRequest, ticks_of}
 use Rattle.weave_account.specs.Clocks.{IsKnown}
 use Rattle.weave_account.specs.Sessions.{requests_of_session, RepliesAs}
 use Rattle.weave_account.specs.IsAccount.{IsAccount}
@@ -326,10 +326,11 @@ known (suc zero) c h =
 known (suc (suc zero)) c h =
     of-each (IsKnown account) (clock-in 0 0 0 1 ∷ []) (clock-known 0 0 1 (omega arith) (omega arith) (omega arith), tt) c h
 
+-- the logs of this example, with a conflict through a stamp and a pair of the oracle, are an account
 pub worked-path : IsAccount script account
 worked-path =
     record {
-      gatekeepers = record { as_many = refl; logs = fits; begins = begins; once = pairs-three (λ (a b : Begun). a.request ≢ b.request) _ _ _ (λ e. cc) (λ e. cc) (λ e. cc) };
+      gatekeepers = record { as_many = refl; logs = fits; begins = begins; once = pairs-three (λ (a b : BegunRequest). a.request ≢ b.request) _ _ _ (λ e. cc) (λ e. cc) (λ e. cc) };
       clocks = record { known = known; hears_no_more = hears };
       sessions = record { logs = session-fits; stamps = session-stamps; replies = session-replies; finished_are_replied = finished-replied };
       store = record {

@@ -8,7 +8,7 @@ use Rattle.vector_stamp.specs.declared.clock.Clock.{Clock}
 use Rattle.vector_stamp.specs.declared.clock.Stamp.{Stamp}
 use Rattle.vector_stamp.specs.Order.{count_of, stamp_before}
 use Rattle.vector_stamp.specs.Clocks.{counts_no_more}
-use Rattle.weave_entries.specs.GateReplay.{addressed_to, Begun, ticks_of}
+use Rattle.weave_entries.specs.GateReplay.{addressed_to, BegunRequest, ticks_of}
 use Rattle.weave_entries.specs.ShardReplay.{Update}
 use Rattle.vector_stamp.specs.Precedence.{ByStamps}
 use Rattle.weave_data.specs.declared.name.Name.{Name}
@@ -291,10 +291,11 @@ finished-replied (suc (suc r)) request e look done = cc
 
 -- The account
 
+-- the logs of this example, in which a program reads what a transaction of its session created, are an account
 pub worked : IsAccount script account
 worked =
     record {
-      gatekeepers = record { as_many = refl; logs = fits; begins = begins; once = pairs-two (λ (a b : Begun). a.request ≢ b.request) _ _ (λ e. cc) };
+      gatekeepers = record { as_many = refl; logs = fits; begins = begins; once = pairs-two (λ (a b : BegunRequest). a.request ≢ b.request) _ _ (λ e. cc) };
       clocks = record { known = known; hears_no_more = hears };
       sessions = record { logs = session-fits; stamps = session-stamps; replies = session-replies; finished_are_replied = finished-replied };
       store = record { judges = judges; once = pairs-one (λ (a b : Judgement). a.request ≢ b.request) _; in_turn = pairs-one (λ (a b : Judgement). InTurn script a.request b.request) _ };

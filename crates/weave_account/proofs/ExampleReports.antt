@@ -2,7 +2,7 @@
 use Rattle.std.proofs.Common.{◌≡◌, ℕ, false, List, [], ◌∷◌, Some, None, inl, inr, refl, true, arith}
 use Rattle.std.proofs.lemmas.Bool.{both_ways}
 use Rattle.vector_stamp.specs.declared.clock.Stamp.{Stamp}
-use Rattle.vector_stamp.specs.Precedence.{Given, Precedes, precedes}
+use Rattle.vector_stamp.specs.Precedence.{GivenPair, Precedes, precedes}
 use Rattle.std.proofs.Common.{IsTrue}
 use Rattle.program_defs.specs.declared.program.Answer.TheVariants.{Reached, Shown}
 use Rattle.program_defs.specs.declared.program.Program.TheVariants.{Reach}
@@ -44,13 +44,15 @@ writers-match order = record {
   pairs = (writers.pair-is, tt);
 }
 
--- the first has another number, is said to be running, or the oracle's pair is left out
+-- a report that swaps the commit numbers of the two writers is not that of their account
 pub other-number : ¬ IsReportOfAccount writers.script writers.account (report-of (reply 0 writers.x (Committed 2 []) ∷ reply 1 writers.y (Committed 1 []) ∷ []) (first-then-second ∷ []) (0 ∷ 1 ∷ []))
 other-number is = let state : Committed 2 [] ≡ Committed 1 [] = is.matches.replies.0.state_is in cc
 
+-- a report that says of the first of the two writers that it is running is not that of their account
 pub still-running : ¬ IsReportOfAccount writers.script writers.account (report-of (reply 0 writers.x Running ∷ reply 1 writers.y (Committed 2 []) ∷ []) (first-then-second ∷ []) (1 ∷ []))
 still-running is = let state : Running ≡ Committed 1 [] = is.matches.replies.0.state_is in cc
 
+-- a report that leaves out the oracle's pair of the two writers is not that of their account
 pub pair-left-out : ¬ IsReportOfAccount writers.script writers.account (report-of of-writers [] (0 ∷ 1 ∷ []))
 pair-left-out is = is.matches.pairs
 
@@ -106,10 +108,10 @@ walk-there : IsPlainAnswer (graph_read (reads_of marks.account 1)) (Reach marks.
 walk-there = ((λ reached. (marks.a ∷ marks.b ∷ [], refl)), (λ walk. refl))
 
 module _ (laws : LawsForAccounts) where
-  way : (pairs : List Given) (a b : Stamp) → IsTrue (precedes pairs a b) → Precedes pairs a b
+  way : (pairs : List GivenPair) (a b : Stamp) → IsTrue (precedes pairs a b) → Precedes pairs a b
   way pairs a b = (laws.decided pairs a b).1
 
-  no-way : (pairs : List Given) (a b : Stamp) → precedes pairs a b ≡ false → ¬ Precedes pairs a b
+  no-way : (pairs : List GivenPair) (a b : Stamp) → precedes pairs a b ≡ false → ¬ Precedes pairs a b
   no-way pairs a b e h = both_ways _ e ((laws.decided pairs a b).0 h)
 
   -- the pair puts the first writer first
@@ -124,6 +126,7 @@ module _ (laws : LawsForAccounts) where
         listed = refl;
       }
 
+  -- the report with both writers' commits, the oracle's pair and the first one first is that of their account
   pub report-of-writers : IsReportOfAccount writers.script writers.account (report-of of-writers (first-then-second ∷ []) (0 ∷ 1 ∷ []))
   report-of-writers = record { matches = writers-match (0 ∷ 1 ∷ []); order = writers-printed (0 ∷ 1 ∷ []) }
 

@@ -32,7 +32,7 @@ use Rattle.weave_account.specs.Pairs.{IsPairInAccount}
 use Rattle.weave_account.specs.declared.account.Account.{Account}
 use Rattle.weave_account.specs.Account.{Precedence, gate_log, session_log}
 use Rattle.weave_account.specs.Gatekeepers.{BeginsAs}
-use Rattle.weave_entries.specs.GateReplay.{Begun}
+use Rattle.weave_entries.specs.GateReplay.{BegunRequest}
 use Rattle.weave_account.specs.Clocks.{IsKnown}
 use Rattle.weave_account.specs.Sessions.{requests_of_session, RepliesAs}
 use Rattle.weave_account.specs.IsAccount.{IsAccount}
@@ -225,10 +225,11 @@ no-program (suc zero) request program e w =
     let same : t2 ≡ request = cc in let clash : Change (Set v (codes "k") (codes "x") ∷ []) ≡ Look program = ap (λ (q : Request). q.work) same ∙ w in cc
 no-program (suc (suc r)) request program e w = cc
 
+-- the logs of this example, in which the oracle orders two unordered writers, are an account
 pub worked-pair : IsAccount script account
 worked-pair =
     record {
-      gatekeepers = record { as_many = refl; logs = fits; begins = begins; once = pairs-two (λ (a b : Begun). a.request ≢ b.request) _ _ (λ e. cc) };
+      gatekeepers = record { as_many = refl; logs = fits; begins = begins; once = pairs-two (λ (a b : BegunRequest). a.request ≢ b.request) _ _ (λ e. cc) };
       clocks = record { known = known; hears_no_more = two-hear x y (first-to m1) (first-to m2) };
       sessions = record { logs = session-fits; stamps = of-two (HasSessionStamp account) script t1 t2 refl refl refl; replies = session-replies; finished_are_replied = of-two (IsRepliedIfFinished account) script t1 t2 refl (λ look. absurd cc) (λ look. absurd cc) };
       store = record { judges = judges; once = pairs-two (λ (a b : Judgement). a.request ≢ b.request) _ _ (λ e. cc); in_turn = pairs-two (λ (a b : Judgement). InTurn script a.request b.request) _ _ (λ e. cc) };

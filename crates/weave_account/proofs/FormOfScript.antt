@@ -6,7 +6,7 @@ use Rattle.std.specs.List.{AllByRecursion}
 use Rattle.std.proofs.lemmas.Bool.{and_from, lt-ltb}
 use Rattle.std.proofs.lemmas.Option.{slice_get_within}
 use Rattle.vector_stamp.specs.declared.clock.Stamp.{Stamp}
-use Rattle.vector_stamp.specs.Precedence.{Given}
+use Rattle.vector_stamp.specs.Precedence.{GivenPair}
 use Rattle.graph_ops.specs.PlainGraph.{PlainGraph, TxOutcome}
 use Rattle.graph_ops.specs.declared.op.Op.{Op}
 use Rattle.graph_ops.specs.declared.tx.Got.{Got}
@@ -160,7 +160,7 @@ module _ (script : Script) (account : Account) (basis : Basis script account) (r
       at None e reported = absurd reported
       at (Some request) e reported = state-form reply.request request e reply.stamp request.work refl reply.state reported
 
-  pairs-form : (pairs : List Pair) (givens : List Given) → ArePairsOf account pairs givens
+  pairs-form : (pairs : List Pair) (givens : List GivenPair) → ArePairsOf account pairs givens
       → AllByRecursion (form.IsPairOf script) pairs
   pairs-form [] givens are = tt
   pairs-form (pair ∷ pairs) [] are = absurd are

@@ -6,7 +6,7 @@ use Rattle.std.proofs.lemmas.List.{map-append}
 use Rattle.std.proofs.lemmas.List.Concat.{flat_map-append}
 use Rattle.std.proofs.lemmas.List.Elements.{Contains-append_left, filter-append}
 use Rattle.vector_stamp.specs.declared.clock.Stamp.{Stamp}
-use Rattle.vector_stamp.specs.Precedence.{Given, Precedes}
+use Rattle.vector_stamp.specs.Precedence.{GivenPair, Precedes}
 use Rattle.graph_ops.specs.declared.op.Op.{Op}
 use Rattle.program_defs.specs.declared.script.Script.{Script}
 use Rattle.weave_entries.specs.declared.gate_log.GateEntry.{GateEntry}
@@ -19,7 +19,7 @@ use Rattle.weave_entries.specs.declared.shard_log.ShardDeed.TheVariants.{Arrived
 use Rattle.weave_entries.specs.declared.store_log.StoreEntry.{StoreEntry}
 use Rattle.weave_entries.specs.declared.verdict.Verdict.{Verdict}
 use Rattle.weave_entries.specs.declared.verdict.Verdict.TheVariants.{Committed, Conflict, Refused}
-use Rattle.weave_entries.specs.GateReplay.{tx_by, program_by, messages_by, to_shard, Begun, begun_in, begun_stamp, clock_of}
+use Rattle.weave_entries.specs.GateReplay.{tx_by, program_by, messages_by, to_shard, BegunRequest, begun_in, begun_stamp, clock_of}
 use Rattle.weave_entries.specs.OracleReplay.{settled_entry, pairs_of_entry, pairs_of_log}
 use Rattle.weave_entries.specs.StoreReplay.{Commit, Judgement, judged_by, judgements_of, commits_of, commit_by, commits_naming, names_vertex as names}
 use Rattle.weave_account.specs.declared.account.Account.{Account}
@@ -189,7 +189,7 @@ module _ (script : Script) (account next : Account) (on : GoesOn account next) w
   shard-stays shard before (Collected bound) fits = fits
 
   -- what was begun stays begun, with its stamp, if each request is begun at most once
-  pub begun-stays : (b : Begun) → Contains (all_begun account) b → Contains (all_begun next) b
+  pub begun-stays : (b : BegunRequest) → Contains (all_begun account) b → Contains (all_begun next) b
   begun-stays b h =
       let log = flat-has begun_in account.gates b h in
       let home = place-of account.gates log.0 log.1.0 in
@@ -209,21 +209,21 @@ module _ (script : Script) (account next : Account) (on : GoesOn account next) w
     earlier_are = asked.earlier_are;
   }
 
-  module _ (once : AllPairs (λ (a b : Begun). a.request ≢ b.request) (all_begun next)) where
+  module _ (once : AllPairs (λ (a b : BegunRequest). a.request ≢ b.request) (all_begun next)) where
     -- a begun request keeps its stamp
     pub stamp-stays : (r : ℕ) (stamp : Stamp) → stamp_of account r ≡ Some stamp → stamp_of next r ≡ Some stamp
-    stamp-stays r stamp e = at (find (λ (b : Begun). b.request == r) (all_begun account)) refl e
+    stamp-stays r stamp e = at (find (λ (b : BegunRequest). b.request == r) (all_begun account)) refl e
       where
-        at : (o : Option Begun) → find (λ (b : Begun). b.request == r) (all_begun account) ≡ o
-            → option_map (λ (b : Begun). b.stamp) o ≡ Some stamp → stamp_of next r ≡ Some stamp
+        at : (o : Option BegunRequest) → find (λ (b : BegunRequest). b.request == r) (all_begun account) ≡ o
+            → option_map (λ (b : BegunRequest). b.stamp) o ≡ Some stamp → stamp_of next r ≡ Some stamp
         at None is e = cc
         at (Some b) is e =
-            let found = find_has (λ (b : Begun). b.request == r) (all_begun account) b is in
+            let found = find_has (λ (b : BegunRequest). b.request == r) (all_begun account) b is in
             let same : b.request ≡ r = eqb-true b.request r found.1 in
             subst (λ k. stamp_of next k ≡ Some b.stamp) same (begun-stamp next once b (begun-stays b found.0)) ∙ e
 
     -- a pair stays that of its requests
-    pub pair-stays : (pair : Pair) (given : Given) → IsPairInAccount account pair given → IsPairInAccount next pair given
+    pub pair-stays : (pair : Pair) (given : GivenPair) → IsPairInAccount account pair given → IsPairInAccount next pair given
     pair-stays pair given is =
         record {
           earlier_is = stamp-stays pair.earlier given.0 is.earlier_is;
@@ -305,7 +305,7 @@ module _ (script : Script) (account next : Account) (on : GoesOn account next) w
     begins-stay rise home before (Finished r) begun begins = tt
 
 -- the begin of an entry has its stamp
-pub entry-begun : (account : Account) → AllPairs (λ (a b : Begun). a.request ≢ b.request) (all_begun account)
+pub entry-begun : (account : Account) → AllPairs (λ (a b : BegunRequest). a.request ≢ b.request) (all_begun account)
     → (home : ℕ) (before : List GateEntry) (entry : GateEntry) (after : List GateEntry)
     → gate_log account home ≡ before ++ entry ∷ after
     → (r : ℕ) (stamp : Stamp) → (entry.deed ≡ BeganTx r stamp) ⊎ (entry.deed ≡ BeganProgram r stamp)

@@ -15,7 +15,7 @@ use Rattle.weave_data.specs.Names.{same_name, shard_of}
 use Rattle.weave_data.specs.declared.name.Name.{Name}
 use Rattle.graph_ops.specs.Operations.{State}
 use Rattle.graph_ops.specs.PlainGraph.{PlainGraph, TxOutcome, empty_graph, graph_left, transaction}
-use Rattle.graph_ops.specs.VertexOps.{ops_on, none_refused, state_after}
+use Rattle.graph_ops.specs.VertexOps.{ops_on, none_refused, state_after_ops}
 use Rattle.graph_ops.specs.declared.tx.Got.{Got}
 use Rattle.graph_ops.specs.declared.op.Op.{Op}
 use Rattle.graph_ops.specs.declared.part.Part.{Part}
@@ -29,9 +29,9 @@ use Rattle.weave_entries.specs.declared.shard_log.ShardDeed.TheVariants.{Arrived
 use Rattle.weave_entries.specs.declared.store_log.StoreEntry.{StoreEntry}
 use Rattle.weave_entries.specs.declared.verdict.Verdict.{Verdict}
 use Rattle.weave_entries.specs.declared.verdict.Verdict.TheVariants.{Committed, Conflict, Refused}
-use Rattle.weave_entries.specs.GateReplay.{Begun, addressed_to}
+use Rattle.weave_entries.specs.GateReplay.{BegunRequest, addressed_to}
 use Rattle.weave_entries.specs.Logs.{AtEachEntry}
-use Rattle.weave_entries.specs.Sending.{keeps, part_for, message_to, messages_of, shards_named}
+use Rattle.weave_entries.specs.Sending.{is_kept_at, part_for, message_to, messages_of, shards_named}
 use Rattle.weave_entries.specs.ShardReplay.{Update, arrivals_of, arrived_at, processed_of, updates_of, waits_at, state_of_updates}
 use Rattle.weave_entries.specs.StoreReplay.{Commit, commit_by, judged_by, commits_of, commits_naming, graph_committed, graph_with_commit, names_vertex as names}
 use Rattle.weave_entries.specs.declared.store_log.StoreDeed.{StoreDeed}
@@ -54,7 +54,7 @@ use Rattle.weave_account.proofs.Storing.{commit-of, commits-push}
 module _ (shards : ℕ) (store : List StoreEntry) (shard : ℕ) where
   -- Each vertex of a message is kept in its shard
 
-  sent-kept : (log : List GateEntry) (begun : Begun) (ops : List Op) (verdict : Verdict) (a : Addressed) → a.shard ≡ shard
+  sent-kept : (log : List GateEntry) (begun : BegunRequest) (ops : List Op) (verdict : Verdict) (a : Addressed) → a.shard ≡ shard
       → Contains (messages_of shards log begun ops verdict) a
       → (part : Part) → Contains a.message.parts part → shard_of part.vertex shards ≡ shard
   sent-kept log begun ops (Conflict v newer) a at h part k = absurd (has_none a h)
@@ -63,9 +63,9 @@ module _ (shards : ℕ) (store : List StoreEntry) (shard : ℕ) where
       let image = map-has (message_to shards log begun ops counts) (shards_named shards counts) a h in
       let to : image.of ≡ shard = ap (λ (b : Addressed). b.shard) image.is ∙ at in
       let of-part =
-      map-has (part_for ops) (filter (keeps shards image.of) counts) part
+      map-has (part_for ops) (filter (is_kept_at shards image.of) counts) part
       (subst (λ (b : Addressed). Contains b.message.parts part) (sym image.is) k) in
-      let kept = (filter_has (keeps shards image.of) counts of-part.of of-part.has).1 in
+      let kept = (filter_has (is_kept_at shards image.of) counts of-part.of of-part.has).1 in
       ap (λ (p : Part). shard_of p.vertex shards) (sym of-part.is) ∙ eqb-true _ image.of kept ∙ to
 
   -- each vertex of a message that is made of a judgement is kept in its shard
@@ -97,20 +97,20 @@ module _ (laws : LawsForAccounts) (v : Name) where
       let naming = commits_naming v before in
       let left : graph_committed (before ++ commit ∷ []) ≡ graph =
       fold-append graph_with_commit empty_graph before (commit ∷ []) ∙ ap (graph_left (graph_committed before)) passes in
-      let at-v : graph_committed (before ++ commit ∷ []) v ≡ state_after (ops_on v commit.ops) (graph_committed before v) =
+      let at-v : graph_committed (before ++ commit ∷ []) v ≡ state_after_ops (ops_on v commit.ops) (graph_committed before v) =
       ap (λ (g : PlainGraph). g v) left ∙ laws.leaves commit.ops (graph_committed before) (record { graph = graph; gots = answers }) passes v in
       let cut : commits_naming v (before ++ commit ∷ []) ≡ naming ++ cond (names v commit) (commit ∷ []) [] =
       filter-append (names v) before (commit ∷ []) in
       elim (cases_Bool (names v commit)) [
         | inl named ↦
             at-v
-            ∙ ap (state_after (ops_on v commit.ops)) so-far
-            ∙ sym (fold-append (λ (state : State) (update : Update). state_after update.ops state) None (map (update_of v) naming) (update_of v commit ∷ []))
+            ∙ ap (state_after_ops (ops_on v commit.ops)) so-far
+            ∙ sym (fold-append (λ (state : State) (update : Update). state_after_ops update.ops state) None (map (update_of v) naming) (update_of v commit ∷ []))
             ∙ ap state_of_updates (sym (map-append (update_of v) naming (commit ∷ [])))
             ∙ ap (λ cs. state_of_updates (map (update_of v) cs)) (sym (cut ∙ ap (λ b. naming ++ cond b (commit ∷ []) []) named))
         | inr other ↦
             at-v
-            ∙ ap (λ os. state_after os (graph_committed before v))
+            ∙ ap (λ os. state_after_ops os (graph_committed before v))
             (laws.unnamed commit.ops v (λ named. (let clash : true ≡ false = sym named ∙ other in cc)))
             ∙ so-far
             ∙ ap (λ cs. state_of_updates (map (update_of v) cs)) (sym (cut ∙ ap (λ b. naming ++ cond b (commit ∷ []) []) other ∙ append-nil naming))

@@ -19,7 +19,7 @@ use Rattle.program_defs.specs.Works.{is_change}
 use Rattle.weave_entries.specs.declared.session_log.SessionEntry.{SessionEntry}
 use Rattle.weave_entries.specs.declared.session_log.SessionDeed.{SessionDeed}
 use Rattle.weave_entries.specs.declared.session_log.SessionDeed.TheVariants.{Begun as SessionBegun, Replied}
-use Rattle.weave_entries.specs.GateReplay.{Begun, begun_in, flight_of, has_ended_in}
+use Rattle.weave_entries.specs.GateReplay.{BegunRequest, begun_in, flight_of, has_ended_in}
 use Rattle.weave_entries.specs.SessionReplay.{SessionState, FitsSession, IsSessionLog, begin_by, begins_in, has_begun_in, has_reply_in, next_request, replied_count, session_after, session_of, session_start}
 use Rattle.weave_entries.specs.StoreReplay.{Judgement, judgements_of}
 use Rattle.report_rules.specs.Lookups.{are_both, is_in, is_some_and, request_at, same_session}
@@ -121,7 +121,7 @@ module _ (script : Script) (account : Account) (basis : Basis script account) wh
       (has_map (λ (p : ℕ × Stamp). p.0) (begins_in (session_log account request.session)) (r, stamp) (found (begins_in (session_log account request.session)) r stamp (basis.is.sessions.stamps r request there ∙ is)))
 
   -- what was judged of a session comes before what is in flight of it
-  pub judged-before : (home : ℕ) (flight : Begun) → flight_of (gate_log account home) ≡ Some flight → (judged : Judgement)
+  pub judged-before : (home : ℕ) (flight : BegunRequest) → flight_of (gate_log account home) ≡ Some flight → (judged : Judgement)
       → Contains (judgements_of account.store) judged → judged.request ≢ flight.request
       → InTurn script judged.request flight.request
   judged-before home flight flies judged h other same =
@@ -147,7 +147,7 @@ module _ (script : Script) (account : Account) (basis : Basis script account) wh
   -- a transaction that has begun was sent unless it is in flight
   pub sent-unless : (r : ℕ) (request : Request) → request_at script r ≡ Some request → IsTrue (is_change request.work)
       → IsTrue (has_begun_in r (session_log account request.session))
-      → has_ended_in r (gate_log account request.gate) ≡ not (is_some_and (λ (flight : Begun). flight.request == r) (flight_of (gate_log account request.gate)))
+      → has_ended_in r (gate_log account request.gate) ≡ not (is_some_and (λ (flight : BegunRequest). flight.request == r) (flight_of (gate_log account request.gate)))
   sent-unless r request there change begun =
       let log = session_log account request.session in
       let from = map_has (λ (p : ℕ × Stamp). p.0) (begins_in log) r ((basis.laws.begun_tested r log).0 begun) in
@@ -160,9 +160,9 @@ module _ (script : Script) (account : Account) (basis : Basis script account) wh
       let request-is : request_at script (b.0).request ≡ Some request = ap (request_at script) b.2 ∙ there in
       let own : request.gate ≡ home.0 = begun-gate script account basis home.0 b.0 here request request-is in
       let tx = change-begun script account basis home.0 b.0 here request request-is change in
-      subst (λ g. has_ended_in r (gate_log account g) ≡ not (is_some_and (λ (flight : Begun). flight.request == r) (flight_of (gate_log account g))))
+      subst (λ g. has_ended_in r (gate_log account g) ≡ not (is_some_and (λ (flight : BegunRequest). flight.request == r) (flight_of (gate_log account g))))
       (sym own)
-      (subst (λ q. has_ended_in q (gate_log account home.0) ≡ not (is_some_and (λ (flight : Begun). flight.request == q) (flight_of (gate_log account home.0)))) b.2 (sent-or-flies script account basis home.0 b.0 tx))
+      (subst (λ q. has_ended_in q (gate_log account home.0) ≡ not (is_some_and (λ (flight : BegunRequest). flight.request == q) (flight_of (gate_log account home.0)))) b.2 (sent-or-flies script account basis home.0 b.0 tx))
 
 -- What was begun last
 

@@ -26,7 +26,7 @@ use Rattle.weave_entries.specs.declared.message.Message.{Message}
 use Rattle.weave_entries.specs.declared.shard_log.ShardEntry.{ShardEntry}
 use Rattle.weave_entries.specs.declared.oracle_log.OracleEntry.{OracleEntry}
 use Rattle.weave_entries.specs.declared.store_log.StoreEntry.{StoreEntry}
-use Rattle.weave_entries.specs.GateReplay.{Begun, clocks_by, clocks_in, clocks_of_message, clock_after, clock_of, messages_by, stamps_of, ticks_of, to_shard, addressed_to}
+use Rattle.weave_entries.specs.GateReplay.{BegunRequest, clocks_by, clocks_in, clocks_of_message, clock_after, clock_of, messages_by, stamps_of, ticks_of, to_shard, addressed_to}
 use Rattle.weave_entries.specs.GateRules.{IsGateLog}
 use Rattle.weave_entries.specs.SessionReplay.{begins_in}
 use Rattle.weave_entries.specs.declared.shard_log.ShardDeed.TheVariants.{Collected}
@@ -145,9 +145,9 @@ module _ (laws : LawsForAccounts) (account : Account) where
           max-less a b less = omega (arith, less)
 
   -- the same holds of the low mark of a known stamp and known running programs
-  pub low-known : (clock : Clock) (running : List Begun) → IsKnown account clock
-      → ((begun : Begun) → Contains running begun → IsKnown account begun.stamp.clock)
-      → IsKnown account (fold (λ low (begun : Begun). meet_of low begun.stamp.clock) clock running)
+  pub low-known : (clock : Clock) (running : List BegunRequest) → IsKnown account clock
+      → ((begun : BegunRequest) → Contains running begun → IsKnown account begun.stamp.clock)
+      → IsKnown account (fold (λ low (begun : BegunRequest). meet_of low begun.stamp.clock) clock running)
   low-known clock [] known each = known
   low-known clock (b ∷ running) known each =
       low-known (meet_of clock b.stamp.clock) running (meet-known clock b.stamp.clock known (each b (has_head b running)))
@@ -222,7 +222,7 @@ module _ (script : Script) (account : Account) (basis : Basis script account) wh
   -- Other logs
 
   -- the clock of a begun request
-  pub begun-known : (b : Begun) → Contains (all_begun account) b → IsKnown account b.stamp.clock
+  pub begun-known : (b : BegunRequest) → Contains (all_begun account) b → IsKnown account b.stamp.clock
   begun-known b h =
       let right = begun-rightly script account basis b h in
       basis.is.clocks.known right.home b.stamp.clock (clock-there (gate_log account right.home) b right.there)

@@ -27,7 +27,7 @@ use Rattle.report_rules.specs.declared.report.Report.{Report}
 use Rattle.program_defs.specs.Works.{is_change}
 use Rattle.report_rules.specs.Meetings.{is_transaction, WorkIsAt, RequestIsAt, MeetAt, MeetingsAreOrdered}
 use Rattle.report_rules.specs.Replay.{graph_after, graph_before, graph_at_place}
-use Rattle.report_rules.specs.Lookups.{is_in, is_some_and, AreBoth, request_at, names_vertex, work_names, RequestPrecedes}
+use Rattle.report_rules.specs.Lookups.{is_in, is_some_and, AreBoth, request_at, request_names_vertex, work_names, RequestPrecedes}
 use Rattle.weave_account.specs.declared.account.Account.{Account}
 use Rattle.weave_account.specs.Account.{shard_log, stamp_of, pairs_in, commits_in, Precedence, reads_of}
 use Rattle.weave_account.proofs.Replaying.{graph_after_all, AllPass, all-pass-left}
@@ -212,7 +212,7 @@ module _ (script : Script) (account : Account) (basis : Basis script account) (r
   -- Meetings
 
   -- a listed transaction that names the vertex is a commit that does
-  commit-of-tx : (v : Name) (r : ℕ) → IsTrue (is_in r report.order) → IsTrue (names_vertex script r v)
+  commit-of-tx : (v : Name) (r : ℕ) → IsTrue (is_in r report.order) → IsTrue (request_names_vertex script r v)
       → (commit : Commit) × Contains (commits_naming v (commits_in account)) commit × (commit.request ≡ r)
   commit-of-tx v r h named =
       let image =
@@ -220,10 +220,10 @@ module _ (script : Script) (account : Account) (basis : Basis script account) (r
       let of = known script account basis report reported image.of image.has in
       let names-it : IsTrue (names v image.of) =
       subst IsTrue (work-named (request_at script (image.of).request) (image.of).ops v of.work)
-      (subst (λ k. IsTrue (names_vertex script k v)) (sym image.is) named) in
+      (subst (λ k. IsTrue (request_names_vertex script k v)) (sym image.is) named) in
       (image.of, has_filter (names v) (commits_in account) image.of image.has names-it, image.is)
 
-  tx-named : (v : Name) (r : ℕ) → IsListedTx script account report r → RequestIsAt script report v r → IsTrue (names_vertex script r v)
+  tx-named : (v : Name) (r : ℕ) → IsListedTx script account report r → RequestIsAt script report v r → IsTrue (request_names_vertex script r v)
   tx-named v r tx at =
       let here : WorkIsAt script report v r (tx.request).work =
       subst (λ q. IsSomeAnd q (λ (request : Request). WorkIsAt script report v r request.work)) tx.request_is at in
@@ -251,11 +251,11 @@ module _ (script : Script) (account : Account) (basis : Basis script account) (r
           → RequestBefore script account a b ⊎ RequestBefore script account b a
       at (inl x) (inl y) =
           let in-a =
-          in-filter (λ r. names_vertex script r v) a _
+          in-filter (λ r. request_names_vertex script r v) a _
           (listed-commits script account basis report reported v a m.first_is_listed (tx-named v a x m.first_is_there))
           (tx-named v a x m.first_is_there) in
           let in-b =
-          in-filter (λ r. names_vertex script r v) b _
+          in-filter (λ r. request_names_vertex script r v) b _
           (listed-commits script account basis report reported v b m.second_is_listed (tx-named v b y m.second_is_there))
           (tx-named v b y m.second_is_there) in
           elim (either (RequestBefore script account) (not-both script account basis) _ a b (naming-sorted script account basis report reported v) in-a in-b) [ inl same ↦ absurd (m.different same) | inr other ↦ other ]

@@ -26,7 +26,7 @@ use Rattle.report_rules.specs.declared.report.ReplyState.TheVariants.{Unbegun, B
 use Rattle.report_rules.specs.declared.report.Report.{Report}
 use Rattle.weave_data.specs.Facts.{AllHold}
 use Rattle.report_rules.specs.RightReport.{is_number_in_place, numbers_clause}
-use Rattle.report_rules.specs.Lookups.{is_in, is_some_and, request_at, number_of, commits}
+use Rattle.report_rules.specs.Lookups.{is_in, is_some_and, request_at, committed_number, commits}
 use Rattle.weave_account.specs.declared.account.Account.{Account}
 use Rattle.weave_account.specs.Account.{commits_in}
 use Rattle.weave_account.specs.Store.{Commits, IsRightVerdict}
@@ -47,29 +47,29 @@ use Rattle.weave_account.proofs.Basis.{Basis}
 abbrev numbered-requests : List Reply → List ℕ
 numbered-requests [] = []
 numbered-requests (reply ∷ replies) =
-    cond (is_some_and (λ n. true) (number_of reply.state)) (reply.request ∷ numbered-requests replies) (numbered-requests replies)
+    cond (is_some_and (λ n. true) (committed_number reply.state)) (reply.request ∷ numbered-requests replies) (numbered-requests replies)
 
 numbered-length : (replies : List Reply)
-    → length (numbered-requests replies) ≡ length (filter_map (λ (reply : Reply). number_of reply.state) replies)
+    → length (numbered-requests replies) ≡ length (filter_map (λ (reply : Reply). committed_number reply.state) replies)
 numbered-length [] = refl
-numbered-length (reply ∷ replies) = at (number_of reply.state) (numbered-length replies)
+numbered-length (reply ∷ replies) = at (committed_number reply.state) (numbered-length replies)
   where
     at : (o : Option ℕ)
-        → length (numbered-requests replies) ≡ length (filter_map (λ (reply : Reply). number_of reply.state) replies)
-        → length (cond (is_some_and (λ n. true) o) (reply.request ∷ numbered-requests replies) (numbered-requests replies)) ≡ length (cons_option o (filter_map (λ (reply : Reply). number_of reply.state) replies))
+        → length (numbered-requests replies) ≡ length (filter_map (λ (reply : Reply). committed_number reply.state) replies)
+        → length (cond (is_some_and (λ n. true) o) (reply.request ∷ numbered-requests replies) (numbered-requests replies)) ≡ length (cons_option o (filter_map (λ (reply : Reply). committed_number reply.state) replies))
     at None e = e
     at (Some n) e = ap suc e
 
 in-numbered : (replies : List Reply) (i : ℕ) (reply : Reply) (number : ℕ) → slice_get replies i ≡ Some reply
-    → number_of reply.state ≡ Some number → IsTrue (is_in reply.request (numbered-requests replies))
+    → committed_number reply.state ≡ Some number → IsTrue (is_in reply.request (numbered-requests replies))
 in-numbered [] i reply number e is = cc
 in-numbered (first ∷ replies) zero reply number e is =
     let same : first ≡ reply = cc in
-    subst (λ (k : Reply). IsTrue (is_in reply.request (cond (is_some_and (λ n. true) (number_of k.state)) (k.request ∷ numbered-requests replies) (numbered-requests replies))))
+    subst (λ (k : Reply). IsTrue (is_in reply.request (cond (is_some_and (λ n. true) (committed_number k.state)) (k.request ∷ numbered-requests replies) (numbered-requests replies))))
     (sym same)
     (subst (λ o. IsTrue (is_in reply.request (cond (is_some_and (λ n. true) o) (reply.request ∷ numbered-requests replies) (numbered-requests replies)))) (sym is) (in-head reply.request _))
 in-numbered (first ∷ replies) (suc i) reply number e is =
-    more (is_some_and (λ n. true) (number_of first.state)) (in-numbered replies i reply number e is)
+    more (is_some_and (λ n. true) (committed_number first.state)) (in-numbered replies i reply number e is)
   where
     more : (b : Bool) → IsTrue (is_in reply.request (numbered-requests replies))
         → IsTrue (is_in reply.request (cond b (first.request ∷ numbered-requests replies) (numbered-requests replies)))
@@ -125,7 +125,7 @@ module _ (script : Script) (account : Account) (basis : Basis script account) (r
       numbered n h =
           let listed = commits-listed script account basis report reported n h in
           elim (listed-is script account report reported.matches n (order-has report report.order reported.order n listed).1) [
-            | inl tx ↦ subst (λ k. IsTrue (is_in k (numbered-requests report.replies))) (reply-number script account report reported.matches n tx.reply tx.reply_is) (in-numbered report.replies n tx.reply tx.number tx.reply_is (ap number_of tx.state))
+            | inl tx ↦ subst (λ k. IsTrue (is_in k (numbered-requests report.replies))) (reply-number script account report reported.matches n tx.reply tx.reply_is) (in-numbered report.replies n tx.reply tx.number tx.reply_is (ap committed_number tx.state))
             | inr program ↦ absurd (no-program n program (map-has (λ (c : Commit). c.request) (commits_in account) n (has-in _ n h)))
           ]
         where
@@ -148,7 +148,7 @@ module _ (script : Script) (account : Account) (basis : Basis script account) (r
     pub number_is : number ≡ length (commits_of at.before) + 1
     pub commits_here : IsVerdictOf judged.verdict
 
-  number-state : (state : ReplyState) (number : ℕ) → number_of state ≡ Some number
+  number-state : (state : ReplyState) (number : ℕ) → committed_number state ≡ Some number
       → (answers : List Got) × (state ≡ Committed number answers)
   number-state (Committed n answers) number e = (answers, cc)
   number-state Unbegun number e = cc
@@ -158,7 +158,7 @@ module _ (script : Script) (account : Account) (basis : Basis script account) (r
   number-state (Finished answer) number e = cc
 
   -- a reply with a commit number was judged to commit, after that many commits less one
-  pub numbered-at : (reply : Reply) → Contains report.replies reply → (number : ℕ) → number_of reply.state ≡ Some number
+  pub numbered-at : (reply : Reply) → Contains report.replies reply → (number : ℕ) → committed_number reply.state ≡ Some number
       → IsNumberedAt reply.request number
   numbered-at reply h number e =
       let state = number-state reply.state number e in
@@ -223,11 +223,11 @@ module _ (script : Script) (account : Account) (basis : Basis script account) (r
   -- the clause on numbers
   pub numbers : AllHold (numbers_clause report)
   numbers =
-      facts-hold (λ before (reply : Reply). IsTrue (is_number_in_place (commits report) before (number_of reply.state))) report.replies
-      (λ before reply after is. at before reply after is (number_of reply.state) refl)
+      facts-hold (λ before (reply : Reply). IsTrue (is_number_in_place (commits report) before (committed_number reply.state))) report.replies
+      (λ before reply after is. at before reply after is (committed_number reply.state) refl)
     where
       at : (before : List Reply) (reply : Reply) (after : List Reply) → report.replies ≡ before ++ reply ∷ after → (o : Option ℕ)
-          → number_of reply.state ≡ o → IsTrue (is_number_in_place (commits report) before o)
+          → committed_number reply.state ≡ o → IsTrue (is_number_in_place (commits report) before o)
       at before reply after is None e = refl
       at before reply after is (Some number) e =
           let here : Contains report.replies reply = subst (λ rs. Contains rs reply) (sym is) (has_cut before reply after) in
@@ -254,15 +254,15 @@ module _ (script : Script) (account : Account) (basis : Basis script account) (r
 
           no-earlier : (rs : List Reply) → ((earlier : Reply) → Contains rs earlier → Contains report.replies earlier)
               → ((earlier : Reply) → Contains rs earlier → earlier.request ≡ reply.request → ⊥)
-              → IsTrue (list_any (λ (earlier : Reply). is_some_and (λ n. n == number) (number_of earlier.state)) rs) → ⊥
+              → IsTrue (list_any (λ (earlier : Reply). is_some_and (λ n. n == number) (committed_number earlier.state)) rs) → ⊥
           no-earlier [] inside other h = cc
           no-earlier (first ∷ rs) inside other h =
               elim (or_cases _ _ h) [
-                | inl here' ↦ clash (number_of first.state) refl here'
+                | inl here' ↦ clash (committed_number first.state) refl here'
                 | inr more ↦ no-earlier rs (λ e k. inside e (has_tail first rs e k)) (λ e k. other e (has_tail first rs e k)) more
               ]
             where
-              clash : (o : Option ℕ) → number_of first.state ≡ o → IsTrue (is_some_and (λ n. n == number) o) → ⊥
+              clash : (o : Option ℕ) → committed_number first.state ≡ o → IsTrue (is_some_and (λ n. n == number) o) → ⊥
               clash None e t = cc
               clash (Some n) e' t =
                   let same : n ≡ number = eqb-true n number t in

@@ -13,7 +13,7 @@ use Rattle.weave_data.proofs.Members.{has_head, has_cut, has_filter, has_flat, h
 use Rattle.weave_data.proofs.Ordered.{pairs_none, pairs_cons, pairs_head, pairs_tail, pairs_cases}
 use Rattle.weave_data.specs.declared.name.Name.{Name}
 use Rattle.vector_stamp.specs.declared.clock.Stamp.{Stamp}
-use Rattle.vector_stamp.specs.Precedence.{Given}
+use Rattle.vector_stamp.specs.Precedence.{GivenPair}
 use Rattle.vector_stamp.specs.Seeing.{last_seen}
 use Rattle.program_defs.specs.declared.program.Answer.{Answer}
 use Rattle.program_defs.specs.declared.program.Program.{Program}
@@ -218,7 +218,7 @@ module _ (script : Script) (account : Account) (basis : Basis script account) wh
       (take (length (updates-at shard visit)) (commits_naming visit.vertex (commits_in account))))
 
   -- what a visit that added a pair saw last is the earlier event
-  saw-earlier : (p : Pair) (given : Given) → stamp_of account p.earlier ≡ Some given.0 → (a : IsAddedByVisit account p)
+  saw-earlier : (p : Pair) (given : GivenPair) → stamp_of account p.earlier ≡ Some given.0 → (a : IsAddedByVisit account p)
       → seen_last (shard_log account a.shard) a.visit ≡ given.0 ∷ []
   saw-earlier p given earlier a =
       let v = (a.visit).vertex in
@@ -255,7 +255,7 @@ module _ (script : Script) (account : Account) (basis : Basis script account) wh
           (slice_get-map (update_of v) (take many naming) ((a.visit).updates - 1) ∙ ap (option_map (update_of v)) (get-take many naming ((a.visit).updates - 1) less ∙ there))
           ∙ ap Some same)
 
-  mark-there : (p : Pair) (given : Given) → stamp_of account p.earlier ≡ Some given.0 → (a : IsAddedByVisit account p)
+  mark-there : (p : Pair) (given : GivenPair) → stamp_of account p.earlier ≡ Some given.0 → (a : IsAddedByVisit account p)
       → Contains (flat_map marks-in account.shards) (p.vertex, (p.later, given.0 ∷ []))
   mark-there p given earlier a =
       let log = shard_log account a.shard in
@@ -269,7 +269,7 @@ module _ (script : Script) (account : Account) (basis : Basis script account) wh
       (subst (λ r. Contains (marks-in log) ((a.visit).vertex, (r, given.0 ∷ []))) a.later_is
       (subst (λ ss. Contains (marks-in log) ((a.visit).vertex, ((a.visit).request, ss))) (saw-earlier p given earlier a) mark)))
 
-  by-visits : (p q : Pair) (given : Given) → stamp_of account p.earlier ≡ Some given.0 → stamp_of account q.earlier ≡ Some given.0
+  by-visits : (p q : Pair) (given : GivenPair) → stamp_of account p.earlier ≡ Some given.0 → stamp_of account q.earlier ≡ Some given.0
       → p.later ≡ q.later → IsAddedByVisit account p → IsAddedByVisit account q → p.vertex ≡ q.vertex
   by-visits p q given ep eq later a b =
       elim (pairs_cases (λ (x y : Name × (ℕ × List Stamp)). x.1 ≢ y.1) (flat_map marks-in account.shards) marks-apart (p.vertex, (p.later, given.0 ∷ [])) (q.vertex, (q.later, given.0 ∷ [])) (mark-there p given ep a) (mark-there q given eq b)) [
@@ -278,7 +278,7 @@ module _ (script : Script) (account : Account) (basis : Basis script account) wh
         | inr (inr differ) ↦ absurd (differ (ap (λ r. (r, given.0 ∷ [])) (sym later)))
       ]
 
-  one-pair : (p q : Pair) (given : Given) → IsPairInAccount account p given → IsPairInAccount account q given → p ≡ q
+  one-pair : (p q : Pair) (given : GivenPair) → IsPairInAccount account p given → IsPairInAccount account q given → p ≡ q
   one-pair p q given is too =
       let earlier : p.earlier ≡ q.earlier = same-request p.earlier q.earlier given.0 is.earlier_is too.earlier_is in
       let later : p.later ≡ q.later = same-request p.later q.later given.1 is.later_is too.later_is in
@@ -292,7 +292,7 @@ module _ (script : Script) (account : Account) (basis : Basis script account) wh
       at earlier later (inl a) (inr b) = absurd (not-both p q later a b)
       at earlier later (inr a) (inl b) = absurd (not-both q p (sym later) b a)
 
-  one-pairs : (ps qs : List Pair) (givens : List Given) → ArePairsOf account ps givens → ArePairsOf account qs givens → ps ≡ qs
+  one-pairs : (ps qs : List Pair) (givens : List GivenPair) → ArePairsOf account ps givens → ArePairsOf account qs givens → ps ≡ qs
   one-pairs [] [] [] are too = refl
   one-pairs [] (q ∷ qs) [] are too = absurd too
   one-pairs (p ∷ ps) qs [] are too = absurd are
@@ -304,13 +304,16 @@ module _ (script : Script) (account : Account) (basis : Basis script account) wh
   -- The report
 
   module _ (a b : Report) (is : IsReportOfAccount script account a) (too : IsReportOfAccount script account b) where
+    -- two reports of one account have the same replies
     pub same-replies : a.replies ≡ b.replies
     same-replies =
         one-list a.replies b.replies (is.matches.requests ∙ sym too.matches.requests) is.matches.replies too.matches.replies
 
+    -- two reports of one account have the same pairs
     pub same-pairs : a.pairs ≡ b.pairs
     same-pairs = one-pairs a.pairs b.pairs (pairs_in account) is.matches.pairs too.matches.pairs
 
+    -- two reports of one account have the same order
     pub same-order : a.order ≡ b.order
     same-order =
         basis.laws.one_order (record { replies = b.replies; pairs = b.pairs; order = []; answers = [] }) a.order b.order

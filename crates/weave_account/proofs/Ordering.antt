@@ -22,7 +22,7 @@ use Rattle.weave_entries.specs.Logs.{AtEachEntry}
 use Rattle.weave_entries.specs.StoreReplay.{Commit, judged_by, commit_by, commits_of, names_vertex as names, commits_naming, last_naming}
 use Rattle.weave_data.proofs.Ends.{by_last}
 use Rattle.weave_data.proofs.Entries.{each_before, each_last}
-use Rattle.report_rules.specs.Lookups.{AreBoth, request_at, names_vertex}
+use Rattle.report_rules.specs.Lookups.{AreBoth, request_at, request_names_vertex}
 use Rattle.weave_account.specs.declared.account.Account.{Account}
 use Rattle.weave_account.specs.Account.{stamp_of, pairs_in, Precedence}
 use Rattle.weave_account.specs.Store.{AreJudgements, IsRightVerdict}
@@ -34,6 +34,7 @@ use Rattle.weave_account.proofs.Basis.{Basis, acyclic}
 
 -- The last of a list
 
+-- if each two elements of a list are related, and each is to a further one, each two are with that at the end
 pub pairs-push : {A : Type 0} (R : A → A → Type 0) (xs : List A) (y : A) → AllPairs R xs → ((x : A) → Contains xs x → R x y)
     → AllPairs R (xs ++ y ∷ [])
 pairs-push R xs y pairs each = all_pairs_push R xs y pairs (λ k d below. each (get_or xs k d) (Contains-get_or xs k d below))
@@ -131,16 +132,16 @@ module _ (script : Script) (account : Account) where
   -- the requests of commits that name a vertex are the requests that name it
   pub naming-requests : (v : Name) (commits : List Commit)
       → ((commit : Commit) → Contains commits commit → IsOfScript script account commit)
-      → filter (λ r. names_vertex script r v) (requests_of_commits commits) ≡ requests_of_commits (commits_naming v commits)
+      → filter (λ r. request_names_vertex script r v) (requests_of_commits commits) ≡ requests_of_commits (commits_naming v commits)
   naming-requests v [] known = refl
   naming-requests v (commit ∷ commits) known =
-      ap (λ b. cond b (commit.request ∷ filter (λ r. names_vertex script r v) (requests_of_commits commits)) (filter (λ r. names_vertex script r v) (requests_of_commits commits)))
+      ap (λ b. cond b (commit.request ∷ filter (λ r. request_names_vertex script r v) (requests_of_commits commits)) (filter (λ r. request_names_vertex script r v) (requests_of_commits commits)))
       (work-named (request_at script commit.request) commit.ops v (known commit (has_head commit commits)).work)
       ∙ at (names v commit) (naming-requests v commits (λ c h. known c (has_tail commit commits c h)))
     where
       at : (b : Bool)
-          → filter (λ r. names_vertex script r v) (requests_of_commits commits) ≡ requests_of_commits (commits_naming v commits)
-          → cond b (commit.request ∷ filter (λ r. names_vertex script r v) (requests_of_commits commits)) (filter (λ r. names_vertex script r v) (requests_of_commits commits))
+          → filter (λ r. request_names_vertex script r v) (requests_of_commits commits) ≡ requests_of_commits (commits_naming v commits)
+          → cond b (commit.request ∷ filter (λ r. request_names_vertex script r v) (requests_of_commits commits)) (filter (λ r. request_names_vertex script r v) (requests_of_commits commits))
           ≡ requests_of_commits (cond b (commit ∷ commits_naming v commits) (commits_naming v commits))
       at true e = ap (λ rs. commit.request ∷ rs) e
       at false e = e

@@ -10,7 +10,7 @@ use Rattle.std.proofs.lemmas.List.Concat.{flat_map-append}
 use Rattle.weave_data.proofs.Members.{has_read, has_head, has_tail, has_none, find_has, filter_has, has_cut}
 use Rattle.vector_stamp.specs.declared.clock.Stamp.{Stamp}
 use Rattle.vector_stamp.specs.Order.{unordered}
-use Rattle.vector_stamp.specs.Precedence.{Given}
+use Rattle.vector_stamp.specs.Precedence.{GivenPair}
 use Rattle.weave_data.specs.Names.{same_name}
 use Rattle.weave_data.specs.declared.name.Name.{Name}
 use Rattle.graph_ops.specs.Mentions.{named_by, is_among}
@@ -41,8 +41,8 @@ use Rattle.weave_account.proofs.ConflictsClause.{is-committed, commit-names, com
 use Rattle.weave_account.proofs.Basis.{Basis}
 
 -- the pair's own pair of stamps
-pair-of : (account : Account) (pairs : List Pair) (givens : List Given) (pair : Pair) → ArePairsOf account pairs givens
-    → Contains pairs pair → (given : Given) × Contains givens given × IsPairInAccount account pair given
+pair-of : (account : Account) (pairs : List Pair) (givens : List GivenPair) (pair : Pair) → ArePairsOf account pairs givens
+    → Contains pairs pair → (given : GivenPair) × Contains givens given × IsPairInAccount account pair given
 pair-of account [] givens pair are h = absurd (has_none pair h)
 pair-of account (first ∷ pairs) [] pair are h = absurd are
 pair-of account (first ∷ pairs) (given ∷ givens) pair are h =
@@ -84,7 +84,7 @@ asked-named stamp ops commits v h =
 
 module _ (script : Script) (account : Account) (basis : Basis script account) (report : Report) (reported : IsReportOfAccount script account report)
     (visited : (pair : Pair) → IsAddedByVisit account pair → AreBoth (λ (request : Request) (reply : Reply). MayBeLaterAt script report pair.vertex pair.later request.work reply.state) (request_at script pair.later) (reply_at report pair.later)) where
-  both-unordered : (pair : Pair) (given : Given) → Contains (pairs_in account) given → IsPairInAccount account pair given
+  both-unordered : (pair : Pair) (given : GivenPair) → Contains (pairs_in account) given → IsPairInAccount account pair given
       → IsTrue (are_both unordered (stamp_at report pair.earlier) (stamp_at report pair.later))
   both-unordered pair given h is =
       subst (λ s. IsTrue (are_both unordered s (stamp_at report pair.later)))

@@ -9,7 +9,7 @@ use Rattle.graph_ops.specs.Mentions.{named_by, is_among}
 use Rattle.graph_ops.specs.declared.op.Op.{Op}
 use Rattle.graph_ops.specs.declared.part.Part.{Part}
 use Rattle.weave_entries.specs.declared.verdict.Counted.{Counted}
-use Rattle.weave_entries.specs.Sending.{part_for, keeps, parts_for}
+use Rattle.weave_entries.specs.Sending.{part_for, is_kept_at, parts_for}
 use Rattle.weave_entries.specs.StoreReplay.{Commit, count_naming}
 use Rattle.weave_entries.specs.StoreRule.{counts_of}
 use Rattle.weave_account.specs.LowerLaws.{LawsForAccounts}
@@ -31,34 +31,34 @@ module _ (laws : LawsForAccounts) (shards shard : ℕ) (v : Name) (here : shard_
 
   -- of the parts for some vertices that for this vertex is one, if it is among them
   pub parts-here : (ns : List Name) → AllPairs (λ a b. a ≢ b) ns
-      → filter (λ (part : Part). same_name part.vertex v) (map (part_for ops) (filter (keeps shards shard) (map (counted before) ns))) ≡ cond (is_among ns v) (the-part ∷ []) []
+      → filter (λ (part : Part). same_name part.vertex v) (map (part_for ops) (filter (is_kept_at shards shard) (map (counted before) ns))) ≡ cond (is_among ns v) (the-part ∷ []) []
   parts-here [] u = refl
   parts-here (w ∷ ns) u =
       let more = parts-here ns (pairs_tail (λ a b. a ≢ b) w ns u) in
       elim (cases_Bool (same_name w v)) [
         | inl same ↦ this (one_name w v same) same more
-        | inr other ↦ at (keeps shards shard (counted before w)) other more
+        | inr other ↦ at (is_kept_at shards shard (counted before w)) other more
       ]
     where
       at : (b : Bool) → same_name w v ≡ false
-          → of-vertex (map (part_for ops) (filter (keeps shards shard) (map (counted before) ns))) ≡ cond (is_among ns v) (the-part ∷ []) []
-          → of-vertex (map (part_for ops) (cond b (counted before w ∷ filter (keeps shards shard) (map (counted before) ns)) (filter (keeps shards shard) (map (counted before) ns)))) ≡ cond (same_name w v || is_among ns v) (the-part ∷ []) []
+          → of-vertex (map (part_for ops) (filter (is_kept_at shards shard) (map (counted before) ns))) ≡ cond (is_among ns v) (the-part ∷ []) []
+          → of-vertex (map (part_for ops) (cond b (counted before w ∷ filter (is_kept_at shards shard) (map (counted before) ns)) (filter (is_kept_at shards shard) (map (counted before) ns)))) ≡ cond (same_name w v || is_among ns v) (the-part ∷ []) []
       at false e same = same ∙ ap (λ k. cond (k || is_among ns v) (the-part ∷ []) []) (sym e)
       at true e same =
-          ap (λ k. cond k (part_for ops (counted before w) ∷ of-vertex (map (part_for ops) (filter (keeps shards shard) (map (counted before) ns)))) (of-vertex (map (part_for ops) (filter (keeps shards shard) (map (counted before) ns))))) e
+          ap (λ k. cond k (part_for ops (counted before w) ∷ of-vertex (map (part_for ops) (filter (is_kept_at shards shard) (map (counted before) ns)))) (of-vertex (map (part_for ops) (filter (is_kept_at shards shard) (map (counted before) ns))))) e
           ∙ same ∙ ap (λ k. cond (k || is_among ns v) (the-part ∷ []) []) (sym e)
 
       this : w ≡ v → IsTrue (same_name w v)
-          → of-vertex (map (part_for ops) (filter (keeps shards shard) (map (counted before) ns))) ≡ cond (is_among ns v) (the-part ∷ []) []
-          → of-vertex (map (part_for ops) (filter (keeps shards shard) (map (counted before) (w ∷ ns)))) ≡ cond (is_among (w ∷ ns) v) (the-part ∷ []) []
+          → of-vertex (map (part_for ops) (filter (is_kept_at shards shard) (map (counted before) ns))) ≡ cond (is_among ns v) (the-part ∷ []) []
+          → of-vertex (map (part_for ops) (filter (is_kept_at shards shard) (map (counted before) (w ∷ ns)))) ≡ cond (is_among (w ∷ ns) v) (the-part ∷ []) []
       this is same more =
-          let kept : keeps shards shard (counted before w) ≡ true = eq-eqb (shard_of w shards) shard (ap (λ k. shard_of k shards) is ∙ here) in
+          let kept : is_kept_at shards shard (counted before w) ≡ true = eq-eqb (shard_of w shards) shard (ap (λ k. shard_of k shards) is ∙ here) in
           let none : is_among ns v ≡ false =
           false_from_ne_true (is_among ns v) (λ h. pairs_head (λ a b. a ≢ b) w ns v u ((laws.named_among ns v).0 h) is) in
-          let empty : of-vertex (map (part_for ops) (filter (keeps shards shard) (map (counted before) ns))) ≡ [] =
+          let empty : of-vertex (map (part_for ops) (filter (is_kept_at shards shard) (map (counted before) ns))) ≡ [] =
           more ∙ ap (λ b. cond b (the-part ∷ []) []) none in
-          ap (λ b. of-vertex (map (part_for ops) (cond b (counted before w ∷ filter (keeps shards shard) (map (counted before) ns)) (filter (keeps shards shard) (map (counted before) ns))))) kept
-          ∙ ap (λ k. cond k (part_for ops (counted before w) ∷ of-vertex (map (part_for ops) (filter (keeps shards shard) (map (counted before) ns)))) (of-vertex (map (part_for ops) (filter (keeps shards shard) (map (counted before) ns))))) same
+          ap (λ b. of-vertex (map (part_for ops) (cond b (counted before w ∷ filter (is_kept_at shards shard) (map (counted before) ns)) (filter (is_kept_at shards shard) (map (counted before) ns))))) kept
+          ∙ ap (λ k. cond k (part_for ops (counted before w) ∷ of-vertex (map (part_for ops) (filter (is_kept_at shards shard) (map (counted before) ns)))) (of-vertex (map (part_for ops) (filter (is_kept_at shards shard) (map (counted before) ns))))) same
           ∙ ap (λ xs. part_for ops (counted before w) ∷ xs) empty
           ∙ ap (λ k. part_for ops (counted before k) ∷ []) is
           ∙ ap (λ k. cond (k || is_among ns v) (the-part ∷ []) []) (sym same)

@@ -21,7 +21,7 @@ use Rattle.weave_entries.specs.declared.session_log.SessionEntry.{SessionEntry}
 use Rattle.weave_entries.specs.declared.session_log.SessionDeed.{SessionDeed}
 use Rattle.weave_entries.specs.declared.session_log.SessionDeed.TheVariants as session
 use Rattle.weave_entries.specs.declared.store_log.StoreEntry.{StoreEntry}
-use Rattle.weave_entries.specs.GateReplay.{Begun, begun_by, begun_in, program_by, programs_of, ended_by, ended_in}
+use Rattle.weave_entries.specs.GateReplay.{BegunRequest, begun_by, begun_in, program_by, programs_of, ended_by, ended_in}
 use Rattle.weave_entries.specs.GateRules.{EndsAs}
 use Rattle.weave_entries.specs.SessionReplay.{reply_by, replied_in, has_reply_in}
 use Rattle.weave_entries.specs.StoreReplay.{Judgement, judged_by, judgements_of}
@@ -90,7 +90,7 @@ module _ (script : Script) (logs : Account) (basis : Basis script logs) where
       let clash : Change ops ≡ Look program.program = sym work ∙ ap (λ (k : Request). k.work) one ∙ program.work in
       cc
     where
-      programs-front : (xs ys : List GateEntry) (b : Begun) → Contains (programs_of xs) b → Contains (programs_of (xs ++ ys)) b
+      programs-front : (xs ys : List GateEntry) (b : BegunRequest) → Contains (programs_of xs) b → Contains (programs_of (xs ++ ys)) b
       programs-front xs ys b h =
           subst (λ bs. Contains bs b) (sym (flat_map-append (λ (e : GateEntry). program_by e.author e.deed) xs ys))
           (Contains-append_left (programs_of xs) (programs_of ys) b h)
@@ -116,7 +116,7 @@ module _ (script : Script) (logs : Account) (basis : Basis script logs) where
 
 -- what a deed ends was begun before
 pub ended-deed : (before : List GateEntry) (author : ℕ) (deed : GateDeed) (r : ℕ) → Contains (ended_by deed) r
-    → EndsAs before author deed → (b : Begun) × Contains (begun_in before) b × (b.request ≡ r)
+    → EndsAs before author deed → (b : BegunRequest) × Contains (begun_in before) b × (b.request ≡ r)
 ended-deed before author (Sent q messages) r h ends = (_, tx-begun before _ ends.1, only q r h)
 ended-deed before author (Finished q) r h ends = (_, program-begun-in before _ ends.1, only q r h)
 ended-deed before author (BeganTx q stamp) r h ends = absurd (has_none r h)
@@ -127,7 +127,7 @@ ended-deed before author (Raised epoch) r h ends = absurd (has_none r h)
 
 -- a request that has its reply was begun
 pub replied-begun : (script : Script) (logs : Account) (basis : Basis script logs) (r number : ℕ)
-    → IsTrue (has_reply_in r (session_log logs number)) → (b : Begun) × Contains (all_begun logs) b × (b.request ≡ r)
+    → IsTrue (has_reply_in r (session_log logs number)) → (b : BegunRequest) × Contains (all_begun logs) b × (b.request ≡ r)
 replied-begun script logs basis r number replied =
     let ended = has-in (flat_map ended_in logs.gates) r (replied-ended script logs basis r number replied) in
     let log = flat-has ended_in logs.gates r ended in

@@ -14,13 +14,13 @@ use Rattle.weave_data.proofs.Ordered.{pairs_cases}
 use Rattle.vector_stamp.specs.declared.clock.Clock.{Clock}
 use Rattle.vector_stamp.specs.declared.clock.Stamp.{Stamp}
 use Rattle.vector_stamp.specs.Order.{count_of, stamp_before}
-use Rattle.vector_stamp.specs.Precedence.{Given, JoinsEvents, PrecedesAmong, AmongByStamps, AmongByPair, AmongThrough}
+use Rattle.vector_stamp.specs.Precedence.{GivenPair, JoinsEvents, PrecedesAmong, AmongByStamps, AmongByPair, AmongThrough}
 use Rattle.program_defs.specs.declared.script.Request.{Request}
 use Rattle.program_defs.specs.declared.script.Script.{Script}
 use Rattle.weave_entries.specs.declared.gate_log.GateEntry.{GateEntry}
 use Rattle.weave_entries.specs.declared.gate_log.GateDeed.{GateDeed}
 use Rattle.weave_entries.specs.declared.gate_log.GateDeed.TheVariants.{BeganTx, BeganProgram, Sent, Nop, Heard, Raised, Finished}
-use Rattle.weave_entries.specs.GateReplay.{Begun, begun_by, begun_in, clock_after, clock_of, stamps_by, stamps_of, ticks_of}
+use Rattle.weave_entries.specs.GateReplay.{BegunRequest, begun_by, begun_in, clock_after, clock_of, stamps_by, stamps_of, ticks_of}
 use Rattle.weave_entries.specs.GateRules.{FitsAs, IsGateLog}
 use Rattle.report_rules.specs.declared.report.Pair.{Pair}
 use Rattle.program_defs.specs.declared.script.Work.{Work}
@@ -46,16 +46,16 @@ use Rattle.weave_account.proofs.Replying.{begun-rightly, home-below}
 -- One begin
 
 -- what a begin leaves as the clock, and the one event that it is
-record IsEvent (home : ℕ) (before : Clock) (deed : GateDeed) (begun : Begun) : Type 0 where
+record IsEvent (home : ℕ) (before : Clock) (deed : GateDeed) (begun : BegunRequest) : Type 0 where
   clock : clock_after home before deed ≡ begun.stamp.clock
   stamps : stamps_by deed ≡ begun.stamp ∷ []
 
-begin-event : (home author : ℕ) (before : Clock) (deed : GateDeed) (begun : Begun) → Contains (begun_by author deed) begun
+begin-event : (home author : ℕ) (before : Clock) (deed : GateDeed) (begun : BegunRequest) → Contains (begun_by author deed) begun
     → IsEvent home before deed begun
 begin-event home author before (BeganTx r stamp) begun h =
-    let same = only _ begun h in record { clock = ap (λ (b : Begun). b.stamp.clock) same; stamps = ap (λ (b : Begun). b.stamp ∷ []) same }
+    let same = only _ begun h in record { clock = ap (λ (b : BegunRequest). b.stamp.clock) same; stamps = ap (λ (b : BegunRequest). b.stamp ∷ []) same }
 begin-event home author before (BeganProgram r stamp) begun h =
-    let same = only _ begun h in record { clock = ap (λ (b : Begun). b.stamp.clock) same; stamps = ap (λ (b : Begun). b.stamp ∷ []) same }
+    let same = only _ begun h in record { clock = ap (λ (b : BegunRequest). b.stamp.clock) same; stamps = ap (λ (b : BegunRequest). b.stamp ∷ []) same }
 begin-event home author before (Sent r messages) begun h = absurd (has_none begun h)
 begin-event home author before (Nop to number stamp low) begun h = absurd (has_none begun h)
 begin-event home author before (Heard clock) begun h = absurd (has_none begun h)
@@ -63,7 +63,7 @@ begin-event home author before (Raised epoch) begun h = absurd (has_none begun h
 begin-event home author before (Finished r) begun h = absurd (has_none begun h)
 
 -- a begin counts one more than the ticks of its epoch before it
-begin-count : (script : Script) (account : Account) (basis : Basis script account) (home : ℕ) (begun : Begun)
+begin-count : (script : Script) (account : Account) (basis : Basis script account) (home : ℕ) (begun : BegunRequest)
     → Contains (begun_in (gate_log account home)) begun
     → (before : List GateEntry) (entry : GateEntry) (after : List GateEntry) → gate_log account home ≡ before ++ entry ∷ after
     → Contains (begun_by entry.author entry.deed) begun
@@ -93,7 +93,7 @@ ticks-front epoch log more =
     omega (arith, stamps, le)
 
 -- the script has each begun request
-request-of : (script : Script) (account : Account) (basis : Basis script account) (b : Begun) → Contains (all_begun account) b
+request-of : (script : Script) (account : Account) (basis : Basis script account) (b : BegunRequest) → Contains (all_begun account) b
     → (request : Request) × (request_at script b.request ≡ Some request)
 request-of script account basis b h =
     let right = begun-rightly script account basis b h in at right.home right.kind (request_at script b.request) refl (right.rule).own
@@ -106,7 +106,7 @@ request-of script account basis b h =
 
 -- Pairs join begun events
 
-pair-ends : (account : Account) (pairs : List Pair) (givens : List Given) (given : Given) → ArePairsOf account pairs givens
+pair-ends : (account : Account) (pairs : List Pair) (givens : List GivenPair) (given : GivenPair) → ArePairsOf account pairs givens
     → Contains givens given → (pair : Pair) × IsPairInAccount account pair given
 pair-ends account [] [] given are h = absurd (has_none given h)
 pair-ends account [] (first ∷ givens) given are h = absurd are
@@ -120,12 +120,12 @@ pair-ends account (pair ∷ pairs) (first ∷ givens) given are h =
 module _ (script : Script) (account : Account) (basis : Basis script account) where
   -- the stamps of all begun requests
   abbrev events : List Stamp
-  events = map (λ (b : Begun). b.stamp) (all_begun account)
+  events = map (λ (b : BegunRequest). b.stamp) (all_begun account)
 
   event-of : (r : ℕ) (stamp : Stamp) → stamp_of account r ≡ Some stamp → Contains events stamp
   event-of r stamp e =
       let b = begin-of script account basis r stamp e in
-      subst (Contains events) b.3 (has_map (λ (k : Begun). k.stamp) (all_begun account) b.0 b.1)
+      subst (Contains events) b.3 (has_map (λ (k : BegunRequest). k.stamp) (all_begun account) b.0 b.1)
 
   -- each pair of the oracle joins two of them
   pub joins : JoinsEvents events (pairs_in account)
@@ -134,36 +134,36 @@ module _ (script : Script) (account : Account) (basis : Basis script account) wh
       (event-of (pair.0).earlier a (pair.1).earlier_is, event-of (pair.0).later b (pair.1).later_is)
 
   -- the request of an event
-  begin-at : (stamp : Stamp) → Contains events stamp → (b : Begun) × Contains (all_begun account) b × (b.stamp ≡ stamp)
-  begin-at stamp h = let image = map-has (λ (b : Begun). b.stamp) (all_begun account) stamp h in (image.of, image.has, image.is)
+  begin-at : (stamp : Stamp) → Contains events stamp → (b : BegunRequest) × Contains (all_begun account) b × (b.stamp ≡ stamp)
+  begin-at stamp h = let image = map-has (λ (b : BegunRequest). b.stamp) (all_begun account) stamp h in (image.of, image.has, image.is)
 
   module _ (phase : ℕ) (logs : Account) (ends : EndsPhase script account phase logs) where
     -- it was begun after the phase
     abbrev IsLate : Stamp → Type 0
-    IsLate stamp = (b : Begun) → Contains (all_begun account) b → b.stamp ≡ stamp → phase < phase_of script b.request
+    IsLate stamp = (b : BegunRequest) → Contains (all_begun account) b → b.stamp ≡ stamp → phase < phase_of script b.request
 
     -- a begin of the logs at the end of the phase is one of the account, of that phase or an earlier one
-    early : (b : Begun) → Contains (all_begun logs) b → Contains (all_begun account) b × (phase_of script b.request ≤ phase)
+    early : (b : BegunRequest) → Contains (all_begun logs) b → Contains (all_begun account) b × (phase_of script b.request ≤ phase)
     early b h = (begun-stays script logs account ends.goes_on b h, ends.begun b h)
 
     -- what was begun in the phase or before was begun by its end
-    begun-by-then : (b : Begun) → Contains (all_begun account) b → phase_of script b.request ≤ phase → Contains (all_begun logs) b
+    begun-by-then : (b : BegunRequest) → Contains (all_begun account) b → phase_of script b.request ≤ phase → Contains (all_begun logs) b
     begun-by-then b h le =
         let request = request-of script account basis b h in
         let then =
         replied-begun script logs (at-end script account basis phase logs ends) b.request (request.0).session
         (ends.replied b.request request.0 request.1 le) in
         at b then.0 then.1 then.2
-        (pairs_cases (λ (x y : Begun). x.request ≢ y.request) (all_begun account) basis.is.gatekeepers.once b then.0 h (early then.0 then.1).0)
+        (pairs_cases (λ (x y : BegunRequest). x.request ≢ y.request) (all_begun account) basis.is.gatekeepers.once b then.0 h (early then.0 then.1).0)
       where
-        at : (b c : Begun) → Contains (all_begun logs) c → c.request ≡ b.request
+        at : (b c : BegunRequest) → Contains (all_begun logs) c → c.request ≡ b.request
             → (b ≡ c) ⊎ ((b.request ≢ c.request) ⊎ (c.request ≢ b.request)) → Contains (all_begun logs) b
         at b c there same (inl is) = subst (Contains (all_begun logs)) (sym is) there
         at b c there same (inr (inl differ)) = absurd (differ (sym same))
         at b c there same (inr (inr differ)) = absurd (differ same)
 
     -- an event that isn't late has a clock that was known at the end of the phase, in epoch 0
-    known-then : (b : Begun) → Contains (all_begun logs) b → IsKnown logs b.stamp.clock × (b.stamp.clock.epoch ≡ 0)
+    known-then : (b : BegunRequest) → Contains (all_begun logs) b → IsKnown logs b.stamp.clock × (b.stamp.clock.epoch ≡ 0)
     known-then b h =
         let right = begun-rightly script logs (at-end script account basis phase logs ends) b h in
         let known = ends.is_account.clocks.known right.home b.stamp.clock (clock-there (gate_log logs right.home) b right.there) in

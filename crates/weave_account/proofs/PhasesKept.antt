@@ -16,7 +16,7 @@ use Rattle.report_rules.specs.declared.report.Reply.{Reply}
 use Rattle.report_rules.specs.declared.report.ReplyState.{ReplyState}
 use Rattle.report_rules.specs.declared.report.ReplyState.TheVariants.{Unbegun, Begun as Running, Committed, Conflict, Refused, Finished}
 use Rattle.report_rules.specs.declared.report.Report.{Report}
-use Rattle.report_rules.specs.Lookups.{AreBoth, number_of, RequestPrecedes}
+use Rattle.report_rules.specs.Lookups.{AreBoth, committed_number, RequestPrecedes}
 use Rattle.report_rules.specs.Meetings.{phase_of, commit_number, IsConflictInOnePhase, IsRefusalInPhase, PhasesAreKept}
 use Rattle.weave_account.specs.declared.account.Account.{Account}
 use Rattle.weave_account.specs.Account.{stamp_of, Precedence}
@@ -40,8 +40,8 @@ use Rattle.weave_account.proofs.RefusalsClause.{reported-refused}
 
 -- the reply with a commit number is a member
 numbered-reply : (replies : List Reply) (r : ℕ) (n : ℕ)
-    → option_and_then (λ (reply : Reply). number_of reply.state) (slice_get replies r) ≡ Some n
-    → (reply : Reply) × Contains replies reply × (slice_get replies r ≡ Some reply) × (number_of reply.state ≡ Some n)
+    → option_and_then (λ (reply : Reply). committed_number reply.state) (slice_get replies r) ≡ Some n
+    → (reply : Reply) × Contains replies reply × (slice_get replies r ≡ Some reply) × (committed_number reply.state ≡ Some n)
 numbered-reply [] r n e = cc
 numbered-reply (reply ∷ replies) zero n e = (reply, has_head reply replies, refl, e)
 numbered-reply (reply ∷ replies) (suc r) n e =

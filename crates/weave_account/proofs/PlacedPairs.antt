@@ -16,7 +16,7 @@ use Rattle.graph_ops.specs.Mentions.{named_by}
 use Rattle.graph_ops.specs.declared.op.Op.{Op}
 use Rattle.vector_stamp.specs.declared.clock.Stamp.{Stamp}
 use Rattle.vector_stamp.specs.Order.{are_apart, id_before, same_stamp, stamp_before, unordered}
-use Rattle.vector_stamp.specs.Precedence.{Given}
+use Rattle.vector_stamp.specs.Precedence.{GivenPair}
 use Rattle.vector_stamp.specs.Seeing.{last_seen}
 use Rattle.vector_stamp.specs.Settling.{SettledEntry, additions_from}
 use Rattle.program_defs.specs.declared.script.Request.{Request}
@@ -25,7 +25,7 @@ use Rattle.program_defs.specs.declared.script.Work.TheVariants.{Change, Look}
 use Rattle.weave_entries.specs.declared.oracle_log.OracleEntry.{OracleEntry}
 use Rattle.weave_entries.specs.declared.shard_log.ShardEntry.{ShardEntry}
 use Rattle.weave_entries.specs.declared.store_log.StoreEntry.{StoreEntry}
-use Rattle.weave_entries.specs.GateReplay.{Begun}
+use Rattle.weave_entries.specs.GateReplay.{BegunRequest}
 use Rattle.weave_entries.specs.OracleReplay.{settled_entry, pairs_of_entry}
 use Rattle.weave_entries.specs.OracleRules.{IsRightEntry, IsRightFrom}
 use Rattle.weave_entries.specs.ShardReplay.{Update, Visit, visit_by, visits_of, updates_of}
@@ -148,7 +148,7 @@ found-visit (first ∷ shards) earlier later log visit h v t =
     ]
 
 -- Pairs of two lists, one after the other
-pub are-append : (account : Account) (ps qs : List Pair) (gs hs : List Given) → ArePairsOf account ps gs → ArePairsOf account qs hs
+pub are-append : (account : Account) (ps qs : List Pair) (gs hs : List GivenPair) → ArePairsOf account ps gs → ArePairsOf account qs hs
     → ArePairsOf account (ps ++ qs) (gs ++ hs)
 are-append account [] qs [] hs are more = more
 are-append account [] qs (g ∷ gs) hs are more = absurd are
@@ -183,7 +183,7 @@ module _ (script : Script) (account : Account) (basis : Basis script account) wh
       ]
 
   -- two begun requests with the same stamp are the same
-  pub one-request : (a b : Begun) → Contains (all_begun account) a → Contains (all_begun account) b → a.stamp ≡ b.stamp
+  pub one-request : (a b : BegunRequest) → Contains (all_begun account) a → Contains (all_begun account) b → a.stamp ≡ b.stamp
       → a.request ≡ b.request
   one-request a b ha hb same =
       elim (cases_eq a.request b.request) [
@@ -194,20 +194,20 @@ module _ (script : Script) (account : Account) (basis : Basis script account) wh
   -- the request with a stamp
   pub request-is : (r : ℕ) (stamp : Stamp) → stamp_of account r ≡ Some stamp → request_stamped account stamp ≡ Some r
   request-is r stamp e =
-      at (begin-of script account basis r stamp e) (find (λ (b : Begun). same_stamp b.stamp stamp) (all_begun account)) refl
+      at (begin-of script account basis r stamp e) (find (λ (b : BegunRequest). same_stamp b.stamp stamp) (all_begun account)) refl
     where
-      at : (b : Begun) × Contains (all_begun account) b × (b.request ≡ r) × (b.stamp ≡ stamp) → (o : Option Begun)
-          → find (λ (b : Begun). same_stamp b.stamp stamp) (all_begun account) ≡ o
-          → option_map (λ (b : Begun). b.request) o ≡ Some r
+      at : (b : BegunRequest) × Contains (all_begun account) b × (b.request ≡ r) × (b.stamp ≡ stamp) → (o : Option BegunRequest)
+          → find (λ (b : BegunRequest). same_stamp b.stamp stamp) (all_begun account) ≡ o
+          → option_map (λ (b : BegunRequest). b.request) o ≡ Some r
       at b None is =
-          absurd (find_lacks (λ (k : Begun). same_stamp k.stamp stamp) (all_begun account) b.0 is b.1 ((basis.laws.same_stamps (b.0).stamp stamp).1 b.3))
+          absurd (find_lacks (λ (k : BegunRequest). same_stamp k.stamp stamp) (all_begun account) b.0 is b.1 ((basis.laws.same_stamps (b.0).stamp stamp).1 b.3))
       at b (Some k) is =
-          let found = find_has (λ (k : Begun). same_stamp k.stamp stamp) (all_begun account) k is in
+          let found = find_has (λ (k : BegunRequest). same_stamp k.stamp stamp) (all_begun account) k is in
           ap Some (one-request k b.0 found.0 b.1 ((basis.laws.same_stamps k.stamp stamp).0 found.1 ∙ sym b.3) ∙ b.2)
 
   -- the begin of a judgement
   pub judged-begun : (judged : Judgement) → Contains (judgements_of account.store) judged
-      → (b : Begun) × Contains (all_begun account) b × (b.request ≡ judged.request) × (b.stamp ≡ judged.stamp)
+      → (b : BegunRequest) × Contains (all_begun account) b × (b.request ≡ judged.request) × (b.stamp ≡ judged.stamp)
   judged-begun judged h =
       let from = map-has (λ (e : StoreEntry). judged_by e.author e.deed) account.store judged h in
       let place = cut_at account.store from.of from.has in
@@ -249,7 +249,7 @@ module _ (script : Script) (account : Account) (basis : Basis script account) wh
     pair_is : placed_pair account place (event, settled.later) ≡ Some pair
     right : IsPairInAccount account pair (event, settled.later)
 
-  placed-is : (place : ℕ) (given : Given) (a b : ℕ) (v : Name) → request_stamped account given.0 ≡ Some a
+  placed-is : (place : ℕ) (given : GivenPair) (a b : ℕ) (v : Name) → request_stamped account given.0 ≡ Some a
       → request_stamped account given.1 ≡ Some b
       → option_or (vertex_asked account.store given.1 place) (vertex_visited account.shards given.0 given.1) ≡ Some v
       → placed_pair account place given ≡ Some (record { vertex = v; earlier = a; later = b })
@@ -259,7 +259,7 @@ module _ (script : Script) (account : Account) (basis : Basis script account) wh
       ∙ ap (λ o. option_map (λ (v : Name). record { vertex = v; earlier = a; later = b }) o) ev
 
   -- the event for which a pair was added
-  added-event : (pairs : List Given) (settled : SettledEntry) → IsRightEntry pairs settled → (place : ℕ)
+  added-event : (pairs : List GivenPair) (settled : SettledEntry) → IsRightEntry pairs settled → (place : ℕ)
       → Contains settled.places place
       → (event : Stamp) × Contains (additions_from 0 pairs settled.earlier settled.later) (place, event)
   added-event pairs settled right place h =
@@ -288,7 +288,7 @@ module _ (script : Script) (account : Account) (basis : Basis script account) wh
       let found = find_has (names last.vertex) (reverse (commits_of asked.before)) last.commit is in
       (is, (earlier-known asked.before (asked.entry ∷ asked.after) asked.at last.commit (reverse-has (commits_of asked.before) last.commit found.0)).stamp)
 
-  module _ (pairs : List Given) (settled : SettledEntry) (right : IsRightEntry pairs settled) (place : ℕ) (there : Contains settled.places place) where
+  module _ (pairs : List GivenPair) (settled : SettledEntry) (right : IsRightEntry pairs settled) (place : ℕ) (there : Contains settled.places place) where
     -- A commit asked
 
     commit-placed : (asked : IsAskedByCommit account settled) (event : Stamp)
@@ -497,7 +497,7 @@ module _ (script : Script) (account : Account) (basis : Basis script account) wh
         (found-visit account.shards added.0 settled.later log asked.visit (list-there account.shards asked.shard entry.0 entry.1.0) asked.visited test)
 
   -- each pair of an entry is placed
-  entry-placed : (pairs : List Given) (settled : SettledEntry) → IsRightEntry pairs settled
+  entry-placed : (pairs : List GivenPair) (settled : SettledEntry) → IsRightEntry pairs settled
       → IsAskedByCommit account settled ⊎ IsAskedByVisit account settled → (place : ℕ) → Contains settled.places place
       → IsPlaced settled place
   entry-placed pairs settled right (inl commit) place there = by-commit pairs settled right place there commit
@@ -520,7 +520,7 @@ module _ (script : Script) (account : Account) (basis : Basis script account) wh
       (sym pair)
       (subst (λ o. ArePairsOf account (here.pair ∷ filter_map (λ (place : ℕ). option_and_then (λ (event : Stamp). placed_pair account place (event, settled.later)) (slice_get settled.earlier place)) places) (cons_option o (filter_map (λ (place : ℕ). option_map (λ (event : Stamp). (event, settled.later)) (slice_get settled.earlier place)) places))) (sym given) (here.right, rest))
 
-  log-are : (pairs : List Given) (log : List OracleEntry) → IsRightFrom pairs log
+  log-are : (pairs : List GivenPair) (log : List OracleEntry) → IsRightFrom pairs log
       → ((entry : OracleEntry) → Contains log entry → IsAskedByCommit account (settled_entry entry) ⊎ IsAskedByVisit account (settled_entry entry))
       → ArePairsOf account (flat_map (λ (entry : OracleEntry). placed_by account (settled_entry entry)) log) (flat_map (λ (entry : OracleEntry). pairs_of_entry (settled_entry entry)) log)
   log-are pairs [] right asked = tt

@@ -30,7 +30,7 @@ use Rattle.weave_entries.specs.StoreReplay.{Commit, commits_naming}
 use Rattle.weave_data.proofs.Entries.{each_before}
 use Rattle.program_defs.specs.Works.{ops_of}
 use Rattle.report_rules.specs.declared.report.Report.{Report}
-use Rattle.report_rules.specs.Lookups.{AreBoth, request_at, names_vertex}
+use Rattle.report_rules.specs.Lookups.{AreBoth, request_at, request_names_vertex}
 use Rattle.weave_account.specs.declared.account.Account.{Account}
 use Rattle.weave_account.specs.Account.{stamp_of, pairs_in, commits_in, Precedence, reads_of}
 use Rattle.weave_account.proofs.Replaying.{graph_after_all, ops_in, history, AllPass, history-is, history-naming}
@@ -49,13 +49,13 @@ use Rattle.weave_account.proofs.Transactions.{committed-requests, known, order-k
 use Rattle.weave_account.proofs.Updates.{shows, grows}
 use Rattle.weave_account.proofs.Visiting.{seen-precede, others-follow}
 use Rattle.weave_account.proofs.Basis.{Basis}
-use Rattle.graph_ops.specs.VertexOps.{state_after}
+use Rattle.graph_ops.specs.VertexOps.{state_after_ops}
 
 -- States
 
 -- the state after updates
 abbrev pub state_from : State → List Update → State
-state_from s us = fold (λ state (update : Update). state_after update.ops state) s us
+state_from s us = fold (λ state (update : Update). state_after_ops update.ops state) s us
 
 work-ops : (q : Option Request) (ops : List Op) → IsSomeAnd q (λ (request : Request). request.work ≡ Change ops) → ops_in q ≡ ops
 work-ops None ops h = absurd h
@@ -67,8 +67,8 @@ pub history-left : (script : Script) (account : Account) (v : Name) (cs : List C
     → state_from s (map (update_of v) cs) ≡ history script v (requests_of_commits cs) s
 history-left script account v [] known s = refl
 history-left script account v (c ∷ cs) known s =
-    history-left script account v cs (λ d h. known d (has_tail c cs d h)) (state_after (ops_on v c.ops) s)
-    ∙ ap (λ ops. history script v (requests_of_commits cs) (state_after (ops_on v ops) s))
+    history-left script account v cs (λ d h. known d (has_tail c cs d h)) (state_after_ops (ops_on v c.ops) s)
+    ∙ ap (λ ops. history script v (requests_of_commits cs) (state_after_ops (ops_on v ops) s))
     (sym (work-ops (request_at script c.request) c.ops (known c (has_head c cs)).work))
 
 -- Lists
@@ -117,16 +117,16 @@ module _ (script : Script) (account : Account) (basis : Basis script account) (r
   seen-listed : (number : ℕ) (log : List ShardEntry) → number < script.shards
       → AreShardDeeds script account number log
       → (stamp : Stamp) (v : Name) (k : ℕ) → IsRightVisit script account number log p stamp v k
-      → filter (λ r. names_vertex script r v) before ≡ requests_of_commits (take k (commits_naming v (commits_in account)))
+      → filter (λ r. request_names_vertex script r v) before ≡ requests_of_commits (take k (commits_naming v (commits_in account)))
   seen-listed number log inside each stamp v k visit =
       let naming = commits_naming v (commits_in account) in
       let knows = known script account basis report reported in
       let in-naming : (c : Commit) → Contains naming c → IsOfScript script account c = λ c h. knows c (filter_has _ (commits_in account) c h).0 in
       let stamp-p : stamp_of account p ≡ Some stamp = program-stamp account basis.is.gatekeepers.once visit.home visit.author p stamp visit.begun in
-      let parts : filter (λ r. names_vertex script r v) (committed-requests script account basis report reported) ≡ requests_of_commits (take k naming) ++ requests_of_commits (drop k naming) =
+      let parts : filter (λ r. request_names_vertex script r v) (committed-requests script account basis report reported) ≡ requests_of_commits (take k naming) ++ requests_of_commits (drop k naming) =
       naming-requests script account v (commits_in account) knows ∙ ap requests_of_commits (take-drop naming k)
       ∙ map-append (λ (c : Commit). c.request) (take k naming) (drop k naming) in
-      cut (RequestBefore script account) (not-both script account basis) (λ r. names_vertex script r v)
+      cut (RequestBefore script account) (not-both script account basis) (λ r. request_names_vertex script r v)
       (committed-requests script account basis report reported) report.order
       (naming-sorted script account basis report reported v) (order-keeps script account basis report reported)
       (commits-listed script account basis report reported) (listed-commits script account basis report reported v)

@@ -16,7 +16,7 @@ use Rattle.weave_entries.specs.declared.gate_log.GateDeed.TheVariants.{BeganTx, 
 use Rattle.weave_entries.specs.declared.message.Message.{Message}
 use Rattle.weave_entries.specs.declared.message.Addressed.{Addressed}
 use Rattle.weave_entries.specs.declared.shard_log.ShardEntry.{ShardEntry}
-use Rattle.weave_entries.specs.GateReplay.{Begun, tx_by, txs_of, flight_after, flight_of}
+use Rattle.weave_entries.specs.GateReplay.{BegunRequest, tx_by, txs_of, flight_after, flight_of}
 use Rattle.weave_entries.specs.GateRules.{FitsAs, IsGateLog}
 use Rattle.weave_entries.specs.ShardReplay.{arrived_at, processed_count, head_of, last_of, is_past, is_ready_for, first_unready}
 use Rattle.weave_data.proofs.Entries.{by_entries}
@@ -26,7 +26,7 @@ use Rattle.std.proofs.lemmas.List.Sums.{fold-append}
 -- A transaction that was begun is in flight, or was sent
 
 -- where it was sent
-pub record WasSent (log : List GateEntry) (begun : Begun) : Type 0 where
+pub record WasSent (log : List GateEntry) (begun : BegunRequest) : Type 0 where
   pub before : List GateEntry
   pub author : ℕ
   pub messages : List Addressed
@@ -34,10 +34,10 @@ pub record WasSent (log : List GateEntry) (begun : Begun) : Type 0 where
   pub is : log ≡ before ++ record { author = author; deed = Sent begun.request messages } ∷ after
 
 -- in flight or sent
-abbrev pub IsGone : List GateEntry → Option Begun → Begun → Type 0
+abbrev pub IsGone : List GateEntry → Option BegunRequest → BegunRequest → Type 0
 IsGone log flight begun = (flight ≡ Some begun) ⊎ WasSent log begun
 
-sent-longer : (log : List GateEntry) (entry : GateEntry) (begun : Begun) → WasSent log begun → WasSent (log ++ entry ∷ []) begun
+sent-longer : (log : List GateEntry) (entry : GateEntry) (begun : BegunRequest) → WasSent log begun → WasSent (log ++ entry ∷ []) begun
 sent-longer log entry begun w =
     record { before = w.before; author = w.author; messages = w.messages; after = w.after ++ entry ∷ []; is = ap (λ l. l ++ entry ∷ []) w.is ∙ append_assoc w.before _ (entry ∷ []) }
 
@@ -47,8 +47,8 @@ flight-push : (log : List GateEntry) (entry : GateEntry)
 flight-push log entry = fold-append (λ flight (e : GateEntry). flight_after flight e.author e.deed) None log (entry ∷ [])
 
 gone-step : (home shards : ℕ) (log : List GateEntry) (author : ℕ) (deed : GateDeed) → FitsAs home shards log author deed
-    → ((b : Begun) → Contains (txs_of log) b → IsGone log (flight_of log) b)
-    → (b : Begun) → Contains (txs_of log ++ tx_by author deed) b
+    → ((b : BegunRequest) → Contains (txs_of log) b → IsGone log (flight_of log) b)
+    → (b : BegunRequest) → Contains (txs_of log ++ tx_by author deed) b
     → IsGone (log ++ record { author = author; deed = deed } ∷ []) (flight_after (flight_of log) author deed) b
 gone-step home shards log author (BeganTx r stamp) fits so-far b h =
     elim (Contains-append_cases (txs_of log) _ b h) [
@@ -62,11 +62,11 @@ gone-step home shards log author (Sent r messages) fits so-far b h =
     elim (so-far b (subst (λ xs. Contains xs b) (append-nil (txs_of log)) h)) [
       | inl flying ↦
           let same : record { author = author; request = r; stamp = fits.stamp } ≡ b = some-same _ _ (sym fits.flight ∙ flying) in
-          inr (record { before = log; author = author; messages = messages; after = []; is = ap (λ (k : Begun). log ++ record { author = author; deed = Sent k.request messages } ∷ []) same })
+          inr (record { before = log; author = author; messages = messages; after = []; is = ap (λ (k : BegunRequest). log ++ record { author = author; deed = Sent k.request messages } ∷ []) same })
       | inr sent ↦ inr (sent-longer log _ b sent)
     ]
   where
-    some-same : (x y : Begun) → Some x ≡ Some y → x ≡ y
+    some-same : (x y : BegunRequest) → Some x ≡ Some y → x ≡ y
     some-same x y e = cc
 gone-step home shards log author (BeganProgram r stamp) fits so-far b h =
     elim (so-far b (subst (λ xs. Contains xs b) (append-nil (txs_of log)) h)) [ inl flying ↦ inl flying | inr sent ↦ inr (sent-longer log _ b sent) ]
@@ -80,14 +80,14 @@ gone-step home shards log author (Finished r) fits so-far b h =
     elim (so-far b (subst (λ xs. Contains xs b) (append-nil (txs_of log)) h)) [ inl flying ↦ inl flying | inr sent ↦ inr (sent-longer log _ b sent) ]
 
 -- a transaction that was begun is in flight, or was sent
-pub gone : (home shards : ℕ) (log : List GateEntry) → IsGateLog home shards log → (b : Begun) → Contains (txs_of log) b
+pub gone : (home shards : ℕ) (log : List GateEntry) → IsGateLog home shards log → (b : BegunRequest) → Contains (txs_of log) b
     → IsGone log (flight_of log) b
 gone home shards =
     by_entries (λ before (entry : GateEntry). FitsAs home shards before entry.author entry.deed)
-    (λ log. (b : Begun) → Contains (txs_of log) b → IsGone log (flight_of log) b)
+    (λ log. (b : BegunRequest) → Contains (txs_of log) b → IsGone log (flight_of log) b)
     (λ b h. absurd (has_none b h))
     (λ log entry right fits so-far b h.
-    subst (λ (f : Option Begun). IsGone (log ++ entry ∷ []) f b) (sym (flight-push log entry))
+    subst (λ (f : Option BegunRequest). IsGone (log ++ entry ∷ []) f b) (sym (flight-push log entry))
     (gone-step home shards log entry.author entry.deed fits so-far b (subst (λ xs. Contains xs b) (flat_map-append (λ (e : GateEntry). tx_by e.author e.deed) log (entry ∷ []) ∙ ap (λ rest. txs_of log ++ rest) (append-nil (tx_by entry.author entry.deed))) h)))
 
 -- Two messages of a channel

@@ -10,7 +10,7 @@ use Rattle.std.proofs.lemmas.List.{append_assoc, length-append, map-append}
 use Rattle.std.proofs.lemmas.List.Concat.{flat_map-append}
 use Rattle.std.proofs.lemmas.List.Sums.{fold-append}
 use Rattle.weave_data.proofs.Members.{has_head, has_tail, has_cut, has_map}
-use Rattle.graph_ops.specs.PlainGraph.{PlainGraph, Passed, empty_graph, transaction, graph_left}
+use Rattle.graph_ops.specs.PlainGraph.{PlainGraph, PassedTx, empty_graph, transaction, graph_left}
 use Rattle.graph_ops.specs.declared.op.Op.{Op}
 use Rattle.graph_ops.specs.declared.op.Reason.{Reason}
 use Rattle.program_defs.specs.declared.script.Request.{Request}
@@ -28,7 +28,7 @@ use Rattle.report_rules.specs.declared.report.Report.{Report}
 use Rattle.weave_data.specs.Facts.{AllHold}
 use Rattle.report_rules.specs.Replay.{requests_numbered, the_only, graph_if_passed, graph_if_work_passed, graph_after_commit, graph_of_commits, IsWorkRefused}
 use Rattle.report_rules.specs.RightReport.{keeps_number, IsRefusalInPlace, refusals_clause}
-use Rattle.report_rules.specs.Lookups.{is_some_and, is_none_or, AreBoth, request_at, same_session, number_of, commits}
+use Rattle.report_rules.specs.Lookups.{is_some_and, is_none_or, AreBoth, request_at, same_session, committed_number, commits}
 use Rattle.weave_account.specs.declared.account.Account.{Account}
 use Rattle.weave_account.specs.Account.{commits_in}
 use Rattle.weave_account.specs.Store.{Commits, IsRefused, IsRightVerdict, InTurn}
@@ -98,10 +98,10 @@ module _ (script : Script) (account : Account) (basis : Basis script account) (r
             let there : Contains report.replies tx.reply = at-has report.replies c.request tx.reply tx.reply_is in
             let number-c : Numbered c.request tx.number =
             subst (λ r. Numbered r tx.number) reply-of
-            (numbered-at script account basis report reported tx.reply there tx.number (ap number_of tx.state)) in
+            (numbered-at script account basis report reported tx.reply there tx.number (ap committed_number tx.state)) in
             let place : tx.number ≡ suc (length cs) = number-here number-c in
-            only-one (λ (e : Reply). is_some_and (λ n. n == suc (length cs)) (number_of e.state)) report.replies c.request tx.reply tx.reply_is
-            (subst (λ s. IsTrue (is_some_and (λ n. n == suc (length cs)) (number_of s))) (sym tx.state) (eq-eqb tx.number (suc (length cs)) place))
+            only-one (λ (e : Reply). is_some_and (λ n. n == suc (length cs)) (committed_number e.state)) report.replies c.request tx.reply tx.reply_is
+            (subst (λ s. IsTrue (is_some_and (λ n. n == suc (length cs)) (committed_number s))) (sym tx.state) (eq-eqb tx.number (suc (length cs)) place))
             (λ j other g k. alone j other g k number-c place)
             ∙ ap (λ r. r ∷ []) reply-of
         | inr program ↦ absurd (no-program program (known script account basis report reported c in-all).work)
@@ -149,11 +149,11 @@ module _ (script : Script) (account : Account) (basis : Basis script account) (r
               (in-head y.request _) (sym same)
 
       alone : (j : ℕ) (other : Reply) → slice_get report.replies j ≡ Some other
-          → IsTrue (is_some_and (λ n. n == suc (length cs)) (number_of other.state)) → {number : ℕ} → Numbered c.request number
+          → IsTrue (is_some_and (λ n. n == suc (length cs)) (committed_number other.state)) → {number : ℕ} → Numbered c.request number
           → number ≡ suc (length cs) → j ≡ c.request
-      alone j other g k number-c place = at (number_of other.state) refl k
+      alone j other g k number-c place = at (committed_number other.state) refl k
         where
-          at : (o : Option ℕ) → number_of other.state ≡ o → IsTrue (is_some_and (λ n. n == suc (length cs)) o) → j ≡ c.request
+          at : (o : Option ℕ) → committed_number other.state ≡ o → IsTrue (is_some_and (λ n. n == suc (length cs)) o) → j ≡ c.request
           at None e t = cc
           at (Some n) e t =
               let same : n ≡ suc (length cs) = eqb-true n (suc (length cs)) t in
@@ -162,7 +162,7 @@ module _ (script : Script) (account : Account) (basis : Basis script account) (r
               ∙ one-number script account basis report reported other.request c.request n of-other (subst (λ m. Numbered c.request m) (place ∙ sym same) number-c)
 
   -- a commit on the graph of those before it
-  commit-graph : (q : Option Request) (ops : List Op) (graph : PlainGraph) (passed : Passed)
+  commit-graph : (q : Option Request) (ops : List Op) (graph : PlainGraph) (passed : PassedTx)
       → IsSomeAnd q (λ (request : Request). request.work ≡ Change ops) → transaction ops graph ≡ Ok passed
       → graph_after_commit q (Some graph) ≡ Some (graph_left graph (transaction ops graph))
   commit-graph None ops graph passed work is = absurd work
@@ -171,7 +171,7 @@ module _ (script : Script) (account : Account) (basis : Basis script account) (r
 
   -- a commit passes on the graph of those before it
   commit-passes : (cs : List Commit) (c : Commit) (rest : List Commit) → commits_in account ≡ cs ++ c ∷ rest
-      → (passed : Passed) × (transaction c.ops (graph_committed cs) ≡ Ok passed)
+      → (passed : PassedTx) × (transaction c.ops (graph_committed cs) ≡ Ok passed)
   commit-passes cs c rest is =
       let in-all : Contains (commits_in account) c = subst (λ ds. Contains ds c) (sym is) (has_cut cs c rest) in
       let place = commit-at account c in-all in
@@ -230,7 +230,7 @@ module _ (script : Script) (account : Account) (basis : Basis script account) (r
       → judged.verdict ≡ verdict.Refused op reason at → at ≡ length (commits_of place.before)
       → (other : Reply) → Contains report.replies other → IsTrue (same_session script other.request r)
       → IsTrue (keeps_number at r other)
-  keeps r at judged place op reason refused at-is other h same = number (number_of other.state) refl
+  keeps r at judged place op reason refused at-is other h same = number (committed_number other.state) refl
     where
       not-commit : (entry : StoreEntry) → judged_by entry.author entry.deed ≡ judged
           → IsVerdictOf (judged_by entry.author entry.deed).verdict → ⊥
@@ -270,7 +270,7 @@ module _ (script : Script) (account : Account) (basis : Basis script account) (r
             | Same before one ↦ absurd (not-commit place.entry place.judged_is (subst (λ (e : StoreEntry). IsVerdictOf (judged_by e.author e.deed).verdict) one (verdict-at script account basis report reported a.at a.commits_here)))
           ]
 
-      number : (o : Option ℕ) → number_of other.state ≡ o
+      number : (o : Option ℕ) → committed_number other.state ≡ o
           → IsTrue (if nat_lt other.request r then is_none_or (λ number. nat_le number at) o else is_none_or (λ number. nat_lt at number) o)
       number None e = both (nat_lt other.request r)
         where

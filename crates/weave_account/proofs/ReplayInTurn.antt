@@ -22,7 +22,7 @@ ComesToReply script report graph r =
     AreBoth (λ (request : Request) (reply : Reply). MatchesReply graph request.work reply.state) (request_at script r) (reply_at report r)
 
 told-passes : (o : TxOutcome) (state : ReplyState) → OutcomeMatchesReply o state
-    → (passed : Rattle.graph_ops.specs.PlainGraph.Passed) × (o ≡ Ok passed)
+    → (passed : Rattle.graph_ops.specs.PlainGraph.PassedTx) × (o ≡ Ok passed)
 told-passes (Ok passed) state h = (passed, refl)
 told-passes (Err stopped) state h = absurd h
 

@@ -9,8 +9,8 @@ use Rattle.weave_data.specs.declared.name.Name.{Name}
 use Rattle.graph_ops.specs.Alike.{EndAlike}
 use Rattle.graph_ops.specs.Mentions.{named_by, is_among}
 use Rattle.graph_ops.specs.Operations.{State}
-use Rattle.graph_ops.specs.PlainGraph.{PlainGraph, Passed, TxOutcome, transaction, graph_left}
-use Rattle.graph_ops.specs.VertexOps.{ops_on, state_after}
+use Rattle.graph_ops.specs.PlainGraph.{PlainGraph, PassedTx, TxOutcome, transaction, graph_left}
+use Rattle.graph_ops.specs.VertexOps.{ops_on, state_after_ops}
 use Rattle.graph_ops.specs.declared.op.Op.{Op}
 use Rattle.graph_ops.specs.declared.tx.Got.{Got}
 use Rattle.program_defs.specs.declared.script.Request.{Request}
@@ -19,7 +19,7 @@ use Rattle.program_defs.specs.declared.script.Work.{Work}
 use Rattle.program_defs.specs.declared.script.Work.TheVariants.{Change, Look}
 use Rattle.program_defs.specs.Works.{ops_of}
 use Rattle.report_rules.specs.Replay.{graph_after, graph_after_work}
-use Rattle.report_rules.specs.Lookups.{request_at, names_vertex, work_names, is_some_and}
+use Rattle.report_rules.specs.Lookups.{request_at, request_names_vertex, work_names, is_some_and}
 use Rattle.weave_account.specs.LowerLaws.{LawsForAccounts}
 
 -- Words
@@ -37,11 +37,11 @@ ops_in (Some request) = ops_of request.work
 -- a vertex's state after the operations on it of requests, one after another
 abbrev pub history : Script → Name → List ℕ → State → State
 history script v [] state = state
-history script v (r ∷ rest) state = history script v rest (state_after (ops_on v (ops_in (request_at script r))) state)
+history script v (r ∷ rest) state = history script v rest (state_after_ops (ops_on v (ops_in (request_at script r))) state)
 
 -- work that is a transaction passes
 abbrev pub PassesWork : PlainGraph → Work → Type 0
-PassesWork graph (Change ops) = (passed : Passed) × (transaction ops graph ≡ Ok passed)
+PassesWork graph (Change ops) = (passed : PassedTx) × (transaction ops graph ≡ Ok passed)
 PassesWork graph (Look program) = ⊤
 
 -- a request that is a transaction passes
@@ -79,14 +79,14 @@ module _ (laws : LawsForAccounts) where
   -- One request at one vertex
 
   work-step : (graph : PlainGraph) (work : Work) (v : Name) → PassesWork graph work
-      → state_after (ops_on v (ops_of work)) (graph v) ≡ graph_after_work graph work v
+      → state_after_ops (ops_on v (ops_of work)) (graph v) ≡ graph_after_work graph work v
   work-step graph (Look program) v passes = refl
   work-step graph (Change ops) v passes =
       let left : graph_left graph (transaction ops graph) ≡ passes.0.graph = ap (graph_left graph) passes.1 in
       sym (laws.leaves ops graph passes.0 passes.1 v) ∙ ap (λ (g : PlainGraph). g v) (sym left)
 
   request-step : (graph : PlainGraph) (q : Option Request) (v : Name) → Passes graph q
-      → state_after (ops_on v (ops_in q)) (graph v) ≡ graph_after graph q v
+      → state_after_ops (ops_on v (ops_in q)) (graph v) ≡ graph_after graph q v
   request-step graph None v passes = refl
   request-step graph (Some request) v passes = work-step graph request.work v passes
 
@@ -111,22 +111,22 @@ module _ (laws : LawsForAccounts) where
 
   -- a history depends on the requests that name the vertex alone
   pub history-naming : (script : Script) (v : Name) (rs : List ℕ) (state : State)
-      → history script v rs state ≡ history script v (filter (λ r. names_vertex script r v) rs) state
+      → history script v rs state ≡ history script v (filter (λ r. request_names_vertex script r v) rs) state
   history-naming script v [] state = refl
-  history-naming script v (r ∷ rs) state = at (names_vertex script r v) refl (history-naming script v rs)
+  history-naming script v (r ∷ rs) state = at (request_names_vertex script r v) refl (history-naming script v rs)
     where
-      at : (b : Bool) → names_vertex script r v ≡ b
-          → ((s : State) → history script v rs s ≡ history script v (filter (λ r. names_vertex script r v) rs) s)
-          → history script v (r ∷ rs) state ≡ history script v (cond b (r ∷ filter (λ r. names_vertex script r v) rs) (filter (λ r. names_vertex script r v) rs)) state
-      at false e rest = ap (λ ops. history script v rs (state_after ops state)) (unnamed (request_at script r) v e) ∙ rest state
-      at true e rest = rest (state_after (ops_on v (ops_in (request_at script r))) state)
+      at : (b : Bool) → request_names_vertex script r v ≡ b
+          → ((s : State) → history script v rs s ≡ history script v (filter (λ r. request_names_vertex script r v) rs) s)
+          → history script v (r ∷ rs) state ≡ history script v (cond b (r ∷ filter (λ r. request_names_vertex script r v) rs) (filter (λ r. request_names_vertex script r v) rs)) state
+      at false e rest = ap (λ ops. history script v rs (state_after_ops ops state)) (unnamed (request_at script r) v e) ∙ rest state
+      at true e rest = rest (state_after_ops (ops_on v (ops_in (request_at script r))) state)
 
   -- Two lists of requests
 
   -- with the same requests naming a vertex, in the same order, they leave the same state there
   pub same-state : (script : Script) (xs ys : List ℕ) (graph : PlainGraph) (v : Name) → AllPass graph script xs
       → AllPass graph script ys
-      → filter (λ r. names_vertex script r v) xs ≡ filter (λ r. names_vertex script r v) ys
+      → filter (λ r. request_names_vertex script r v) xs ≡ filter (λ r. request_names_vertex script r v) ys
       → graph_after_all graph script xs v ≡ graph_after_all graph script ys v
   same-state script xs ys graph v passes others same =
       sym (history-is script xs graph v passes)
@@ -139,7 +139,7 @@ module _ (laws : LawsForAccounts) where
 
 -- it passes with these answers
 abbrev pub PassesWith : PlainGraph → List Op → List Got → Type 0
-PassesWith graph ops gots = (passed : Passed) × (transaction ops graph ≡ Ok passed) × (passed.gots ≡ gots)
+PassesWith graph ops gots = (passed : PassedTx) × (transaction ops graph ≡ Ok passed) × (passed.gots ≡ gots)
 
 -- it then passes with the same answers
 pub pass-alike : LawsForAccounts → (ops : List Op) (g h : PlainGraph) (gots : List Got)

@@ -9,7 +9,7 @@ use Rattle.std.proofs.lemmas.Bool.{cases_lt}
 use Rattle.std.proofs.lemmas.List.FromFn.{length-range_with_len, get_or-range_with_len}
 use Rattle.std.proofs.lemmas.List.{length-map}
 use Rattle.std.proofs.lemmas.Option.{slice_get-map, slice_get_within, slice_get_past, slice_get-get_or}
-use Rattle.vector_stamp.specs.Precedence.{Given, Precedes}
+use Rattle.vector_stamp.specs.Precedence.{GivenPair, Precedes}
 use Rattle.program_defs.specs.declared.script.Request.{Request}
 use Rattle.program_defs.specs.declared.script.Script.{Script}
 use Rattle.report_rules.specs.declared.report.Pair.{Pair}
@@ -106,7 +106,7 @@ module _ (script : Script) (account : Account) (report : Report) (reported : Mat
               | inr past ↦ (let many = as-many in slice_get_past report.replies r (omega (arith, many, past)))
             ]
 
-    pairs-same : (pairs : List Pair) (givens : List Given) → ArePairsOf account pairs givens
+    pairs-same : (pairs : List Pair) (givens : List GivenPair) → ArePairsOf account pairs givens
         → filter_map (λ (pair : Pair). given_by (stamp_at report pair.earlier) (stamp_at report pair.later)) pairs ≡ givens
     pairs-same [] [] are = refl
     pairs-same [] (given ∷ givens) are = absurd are

@@ -17,7 +17,7 @@ use Rattle.program_defs.specs.declared.script.Work.{Work}
 use Rattle.weave_entries.specs.declared.gate_log.GateEntry.{GateEntry}
 use Rattle.weave_entries.specs.declared.gate_log.GateDeed.{GateDeed}
 use Rattle.weave_entries.specs.declared.gate_log.GateDeed.TheVariants.{BeganTx, BeganProgram, Sent, Nop, Heard, Raised, Finished}
-use Rattle.weave_entries.specs.GateReplay.{Begun, stamps_by, stamps_of, tx_by, program_by, begun_in}
+use Rattle.weave_entries.specs.GateReplay.{BegunRequest, stamps_by, stamps_of, tx_by, program_by, begun_in}
 use Rattle.report_rules.specs.declared.report.Reply.{Reply}
 use Rattle.report_rules.specs.declared.report.Report.{Report}
 use Rattle.weave_data.specs.Facts.{AllHold}
@@ -40,12 +40,12 @@ use Rattle.weave_account.proofs.Sessions.{sessions-rise}
 
 -- Begun stamps are stamps, and rise
 
-abbrev begun-by : GateEntry → List Begun
+abbrev begun-by : GateEntry → List BegunRequest
 begun-by entry = tx_by entry.author entry.deed ++ program_by entry.author entry.deed
 
 -- an entry begins nothing, or one request with its stamp
 few-begun : (author : ℕ) (deed : GateDeed)
-    → (tx_by author deed ++ program_by author deed ≡ []) ⊎ ((b : Begun) × (tx_by author deed ++ program_by author deed ≡ b ∷ []) × Contains (stamps_by deed) b.stamp)
+    → (tx_by author deed ++ program_by author deed ≡ []) ⊎ ((b : BegunRequest) × (tx_by author deed ++ program_by author deed ≡ b ∷ []) × Contains (stamps_by deed) b.stamp)
 few-begun author (BeganTx r stamp) = inr (_, refl, has_head stamp [])
 few-begun author (BeganProgram r stamp) = inr (_, refl, has_head stamp [])
 few-begun author (Sent r messages) = inl refl
@@ -55,7 +55,7 @@ few-begun author (Raised epoch) = inl refl
 few-begun author (Finished r) = inl refl
 
 -- the first begin is before the second
-abbrev pub BeginsFirst : Begun → Begun → Type 0
+abbrev pub BeginsFirst : BegunRequest → BegunRequest → Type 0
 BeginsFirst a b = IsTrue (stamp_before a.stamp b.stamp)
 
 pairs-cons : {A : Type 0} (R : A → A → Type 0) (x : A) (xs : List A) → ((y : A) → Contains xs y → R x y) → AllPairs R xs
@@ -87,7 +87,7 @@ begins-rise laws (entry ∷ log) pairs =
 
 module _ (script : Script) (account : Account) (basis : Basis script account) where
   -- two begun requests have stamps apart
-  pub stamps-apart : (a b : Begun) → Contains (all_begun account) a → Contains (all_begun account) b → a.request ≢ b.request
+  pub stamps-apart : (a b : BegunRequest) → Contains (all_begun account) a → Contains (all_begun account) b → a.request ≢ b.request
       → IsTrue (are_apart a.stamp b.stamp)
   stamps-apart a b ha hb differ =
       let ra = begun-rightly script account basis a ha in
@@ -102,7 +102,7 @@ module _ (script : Script) (account : Account) (basis : Basis script account) wh
             let below = home-below script account basis ra.home a ra.there in
             let all-coherent = basis.laws.coherent ra.home script.shards log below (basis.is.gatekeepers.logs ra.home) in
             let distinct : a.stamp ≢ b.stamp = λ e. elim (pairs-either BeginsFirst (begun_in log) a b (begins-rise basis.laws log (basis.laws.rise ra.home script.shards log below (basis.is.gatekeepers.logs ra.home))) ra.there in-b) [
-              | inl one ↦ differ (ap (λ (k : Begun). k.request) one)
+              | inl one ↦ differ (ap (λ (k : BegunRequest). k.request) one)
               | inr (inl first) ↦ basis.laws.irreflexive a.stamp (subst (λ s. IsTrue (stamp_before a.stamp s)) (sym e) first)
               | inr (inr second) ↦ basis.laws.irreflexive a.stamp (subst (λ s. IsTrue (stamp_before s a.stamp)) (sym e) second)
             ] in
@@ -112,15 +112,15 @@ module _ (script : Script) (account : Account) (basis : Basis script account) wh
 
   -- the begin of a stamp
   pub begin-of : (r : ℕ) (stamp : Stamp) → stamp_of account r ≡ Some stamp
-      → (b : Begun) × Contains (all_begun account) b × (b.request ≡ r) × (b.stamp ≡ stamp)
-  begin-of r stamp e = at (find (λ (b : Begun). b.request == r) (all_begun account)) refl e
+      → (b : BegunRequest) × Contains (all_begun account) b × (b.request ≡ r) × (b.stamp ≡ stamp)
+  begin-of r stamp e = at (find (λ (b : BegunRequest). b.request == r) (all_begun account)) refl e
     where
-      at : (o : Option Begun) → find (λ (b : Begun). b.request == r) (all_begun account) ≡ o
-          → option_map (λ (b : Begun). b.stamp) o ≡ Some stamp
-          → (b : Begun) × Contains (all_begun account) b × (b.request ≡ r) × (b.stamp ≡ stamp)
+      at : (o : Option BegunRequest) → find (λ (b : BegunRequest). b.request == r) (all_begun account) ≡ o
+          → option_map (λ (b : BegunRequest). b.stamp) o ≡ Some stamp
+          → (b : BegunRequest) × Contains (all_begun account) b × (b.request ≡ r) × (b.stamp ≡ stamp)
       at None is e = cc
       at (Some b) is e =
-          let has = find_has (λ (b : Begun). b.request == r) (all_begun account) b is in (b, has.0, eqb-true b.request r has.1, cc)
+          let has = find_has (λ (b : BegunRequest). b.request == r) (all_begun account) b is in (b, has.0, eqb-true b.request r has.1, cc)
 
   module _ (report : Report) (reported : MatchesAccount script account report) where
     in-place : (before : List Reply) (reply : Reply) (after : List Reply) → report.replies ≡ before ++ reply ∷ after

@@ -12,7 +12,7 @@ use Rattle.program_defs.specs.declared.script.Work.{Work}
 use Rattle.weave_entries.specs.declared.gate_log.GateEntry.{GateEntry}
 use Rattle.weave_entries.specs.declared.gate_log.GateDeed.{GateDeed}
 use Rattle.weave_entries.specs.declared.gate_log.GateDeed.TheVariants.{BeganTx, BeganProgram, Sent, Nop, Heard, Raised, Finished}
-use Rattle.weave_entries.specs.GateReplay.{Begun, tx_by, program_by, begun_in}
+use Rattle.weave_entries.specs.GateReplay.{BegunRequest, tx_by, program_by, begun_in}
 use Rattle.program_defs.specs.Works.{is_look, is_change}
 use Rattle.report_rules.specs.Lookups.{is_some_and, request_at}
 use Rattle.weave_account.specs.declared.account.Account.{Account}
@@ -26,7 +26,7 @@ use Rattle.weave_entries.specs.GateReplay.{begun_by}
 -- Begins
 
 -- what was begun began at its own gatekeeper
-pub record IsBegunRightly (script : Script) (account : Account) (begun : Begun) : Type 0 where
+pub record IsBegunRightly (script : Script) (account : Account) (begun : BegunRequest) : Type 0 where
   pub home : ℕ
   pub kind : Work → Bool
   pub before : List GateEntry
@@ -36,7 +36,7 @@ pub record IsBegunRightly (script : Script) (account : Account) (begun : Begun) 
 one-of : {A : Type 0} (x y : A) → Contains (x ∷ []) y → x ≡ y
 one-of x y h = elim (has_read x [] y h) [ inl same ↦ same | inr none ↦ absurd (has_none y none) ]
 
-deed-begun : (script : Script) (account : Account) (home : ℕ) (before : List GateEntry) (author : ℕ) (deed : GateDeed) (begun : Begun)
+deed-begun : (script : Script) (account : Account) (home : ℕ) (before : List GateEntry) (author : ℕ) (deed : GateDeed) (begun : BegunRequest)
     → Contains (begun_in (gate_log account home)) begun → Contains (tx_by author deed ++ program_by author deed) begun
     → BeginsAs script account home before deed → IsBegunRightly script account begun
 deed-begun script account home before author (BeganTx r stamp) begun there h rule =
@@ -60,7 +60,7 @@ place-of (ys ∷ xss) xs h =
     elim (has_read ys xss xs h) [ inl same ↦ (0, same) | inr more ↦ (let r = place-of xss xs more in (suc r.0, r.1)) ]
 
 -- what began in an account is in the log of some gatekeeper
-pub has-all : (account : Account) (begun : Begun) → Contains (all_begun account) begun
+pub has-all : (account : Account) (begun : BegunRequest) → Contains (all_begun account) begun
     → (home : ℕ) × Contains (begun_in (gate_log account home)) begun
 has-all account begun h =
     let from = flat_has begun_in account.gates begun h in
@@ -69,7 +69,7 @@ has-all account begun h =
 
 module _ (script : Script) (account : Account) (basis : Basis script account) where
   -- each begun request began rightly
-  pub begun-rightly : (begun : Begun) → Contains (all_begun account) begun → IsBegunRightly script account begun
+  pub begun-rightly : (begun : BegunRequest) → Contains (all_begun account) begun → IsBegunRightly script account begun
   begun-rightly begun h =
       let log = flat-has begun_in account.gates begun h in
       let home = place-of account.gates log.0 log.1.0 in
@@ -80,7 +80,7 @@ module _ (script : Script) (account : Account) (basis : Basis script account) wh
       (basis.is.gatekeepers.begins home.0 place.before entry.0 place.after place.is)
 
   -- a gatekeeper that began a request is one of the script
-  pub home-within : (home : ℕ) (begun : Begun) → Contains (begun_in (gate_log account home)) begun → home < script.gates
+  pub home-within : (home : ℕ) (begun : BegunRequest) → Contains (begun_in (gate_log account home)) begun → home < script.gates
   home-within home begun h =
       let entry = flat-has (λ (e : GateEntry). begun_by e.author e.deed) (gate_log account home) begun h in
       let within = within-list account.gates home entry.0 entry.1.0 in
@@ -88,7 +88,7 @@ module _ (script : Script) (account : Account) (basis : Basis script account) wh
       omega (arith, within, as-many)
 
   -- and so it is one of eight
-  pub home-below : (home : ℕ) (begun : Begun) → Contains (begun_in (gate_log account home)) begun → home < 8
+  pub home-below : (home : ℕ) (begun : BegunRequest) → Contains (begun_in (gate_log account home)) begun → home < 8
   home-below home begun h =
       let within = home-within home begun h in
       let few = basis.limits.few_gates in
@@ -96,13 +96,13 @@ module _ (script : Script) (account : Account) (basis : Basis script account) wh
 
   -- a request that the script doesn't have isn't begun
   pub none-begun : (r : ℕ) → request_at script r ≡ None → stamp_of account r ≡ None
-  none-begun r none = at (find (λ (b : Begun). b.request == r) (all_begun account)) refl
+  none-begun r none = at (find (λ (b : BegunRequest). b.request == r) (all_begun account)) refl
     where
-      at : (o : Option Begun) → find (λ (b : Begun). b.request == r) (all_begun account) ≡ o
-          → option_map (λ (b : Begun). b.stamp) o ≡ None
+      at : (o : Option BegunRequest) → find (λ (b : BegunRequest). b.request == r) (all_begun account) ≡ o
+          → option_map (λ (b : BegunRequest). b.stamp) o ≡ None
       at None e = refl
       at (Some begun) e =
-          let found = find_has (λ (b : Begun). b.request == r) (all_begun account) begun e in
+          let found = find_has (λ (b : BegunRequest). b.request == r) (all_begun account) begun e in
           let rightly = begun-rightly begun found.0 in
           let same : begun.request ≡ r = eqb-true begun.request r found.1 in
           let own : IsTrue (is_some_and (λ (request : Request). (request.gate == rightly.home) && rightly.kind request.work) None) =

@@ -19,7 +19,7 @@ use Rattle.program_defs.specs.Works.{is_change, is_look}
 use Rattle.weave_entries.specs.declared.gate_log.GateEntry.{GateEntry}
 use Rattle.weave_entries.specs.declared.gate_log.GateDeed.{GateDeed}
 use Rattle.weave_entries.specs.declared.gate_log.GateDeed.TheVariants.{BeganTx, BeganProgram, Sent, Nop, Heard, Raised, Finished}
-use Rattle.weave_entries.specs.GateReplay.{Begun, begun_by, begun_in, ended_by, ended_in, flight_of, has_ended_in, program_by, programs_of, requests_of, tx_by, txs_of}
+use Rattle.weave_entries.specs.GateReplay.{BegunRequest, begun_by, begun_in, ended_by, ended_in, flight_of, has_ended_in, program_by, programs_of, requests_of, tx_by, txs_of}
 use Rattle.weave_entries.specs.GateRules.{BeginsEachOnce}
 use Rattle.report_rules.specs.Lookups.{is_some_and, request_at, same_session}
 use Rattle.weave_account.specs.declared.account.Account.{Account}
@@ -102,11 +102,11 @@ before-earlier script r before e =
 -- Begins
 
 module _ (script : Script) (account : Account) (basis : Basis script account) where
-  requests-are : (log : List GateEntry) → requests_of log ≡ map (λ (b : Begun). b.request) (begun_in log)
+  requests-are : (log : List GateEntry) → requests_of log ≡ map (λ (b : BegunRequest). b.request) (begun_in log)
   requests-are [] = refl
   requests-are (entry ∷ log) =
-      ap (λ rest. map (λ (b : Begun). b.request) (begun_by entry.author entry.deed) ++ rest) (requests-are log)
-      ∙ sym (map-append (λ (b : Begun). b.request) (begun_by entry.author entry.deed) (begun_in log))
+      ap (λ rest. map (λ (b : BegunRequest). b.request) (begun_by entry.author entry.deed) ++ rest) (requests-are log)
+      ∙ sym (map-append (λ (b : BegunRequest). b.request) (begun_by entry.author entry.deed) (begun_in log))
 
   -- at each gatekeeper a request begins once
   pub each-once : (home : ℕ) → BeginsEachOnce (gate_log account home)
@@ -117,8 +117,8 @@ module _ (script : Script) (account : Account) (basis : Basis script account) wh
       at (entry ∷ log) is =
           let here : Contains account.gates (gate_log account home) = there account.gates home entry log is in
           subst (AllPairs (λ (a b : ℕ). a ≢ b)) (sym (requests-are (gate_log account home)))
-          (pairs-of-map (λ (b : Begun). b.request) (λ (a b : ℕ). a ≢ b) (begun_in (gate_log account home))
-          (pairs-within begun_in (λ (a b : Begun). a.request ≢ b.request) account.gates (gate_log account home) basis.is.gatekeepers.once here))
+          (pairs-of-map (λ (b : BegunRequest). b.request) (λ (a b : ℕ). a ≢ b) (begun_in (gate_log account home))
+          (pairs-within begun_in (λ (a b : BegunRequest). a.request ≢ b.request) account.gates (gate_log account home) basis.is.gatekeepers.once here))
         where
           there : (logs : List (List GateEntry)) (i : ℕ) (entry : GateEntry) (log : List GateEntry)
               → get_or logs i [] ≡ entry ∷ log → Contains logs (get_or logs i [])
@@ -145,10 +145,10 @@ module _ (script : Script) (account : Account) (basis : Basis script account) wh
           let parts = and_parts (request.gate == home) (kind request.work) h in
           record { request = request; request_is = e; gate_is = eqb-true request.gate home parts.0; kind_is = parts.1 }
 
-  tx-by-own : (home : ℕ) (before : List GateEntry) (author : ℕ) (deed : GateDeed) (b : Begun) → Contains (tx_by author deed) b
+  tx-by-own : (home : ℕ) (before : List GateEntry) (author : ℕ) (deed : GateDeed) (b : BegunRequest) → Contains (tx_by author deed) b
       → BeginsAs script account home before deed → IsOwn home b.request is_change
   tx-by-own home before author (BeganTx r stamp) b h rule =
-      subst (λ (k : Begun). IsOwn home k.request is_change) (only _ b h) (own-request home r is_change rule.own)
+      subst (λ (k : BegunRequest). IsOwn home k.request is_change) (only _ b h) (own-request home r is_change rule.own)
   tx-by-own home before author (BeganProgram r stamp) b h rule = absurd (has_none b h)
   tx-by-own home before author (Sent r messages) b h rule = absurd (has_none b h)
   tx-by-own home before author (Nop to number stamp low) b h rule = absurd (has_none b h)
@@ -157,17 +157,17 @@ module _ (script : Script) (account : Account) (basis : Basis script account) wh
   tx-by-own home before author (Finished r) b h rule = absurd (has_none b h)
 
   -- a transaction was begun at its own gatekeeper
-  pub tx-own : (home : ℕ) (b : Begun) → Contains (txs_of (gate_log account home)) b → IsOwn home b.request is_change
+  pub tx-own : (home : ℕ) (b : BegunRequest) → Contains (txs_of (gate_log account home)) b → IsOwn home b.request is_change
   tx-own home b h =
       let entry = flat-has (λ (e : GateEntry). tx_by e.author e.deed) (gate_log account home) b h in
       let place = cut_at (gate_log account home) entry.0 entry.1.0 in
       tx-by-own home place.before (entry.0).author (entry.0).deed b entry.1.1
       (basis.is.gatekeepers.begins home place.before entry.0 place.after place.is)
 
-  program-by-own : (home : ℕ) (before : List GateEntry) (author : ℕ) (deed : GateDeed) (b : Begun)
+  program-by-own : (home : ℕ) (before : List GateEntry) (author : ℕ) (deed : GateDeed) (b : BegunRequest)
       → Contains (program_by author deed) b → BeginsAs script account home before deed → IsOwn home b.request is_look
   program-by-own home before author (BeganProgram r stamp) b h rule =
-      subst (λ (k : Begun). IsOwn home k.request is_look) (only _ b h) (own-request home r is_look rule.own)
+      subst (λ (k : BegunRequest). IsOwn home k.request is_look) (only _ b h) (own-request home r is_look rule.own)
   program-by-own home before author (BeganTx r stamp) b h rule = absurd (has_none b h)
   program-by-own home before author (Sent r messages) b h rule = absurd (has_none b h)
   program-by-own home before author (Nop to number stamp low) b h rule = absurd (has_none b h)
@@ -176,7 +176,7 @@ module _ (script : Script) (account : Account) (basis : Basis script account) wh
   program-by-own home before author (Finished r) b h rule = absurd (has_none b h)
 
   -- and so was a program
-  pub program-own : (home : ℕ) (b : Begun) → Contains (programs_of (gate_log account home)) b → IsOwn home b.request is_look
+  pub program-own : (home : ℕ) (b : BegunRequest) → Contains (programs_of (gate_log account home)) b → IsOwn home b.request is_look
   program-own home b h =
       let entry = flat-has (λ (e : GateEntry). program_by e.author e.deed) (gate_log account home) b h in
       let place = cut_at (gate_log account home) entry.0 entry.1.0 in
@@ -184,7 +184,7 @@ module _ (script : Script) (account : Account) (basis : Basis script account) wh
       (basis.is.gatekeepers.begins home place.before entry.0 place.after place.is)
 
   -- what was begun at a gatekeeper is a request of the script at it
-  pub begun-gate : (home : ℕ) (b : Begun) → Contains (begun_in (gate_log account home)) b → (request : Request)
+  pub begun-gate : (home : ℕ) (b : BegunRequest) → Contains (begun_in (gate_log account home)) b → (request : Request)
       → request_at script b.request ≡ Some request → request.gate ≡ home
   begun-gate home b h request there =
       let entry = flat-has (λ (e : GateEntry). begun_by e.author e.deed) (gate_log account home) b h in
@@ -206,7 +206,7 @@ module _ (script : Script) (account : Account) (basis : Basis script account) wh
   look-not-change (Look program) change look = cc
 
   -- a request that is a transaction was begun as one
-  pub change-begun : (home : ℕ) (b : Begun) → Contains (begun_in (gate_log account home)) b → (request : Request)
+  pub change-begun : (home : ℕ) (b : BegunRequest) → Contains (begun_in (gate_log account home)) b → (request : Request)
       → request_at script b.request ≡ Some request → IsTrue (is_change request.work) → Contains (txs_of (gate_log account home)) b
   change-begun home b h request there change =
       let entry = flat-has (λ (e : GateEntry). begun_by e.author e.deed) (gate_log account home) b h in
@@ -223,7 +223,7 @@ module _ (script : Script) (account : Account) (basis : Basis script account) wh
 
   -- what was sent or finished at a gatekeeper was begun there
   pub ended-begun : (home r : ℕ) → Contains (ended_in (gate_log account home)) r
-      → (b : Begun) × Contains (begun_in (gate_log account home)) b × (b.request ≡ r)
+      → (b : BegunRequest) × Contains (begun_in (gate_log account home)) b × (b.request ≡ r)
   ended-begun home r h =
       let entry = flat-has (λ (e : GateEntry). ended_by e.deed) (gate_log account home) r h in
       let place = cut_at (gate_log account home) entry.0 entry.1.0 in
@@ -246,13 +246,13 @@ module _ (script : Script) (account : Account) (basis : Basis script account) wh
       subst (λ g. Contains (ended_in (gate_log account g)) r) (sym gate) here
 
   -- what is in flight was begun as a transaction
-  pub flight-begun : (home : ℕ) (flight : Begun) → flight_of (gate_log account home) ≡ Some flight
+  pub flight-begun : (home : ℕ) (flight : BegunRequest) → flight_of (gate_log account home) ≡ Some flight
       → Contains (txs_of (gate_log account home)) flight
   flight-begun home flight flies =
       ((basis.laws.flight home script.shards (gate_log account home) (basis.is.gatekeepers.logs home) (each-once home) flight).0 flies).0
 
   -- and has not ended anywhere
-  pub flies-still : (home : ℕ) (flight : Begun) → flight_of (gate_log account home) ≡ Some flight
+  pub flies-still : (home : ℕ) (flight : BegunRequest) → flight_of (gate_log account home) ≡ Some flight
       → Contains (flat_map ended_in account.gates) flight.request → ⊥
   flies-still home flight flies ended =
       let so = (basis.laws.flight home script.shards (gate_log account home) (basis.is.gatekeepers.logs home) (each-once home) flight).0 flies in
@@ -260,7 +260,7 @@ module _ (script : Script) (account : Account) (basis : Basis script account) wh
       so.1 (subst (λ g. Contains (ended_in (gate_log account g)) flight.request) own.gate_is (ended-home flight.request own.request own.request_is ended))
 
   -- what is in flight is a transaction of a request, at its own gatekeeper
-  pub flight-own : (home : ℕ) (flight : Begun) → flight_of (gate_log account home) ≡ Some flight
+  pub flight-own : (home : ℕ) (flight : BegunRequest) → flight_of (gate_log account home) ≡ Some flight
       → IsSomeAnd (request_at script flight.request) (λ (request : Request). (request.gate ≡ home) × IsTrue (is_change request.work))
   flight-own home flight flies =
       let own = tx-own home flight (flight-begun home flight flies) in
@@ -268,20 +268,20 @@ module _ (script : Script) (account : Account) (basis : Basis script account) wh
       (own.gate_is, own.kind_is)
 
   -- a transaction that was begun was sent unless it is in flight
-  pub sent-or-flies : (home : ℕ) (b : Begun) → Contains (txs_of (gate_log account home)) b
-      → has_ended_in b.request (gate_log account home) ≡ not (is_some_and (λ (flight : Begun). flight.request == b.request) (flight_of (gate_log account home)))
+  pub sent-or-flies : (home : ℕ) (b : BegunRequest) → Contains (txs_of (gate_log account home)) b
+      → has_ended_in b.request (gate_log account home) ≡ not (is_some_and (λ (flight : BegunRequest). flight.request == b.request) (flight_of (gate_log account home)))
   sent-or-flies home b h =
       elim (cases_Bool (has_ended_in b.request (gate_log account home))) [
         | inl ended ↦ ended ∙ still (flight_of (gate_log account home)) refl ended
-        | inr unsent ↦ unsent ∙ sym (ap (λ o. not (is_some_and (λ (flight : Begun). flight.request == b.request) o)) (flying unsent) ∙ ap not (eq-eqb b.request b.request refl))
+        | inr unsent ↦ unsent ∙ sym (ap (λ o. not (is_some_and (λ (flight : BegunRequest). flight.request == b.request) o)) (flying unsent) ∙ ap not (eq-eqb b.request b.request refl))
       ]
     where
-      law : (tx : Begun)
+      law : (tx : BegunRequest)
           → (flight_of (gate_log account home) ≡ Some tx) ↔ (Contains (txs_of (gate_log account home)) tx × ¬ Contains (ended_in (gate_log account home)) tx.request)
       law = basis.laws.flight home script.shards (gate_log account home) (basis.is.gatekeepers.logs home) (each-once home)
 
-      still : (o : Option Begun) → flight_of (gate_log account home) ≡ o → IsTrue (has_ended_in b.request (gate_log account home))
-          → true ≡ not (is_some_and (λ (flight : Begun). flight.request == b.request) o)
+      still : (o : Option BegunRequest) → flight_of (gate_log account home) ≡ o → IsTrue (has_ended_in b.request (gate_log account home))
+          → true ≡ not (is_some_and (λ (flight : BegunRequest). flight.request == b.request) o)
       still None is ended = refl
       still (Some flight) is ended =
           sym (ap not (ne_eqb flight.request b.request (λ same.

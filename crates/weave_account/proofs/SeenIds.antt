@@ -8,7 +8,7 @@ use Rattle.weave_data.proofs.Ordered.{pairs_none, pairs_cons, pairs_head, pairs_
 use Rattle.vector_stamp.specs.declared.clock.EventId.{EventId}
 use Rattle.vector_stamp.specs.Order.{id_of, stamp_before}
 use Rattle.weave_entries.specs.declared.gate_log.GateEntry.{GateEntry}
-use Rattle.weave_entries.specs.GateReplay.{Begun, begun_in}
+use Rattle.weave_entries.specs.GateReplay.{BegunRequest, begun_in}
 use Rattle.weave_entries.specs.GateRules.{IsGateLog}
 use Rattle.weave_account.specs.declared.account.Account.{Account}
 use Rattle.weave_account.specs.Account.{all_begun, gate_log}
@@ -26,11 +26,11 @@ module _ {A : Type 0} (R : A → A → Type 0) where
       (pairs-joined xs ys (pairs_tail R x xs px) py (λ y z hy hz. across y z (has_tail x xs y hy) hz))
 
 -- two begins have different ids
-abbrev pub IdsDiffer : Begun → Begun → Type 0
+abbrev pub IdsDiffer : BegunRequest → BegunRequest → Type 0
 IdsDiffer a b = id_of a.stamp ≢ id_of b.stamp
 
 module _ (laws : LawsForAccounts) (shards : ℕ) where
-  home-of : (home : ℕ) (log : List GateEntry) → home < 8 → IsGateLog home shards log → (b : Begun) → Contains (begun_in log) b
+  home-of : (home : ℕ) (log : List GateEntry) → home < 8 → IsGateLog home shards log → (b : BegunRequest) → Contains (begun_in log) b
       → b.stamp.home ≡ home
   home-of home log below is b h = laws.stamps_home home shards log below is b.stamp (laws.own_stamp log b h)
 
@@ -47,7 +47,7 @@ module _ (laws : LawsForAccounts) (shards : ℕ) where
 
   all-logs : (from : ℕ) (logs : List (List GateEntry)) → from + length logs ≤ 8
       → ((i : ℕ) → IsGateLog (from + i) shards (get_or logs i []))
-      → AllPairs IdsDiffer (flat_map begun_in logs) × ((b : Begun) → Contains (flat_map begun_in logs) b → from ≤ b.stamp.home)
+      → AllPairs IdsDiffer (flat_map begun_in logs) × ((b : BegunRequest) → Contains (flat_map begun_in logs) b → from ≤ b.stamp.home)
   all-logs from [] few each = (pairs_none IdsDiffer, λ b h. absurd (has_none b h))
   all-logs from (log ∷ logs) few each =
       let many : from + suc (length logs) ≤ 8 = few in
@@ -69,7 +69,7 @@ module _ (laws : LawsForAccounts) (shards : ℕ) where
 
   -- no two begins seen have the same id
   pub seen-ids : (seen : Account) → length seen.gates ≤ 8 → ((home : ℕ) → IsGateLog home shards (gate_log seen home))
-      → AllPairs (λ (a b : Begun). id_of a.stamp ≢ id_of b.stamp) (all_begun seen)
+      → AllPairs (λ (a b : BegunRequest). id_of a.stamp ≢ id_of b.stamp) (all_begun seen)
   seen-ids seen few logs =
       let from-0 : (i : ℕ) → i ≡ 0 + i = λ i. omega arith in
       let many : 0 + length seen.gates ≤ 8 = omega (arith, few) in

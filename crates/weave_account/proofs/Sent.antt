@@ -21,7 +21,7 @@ use Rattle.weave_entries.specs.declared.store_log.StoreDeed.{StoreDeed}
 use Rattle.weave_entries.specs.declared.verdict.Counted.{Counted}
 use Rattle.weave_entries.specs.declared.verdict.Verdict.{Verdict}
 use Rattle.weave_entries.specs.declared.verdict.Verdict.TheVariants.{Committed, Conflict, Refused}
-use Rattle.weave_entries.specs.GateReplay.{Begun, messages_by, to_shard, addressed_to}
+use Rattle.weave_entries.specs.GateReplay.{BegunRequest, messages_by, to_shard, addressed_to}
 use Rattle.weave_entries.specs.Sending.{ops_on, parts_for, shards_named, message_to, messages_of}
 use Rattle.weave_entries.specs.StoreReplay.{Commit, Judgement, judged_by, commit_by, commits_of, names_vertex as names, count_naming}
 use Rattle.weave_account.specs.declared.account.Account.{Account}
@@ -59,7 +59,7 @@ module _ (laws : LawsForAccounts) (shards : ℕ) (store : List StoreEntry) (pass
   on-vertex message = filter (λ (part : Part). same_name part.vertex v) message.parts
 
   -- what a verdict sends to the shard
-  sent-by : (log : List GateEntry) (begun : Begun) (judged : Judgement) (before : List StoreEntry) (entry : StoreEntry) (after : List StoreEntry)
+  sent-by : (log : List GateEntry) (begun : BegunRequest) (judged : Judgement) (before : List StoreEntry) (entry : StoreEntry) (after : List StoreEntry)
       → store ≡ before ++ entry ∷ after → judged_by entry.author entry.deed ≡ judged
       → PassesAs (commits_of before) judged.ops judged.verdict → begun.stamp ≡ judged.stamp
       → (verdict : Verdict) → judged.verdict ≡ verdict → (a : Addressed) → a.shard ≡ shard

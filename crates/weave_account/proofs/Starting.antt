@@ -15,7 +15,7 @@ use Rattle.vector_stamp.specs.declared.clock.Stamp.{Stamp}
 use Rattle.program_defs.specs.declared.script.Script.{Script}
 use Rattle.weave_entries.specs.declared.gate_log.GateEntry.{GateEntry}
 use Rattle.weave_entries.specs.declared.shard_log.ShardEntry.{ShardEntry}
-use Rattle.weave_entries.specs.GateReplay.{Begun, begun_in, ended_in, clocks_in}
+use Rattle.weave_entries.specs.GateReplay.{BegunRequest, begun_in, ended_in, clocks_in}
 use Rattle.weave_entries.specs.Logs.{AtEachEntry}
 use Rattle.weave_entries.specs.ShardReplay.{visits_of, reads_in}
 use Rattle.report_rules.specs.Lookups.{is_in}
@@ -75,7 +75,7 @@ module _ (script : Script) where
           as_many = length-replicate script.gates [];
           logs = λ home. each-empty _ (gate_log (no_logs script) home) (gates-none home);
           begins = λ home. each-empty _ (gate_log (no_logs script) home) (gates-none home);
-          once = pairs-empty (λ (a b : Begun). a.request ≢ b.request) (all_begun (no_logs script)) begun-none;
+          once = pairs-empty (λ (a b : BegunRequest). a.request ≢ b.request) (all_begun (no_logs script)) begun-none;
         };
         clocks = record {
           known = λ home clock h. absurd (has_none clock (subst (λ (log : List GateEntry). Contains (clocks_in log) clock) (gates-none home) h));
@@ -84,7 +84,7 @@ module _ (script : Script) where
         sessions = record {
           logs = λ session. each-empty _ (session_log (no_logs script) session) (sessions-none session);
           stamps = λ r request there.
-              ap (λ log. session_stamp_of r log) (sessions-none request.session) ∙ sym (ap (λ bs. option_map (λ (b : Begun). b.stamp) (find (λ (b : Begun). nat_eq b.request r) bs)) begun-none);
+              ap (λ log. session_stamp_of r log) (sessions-none request.session) ∙ sym (ap (λ bs. option_map (λ (b : BegunRequest). b.stamp) (find (λ (b : BegunRequest). nat_eq b.request r) bs)) begun-none);
           replies = λ session. each-empty _ (session_log (no_logs script) session) (sessions-none session);
           finished_are_replied = λ r request there look done. absurd (none-ended r done);
         };

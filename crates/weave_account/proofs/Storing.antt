@@ -21,7 +21,7 @@ use Rattle.weave_entries.specs.declared.store_log.StoreDeed.{StoreDeed}
 use Rattle.weave_entries.specs.declared.store_log.StoreDeed.TheVariants.{Judged}
 use Rattle.weave_entries.specs.declared.verdict.Verdict.{Verdict}
 use Rattle.weave_entries.specs.declared.verdict.Verdict.TheVariants.{Committed, Conflict, Refused}
-use Rattle.weave_entries.specs.GateReplay.{Begun}
+use Rattle.weave_entries.specs.GateReplay.{BegunRequest}
 use Rattle.weave_entries.specs.Logs.{AtEachEntry}
 use Rattle.weave_entries.specs.StoreReplay.{Commit, Judgement, judged_by, commit_by, commits_of, graph_with_commit, graph_committed}
 use Rattle.weave_data.proofs.Ends.{by_last}
@@ -105,7 +105,7 @@ work-named (Some request) ops v is = ap (work_names v) is
 abbrev pub JudgesRightly : Script → Account → List StoreEntry → StoreEntry → Type 0
 JudgesRightly script account before entry = Judges script account before (judged_by entry.author entry.deed)
 
-module _ (script : Script) (account : Account) (once : AllPairs (λ (a b : Begun). a.request ≢ b.request) (all_begun account)) where
+module _ (script : Script) (account : Account) (once : AllPairs (λ (a b : BegunRequest). a.request ≢ b.request) (all_begun account)) where
   -- Each is of the script
 
   -- each commit is of a begun request of the script

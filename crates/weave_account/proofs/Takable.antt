@@ -20,8 +20,8 @@ use Rattle.weave_entries.specs.declared.message.Message.{Message}
 use Rattle.weave_entries.specs.declared.store_log.StoreEntry.{StoreEntry}
 use Rattle.weave_entries.specs.declared.verdict.Verdict.{Verdict}
 use Rattle.weave_entries.specs.declared.verdict.Verdict.TheVariants.{Committed, Conflict, Refused}
-use Rattle.weave_entries.specs.GateReplay.{Begun}
-use Rattle.weave_entries.specs.Sending.{keeps, message_to, messages_of, part_for, parts_for, shards_named}
+use Rattle.weave_entries.specs.GateReplay.{BegunRequest}
+use Rattle.weave_entries.specs.Sending.{is_kept_at, message_to, messages_of, part_for, parts_for, shards_named}
 use Rattle.weave_entries.specs.StoreReplay.{Commit, Judgement, judged_by, commit_by, commits_of, names_vertex as names, count_naming}
 use Rattle.weave_account.specs.LowerLaws.{LawsForAccounts}
 use Rattle.weave_account.specs.Seen.{HavePassed, IsMade, PassesAs}
@@ -34,7 +34,7 @@ use Rattle.weave_account.proofs.Parts.{counted}
 
 module _ (shards shard : ℕ) (ops : List Op) (before : List Commit) where
   abbrev parts-of : List Name → List Part
-  parts-of ns = map (part_for ops) (filter (keeps shards shard) (map (counted before) ns))
+  parts-of ns = map (part_for ops) (filter (is_kept_at shards shard) (map (counted before) ns))
 
   -- each is for one of them, with the number of commits that named it
   record IsFor (ns : List Name) (part : Part) : Type 0 where
@@ -44,18 +44,18 @@ module _ (shards shard : ℕ) (ops : List Op) (before : List Commit) where
 
   part-is : (ns : List Name) (part : Part) → Contains (parts-of ns) part → IsFor ns part
   part-is ns part h =
-      let image = map-has (part_for ops) (filter (keeps shards shard) (map (counted before) ns)) part h in
-      let kept = filter_has (keeps shards shard) (map (counted before) ns) image.of image.has in
+      let image = map-has (part_for ops) (filter (is_kept_at shards shard) (map (counted before) ns)) part h in
+      let kept = filter_has (is_kept_at shards shard) (map (counted before) ns) image.of image.has in
       let name = map-has (counted before) ns image.of kept.0 in
       record { vertex = name.of; has = name.has; is = ap (part_for ops) name.is ∙ image.is }
 
   -- and no two are for one
   apart : (ns : List Name) → AllPairs (λ a b. a ≢ b) ns → AllPairs (λ (one other : Part). one.vertex ≢ other.vertex) (parts-of ns)
   apart [] u = pairs_none (λ (one other : Part). one.vertex ≢ other.vertex)
-  apart (n ∷ ns) u = at (keeps shards shard (counted before n)) (apart ns (pairs_tail (λ a b. a ≢ b) n ns u))
+  apart (n ∷ ns) u = at (is_kept_at shards shard (counted before n)) (apart ns (pairs_tail (λ a b. a ≢ b) n ns u))
     where
       at : (b : Bool) → AllPairs (λ (one other : Part). one.vertex ≢ other.vertex) (parts-of ns)
-          → AllPairs (λ (one other : Part). one.vertex ≢ other.vertex) (map (part_for ops) (cond b (counted before n ∷ filter (keeps shards shard) (map (counted before) ns)) (filter (keeps shards shard) (map (counted before) ns))))
+          → AllPairs (λ (one other : Part). one.vertex ≢ other.vertex) (map (part_for ops) (cond b (counted before n ∷ filter (is_kept_at shards shard) (map (counted before) ns)) (filter (is_kept_at shards shard) (map (counted before) ns))))
       at false more = more
       at true more = pairs_cons (λ (one other : Part). one.vertex ≢ other.vertex) (part_for ops (counted before n)) (parts-of ns)
           (λ part h same. (let of = part-is ns part h in pairs_head (λ a b. a ≢ b) n ns of.vertex u of.has (same ∙ sym (ap (λ (p : Part). p.vertex) of.is)))) more
@@ -77,7 +77,7 @@ module _ (laws : LawsForAccounts) (shards : ℕ) (store : List StoreEntry) (pass
     pub few_commits : (part : Part) → Contains message.parts part → part.before ≤ length (commits_of store)
 
   of-verdict : (before : List StoreEntry) → length (commits_of before) ≤ length (commits_of store)
-      → (log : List GateEntry) (begun : Begun) (ops : List Op) (verdict : Verdict) → PassesAs (commits_of before) ops verdict
+      → (log : List GateEntry) (begun : BegunRequest) (ops : List Op) (verdict : Verdict) → PassesAs (commits_of before) ops verdict
       → (a : Addressed) → Contains (messages_of shards log begun ops verdict) a → IsFit a.message
   of-verdict before le log begun ops (Conflict v newer) right a h = absurd (has_none a h)
   of-verdict before le log begun ops (Refused op reason at) right a h = absurd (has_none a h)

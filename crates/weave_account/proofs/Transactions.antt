@@ -27,7 +27,7 @@ use Rattle.report_rules.specs.declared.report.ReplyState.TheVariants.{Committed}
 use Rattle.report_rules.specs.declared.report.Report.{Report}
 use Rattle.report_rules.specs.PrintedOrder.{begun_requests}
 use Rattle.report_rules.specs.Replay.{OutcomeMatchesReply, MatchesReply}
-use Rattle.report_rules.specs.Lookups.{is_in, AreBoth, request_at, reply_at, names_vertex, work_names, is_some_and, is_committed_or_finished, may_be_listed, RequestPrecedes}
+use Rattle.report_rules.specs.Lookups.{is_in, AreBoth, request_at, reply_at, request_names_vertex, work_names, is_some_and, is_committed_or_finished, may_be_listed, RequestPrecedes}
 use Rattle.weave_account.specs.declared.account.Account.{Account}
 use Rattle.weave_account.specs.Account.{stamp_of, commits_in}
 use Rattle.weave_account.proofs.Replaying.{graph_after_all, AllPass, PassesWith, same-state, pass-alike}
@@ -80,7 +80,7 @@ module _ (script : Script) (account : Account) (basis : Basis script account) (r
 
   -- the commits at a vertex are in order of precedence
   pub naming-sorted : (v : Name)
-      → IsSorted (RequestBefore script account) (filter (λ r. names_vertex script r v) committed-requests)
+      → IsSorted (RequestBefore script account) (filter (λ r. request_names_vertex script r v) committed-requests)
   naming-sorted v =
       subst (IsSorted (RequestBefore script account)) (sym (naming-requests script account v (commits_in account) known))
       (sorted-requests script account (commits_naming v (commits_in account)) (λ c h. known c (filter_has _ (commits_in account) c h).0) (ordered script account v account.store basis.is.store.judges))
@@ -136,7 +136,7 @@ module _ (script : Script) (account : Account) (basis : Basis script account) (r
       ∙ ap (λ k. requests_of_commits (commits_of at.before) ++ k ∷ requests_of_commits (commits_of at.after)) at.request_is
 
   -- what is listed and names a vertex is a commit
-  pub listed-commits : (v : Name) (r : ℕ) → IsTrue (is_in r report.order) → IsTrue (names_vertex script r v)
+  pub listed-commits : (v : Name) (r : ℕ) → IsTrue (is_in r report.order) → IsTrue (request_names_vertex script r v)
       → IsTrue (is_in r committed-requests)
   listed-commits v r h names =
       elim (listed-is script account report reported.matches r (order-has report report.order reported.order r h).1) [
@@ -164,10 +164,10 @@ module _ (script : Script) (account : Account) (basis : Basis script account) (r
   -- the commits before it that name a vertex of its own are those listed before it
   pub before-same : (r : ℕ) (before after : List ℕ) → report.order ≡ before ++ r ∷ after
       → (ops : List Op) (number : ℕ) (answers : List Got) (at : StandsInStore script account r ops number answers) (v : Name)
-      → IsTrue (names_vertex script r v)
-      → filter (λ r. names_vertex script r v) before ≡ filter (λ r. names_vertex script r v) (requests_of_commits (commits_of at.before))
+      → IsTrue (request_names_vertex script r v)
+      → filter (λ r. request_names_vertex script r v) before ≡ filter (λ r. request_names_vertex script r v) (requests_of_commits (commits_of at.before))
   before-same r before after is ops number answers at v named =
-      let test : ℕ → Bool = λ r. names_vertex script r v in
+      let test : ℕ → Bool = λ r. request_names_vertex script r v in
       let first = filter test (requests_of_commits (commits_of at.before)) in
       let later = filter test (requests_of_commits (commits_of at.after)) in
       let here : filter test (r ∷ requests_of_commits (commits_of at.after)) ≡ r ∷ later = ap (λ b. cond b (r ∷ later) later) named in
@@ -186,7 +186,7 @@ module _ (script : Script) (account : Account) (basis : Basis script account) (r
       ])
 
   named-here : (r : ℕ) (tx : IsListedTx script account report r) (v : Name) → IsTrue (is_among (named_by tx.ops) v)
-      → IsTrue (names_vertex script r v)
+      → IsTrue (request_names_vertex script r v)
   named-here r tx v h =
       subst (λ q. IsTrue (is_some_and (λ (request : Request). work_names v request.work) q)) (sym tx.request_is)
       (subst (λ w. IsTrue (work_names v w)) (sym tx.work) h)

@@ -23,8 +23,8 @@ use Rattle.weave_entries.specs.declared.store_log.StoreEntry.{StoreEntry}
 use Rattle.weave_entries.specs.declared.store_log.StoreDeed.{StoreDeed}
 use Rattle.weave_entries.specs.declared.verdict.Counted.{Counted}
 use Rattle.weave_entries.specs.declared.verdict.Verdict.TheVariants.{Committed}
-use Rattle.weave_entries.specs.GateReplay.{Begun, tx_by, messages_by, to_shard, addressed_to}
-use Rattle.weave_entries.specs.Sending.{keeps, shards_named, parts_for, message_to, messages_of, ops_on}
+use Rattle.weave_entries.specs.GateReplay.{BegunRequest, tx_by, messages_by, to_shard, addressed_to}
+use Rattle.weave_entries.specs.Sending.{is_kept_at, shards_named, parts_for, message_to, messages_of, ops_on}
 use Rattle.weave_entries.specs.ShardReplay.{arrivals_of, processed_of, updates_of, first_unready}
 use Rattle.weave_entries.specs.StoreReplay.{Commit, Judgement, judged_by, judgements_of, commit_by, commits_of, names_vertex as names, count_naming}
 use Rattle.weave_entries.specs.StoreRule.{counts_of}
@@ -76,15 +76,15 @@ module _ (script : Script) (account : Account) (basis : Basis script account) (s
       Contains (addressed_to shard (gate_log account home)) (record { shard = shard; number = number; message = message })
 
   -- the message of a commit to the shard
-  message-there : (log : List GateEntry) (begun : Begun) (commit : Commit) (place : IsCommitAt account commit) (ops : List Op)
+  message-there : (log : List GateEntry) (begun : BegunRequest) (commit : Commit) (place : IsCommitAt account commit) (ops : List Op)
       → ops ≡ commit.ops → begun.stamp ≡ commit.stamp → IsTrue (names v commit)
       → (number : ℕ) (answers : List Got) (counts : List Counted) → counts ≡ counts_of ops (commits_of place.before)
       → SendsUpdate (messages_of script.shards log begun ops (Committed number answers counts))
       (message_to script.shards log begun ops counts shard) place.before commit
   message-there log begun commit place ops ops-are stamp-is named number answers counts counts-are =
       let named-ops : IsTrue (is_among (named_by ops) v) = subst (λ k. IsTrue (is_among (named_by k) v)) (sym ops-are) named in
-      let kept : IsTrue (list_any (keeps script.shards shard) counts) = subst (λ cs. IsTrue (list_any (keeps script.shards shard) cs)) (sym counts-are) (keeps-some (named_by ops) named-ops) in (
-        has_map (message_to script.shards log begun ops counts) (shards_named script.shards counts) shard (has_filter (λ s. list_any (keeps script.shards s) counts) (range_with_len 0 script.shards) shard (has-range 0 script.shards shard (omega arith) (omega (arith, inside))) kept),
+      let kept : IsTrue (list_any (is_kept_at script.shards shard) counts) = subst (λ cs. IsTrue (list_any (is_kept_at script.shards shard) cs)) (sym counts-are) (keeps-some (named_by ops) named-ops) in (
+        has_map (message_to script.shards log begun ops counts) (shards_named script.shards counts) shard (has_filter (λ s. list_any (is_kept_at script.shards s) counts) (range_with_len 0 script.shards) shard (has-range 0 script.shards shard (omega arith) (omega (arith, inside))) kept),
         (
           record {
             before = place.before;
@@ -107,11 +107,11 @@ module _ (script : Script) (account : Account) (basis : Basis script account) (s
       )
     where
       keeps-some : (ns : List Name) → IsTrue (is_among ns v)
-          → IsTrue (list_any (keeps script.shards shard) (map (λ (w : Name). record { vertex = w; before = count_naming w (commits_of place.before) }) ns))
+          → IsTrue (list_any (is_kept_at script.shards shard) (map (λ (w : Name). record { vertex = w; before = count_naming w (commits_of place.before) }) ns))
       keeps-some [] h = cc
       keeps-some (w ∷ ns) h = elim (or_cases (same_name w v) (is_among ns v) h) [
         | inl same ↦ or_left _ _ (eq-eqb (shard_of w script.shards) shard (ap (λ k. shard_of k script.shards) (one_name w v same) ∙ here))
-        | inr more ↦ or_right (keeps script.shards shard (record { vertex = w; before = count_naming w (commits_of place.before) })) _ (keeps-some ns more)
+        | inr more ↦ or_right (is_kept_at script.shards shard (record { vertex = w; before = count_naming w (commits_of place.before) })) _ (keeps-some ns more)
       ]
 
   -- the judgement at an entry that commits
@@ -120,7 +120,7 @@ module _ (script : Script) (account : Account) (basis : Basis script account) (s
   judged-commit author deed commit is =
       commit-of author deed commit (subst (λ cs. Contains cs commit) (sym is) (has_head commit []))
 
-  on-channel : (home : ℕ) (commit : Commit) (place : IsCommitAt account commit) → IsTrue (names v commit) → (begun : Begun)
+  on-channel : (home : ℕ) (commit : Commit) (place : IsCommitAt account commit) → IsTrue (names v commit) → (begun : BegunRequest)
       → begun.request ≡ commit.request → WasSent (gate_log account home) begun → IsSentTo home commit place.before
   on-channel home commit place named begun request-is sent =
       let sends : SendsJudged account script.shards sent.before sent.author begun.request sent.messages =
@@ -139,7 +139,7 @@ module _ (script : Script) (account : Account) (basis : Basis script account) (s
       let rule = basis.is.store.judges place.before place.entry place.after place.is in
       let right : Commits account (commits_of place.before) judged.stamp judged.ops passed.0 passed.1 passed.2 =
       subst (λ k. IsRightVerdict account (commits_of place.before) judged.stamp judged.ops k) passed.3 rule.verdict in
-      let flight : Begun = record { author = sent.author; request = begun.request; stamp = (sends.judged).stamp } in
+      let flight : BegunRequest = record { author = sent.author; request = begun.request; stamp = (sends.judged).stamp } in
       let made : sent.messages ≡ messages_of script.shards sent.before flight judged.ops (Committed passed.0 passed.1 passed.2) =
       sends.messages_are ∙ ap (λ (j : Judgement). messages_of script.shards sent.before flight j.ops j.verdict) same
       ∙ ap (messages_of script.shards sent.before flight judged.ops) passed.3 in
@@ -166,7 +166,7 @@ module _ (script : Script) (account : Account) (basis : Basis script account) (s
       let rule = basis.is.store.judges place.before place.entry place.after place.is in
       let judged : Judgement = judged_by (place.entry).author (place.entry).deed in
       let of = judged-commit (place.entry).author (place.entry).deed commit place.commit_is in
-      let begun : Begun = record { author = judged.author; request = judged.request; stamp = judged.stamp } in (
+      let begun : BegunRequest = record { author = judged.author; request = judged.request; stamp = judged.stamp } in (
         rule.home,
         elim (gone rule.home script.shards (gate_log account rule.home) (basis.is.gatekeepers.logs rule.home) begun rule.begun) [
           | inl flying ↦ inl (record { flight = begun; flies = flying; request_is = of.request; stamp_is = of.stamp })
@@ -184,7 +184,7 @@ module _ (script : Script) (account : Account) (basis : Basis script account) (s
       let rule = basis.is.store.judges place.before place.entry place.after place.is in
       let of = judged-commit (place.entry).author (place.entry).deed commit place.commit_is in
       let home = rule.home in
-      let begun : Begun =
+      let begun : BegunRequest =
       record { author = (judged_by (place.entry).author (place.entry).deed).author; request = (judged_by (place.entry).author (place.entry).deed).request; stamp = (judged_by (place.entry).author (place.entry).deed).stamp } in
       let entry = flat-has (λ (e : GateEntry). tx_by e.author e.deed) (gate_log account home) begun rule.begun in
       let below : home < script.gates = (let lt = within-list account.gates home entry.0 entry.1.0 in let many = basis.is.gatekeepers.as_many in omega (arith, lt, many)) in

@@ -26,6 +26,7 @@ module _ (script : Script) (account : Account) (basis : Basis script account) (s
   WasSent home number m =
       Contains (addressed_to shard (gate_log account home)) (record { shard = shard; number = number; message = m })
 
+  -- a message that was sent to the vertex's shard brings no update of the vertex, or that of a commit
   pub sent-brings : (home number : ℕ) (m : Message) → WasSent home number m → Brings account.store v m
   sent-brings home number m h = brings script account basis shard v here home _ h
 

@@ -17,7 +17,7 @@ use Rattle.program_defs.specs.declared.script.Work.TheVariants.{Change, Look}
 use Rattle.weave_entries.specs.declared.gate_log.GateEntry.{GateEntry}
 use Rattle.weave_entries.specs.declared.gate_log.GateDeed.{GateDeed}
 use Rattle.weave_entries.specs.declared.gate_log.GateDeed.TheVariants.{BeganTx, BeganProgram, Sent, Nop, Heard, Raised, Finished}
-use Rattle.weave_entries.specs.GateReplay.{Begun, program_by, programs_of}
+use Rattle.weave_entries.specs.GateReplay.{BegunRequest, program_by, programs_of}
 use Rattle.weave_entries.specs.ShardReplay.{Visit, updates_of, visit_by, visits_of, reads_in}
 use Rattle.weave_entries.specs.declared.shard_log.ShardEntry.{ShardEntry}
 use Rattle.program_defs.specs.Visits.{IsVisited}
@@ -54,10 +54,10 @@ pub record IsProgram (script : Script) (r : ℕ) : Type 0 where
   pub program : Program
   pub work : request.work ≡ Look program
 
-deed-program : (script : Script) (account : Account) (home : ℕ) (before : List GateEntry) (author : ℕ) (deed : GateDeed) (begun : Begun)
+deed-program : (script : Script) (account : Account) (home : ℕ) (before : List GateEntry) (author : ℕ) (deed : GateDeed) (begun : BegunRequest)
     → Contains (program_by author deed) begun → BeginsAs script account home before deed → IsProgram script begun.request
 deed-program script account home before author (BeganProgram r stamp) begun h rule =
-    elim (has_read _ [] begun h) [ inl same ↦ subst (λ (b : Begun). IsProgram script b.request) same (at (request_at script r) refl rule.own) | inr none ↦ absurd (has_none begun none) ]
+    elim (has_read _ [] begun h) [ inl same ↦ subst (λ (b : BegunRequest). IsProgram script b.request) same (at (request_at script r) refl rule.own) | inr none ↦ absurd (has_none begun none) ]
   where
     at : (q : Option Request) → request_at script r ≡ q
         → IsTrue (is_some_and (λ (request : Request). (request.gate == home) && is_look request.work) q) → IsProgram script r
@@ -75,7 +75,7 @@ deed-program script account home before author (Raised epoch) begun h rule = abs
 deed-program script account home before author (Finished r) begun h rule = absurd (has_none begun h)
 
 -- what was begun as a program is one
-pub program-begun : (script : Script) (account : Account) → Basis script account → (home : ℕ) (begun : Begun)
+pub program-begun : (script : Script) (account : Account) → Basis script account → (home : ℕ) (begun : BegunRequest)
     → Contains (programs_of (gate_log account home)) begun → IsProgram script begun.request
 program-begun script account basis home begun h =
     let entry = flat-has (λ (e : GateEntry). program_by e.author e.deed) (gate_log account home) begun h in

@@ -54,6 +54,7 @@ account = record {
       ∷ [];
 }
 
+-- these logs are no account: before a begin the gatekeeper hears a stamp that counts this begin already
 pub loop-in-time : ¬ IsAccount script account
 loop-in-time is =
     let hears : IsTrue (counts_no_more 0 (clock-in 0 0 0 1) (clock-in 0 1 1 0)) =

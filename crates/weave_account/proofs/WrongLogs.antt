@@ -38,7 +38,7 @@ use Rattle.std.proofs.Common.{◌≤◌}
 use Rattle.std.proofs.Common.{None}
 use Rattle.vector_stamp.specs.Clocks.{counts_no_more}
 use Rattle.weave_account.specs.Account.{gate_log}
-use Rattle.weave_entries.specs.GateReplay.{Begun, txs_of}
+use Rattle.weave_entries.specs.GateReplay.{BegunRequest, txs_of}
 
 -- Of two unordered writers
 
@@ -57,6 +57,7 @@ zero-stamp = record { home = 0; clock = clock 0 0 }
 abbrev asked-of-two : OracleEntry
 asked-of-two = record { author = 0; deed = Settled (zero-stamp ∷ writers.x ∷ []) writers.y (1 ∷ []) }
 
+-- logs in which the oracle was asked of a stamp besides that of the last commit are no account
 pub other-earlier : ¬ IsAccount writers.script (record writers.account { oracle = asked-of-two ∷ [] })
 other-earlier is = elim (is.oracle.asked asked-of-two (has_head asked-of-two [])) [
   | inl commit ↦ by-commit commit.before commit.entry commit.after commit.at commit.commit commit.commit_is commit.later_is commit.earlier_are
@@ -95,6 +96,7 @@ abbrev of-other : GateEntry
 of-other =
     record { author = 0; deed = Sent 0 (record { shard = 0; number = 1; message = record writers.m2 { request = Some 0; stamp = writers.x; low = clock 1 0 } } ∷ []) }
 
+-- logs in which a transaction sends messages made from another one's operations are no account
 pub others-verdict : ¬ IsAccount writers.script (record writers.account { gates = (writers.g1 ∷ of-other ∷ []) ∷ (writers.h1 ∷ writers.h2 ∷ []) ∷ [] })
 others-verdict is =
     let sends = is.channels 0 (writers.g1 ∷ []) of-other [] refl in
@@ -118,6 +120,7 @@ abbrev skips : Account
 skips =
     record reader.account { shards = (reader.s1 ∷ reader.s2 ∷ reader.s3 ∷ record { author = 0; deed = Visited 1 (reader.stamp 2) reader.v 0 false } ∷ []) ∷ [] }
 
+-- logs in which a program reads a vertex before an update that is before the program are no account
 pub too-early : LawsForAccounts → ¬ IsAccount reader.script skips
 too-early laws is =
     let before : Precedence skips (reader.stamp 2) (reader.stamp 1) =
@@ -129,6 +132,7 @@ too-early laws is =
 abbrev unready : Account
 unready = record reader.account { shards = (reader.s1 ∷ reader.s2 ∷ reader.s4 ∷ []) ∷ [] }
 
+-- logs in which a program reads before anything after it has come from the gatekeeper are no account
 pub not-ready : ¬ IsAccount reader.script unready
 not-ready is = let ready = (is.shards.deeds 0 (reader.s1 ∷ reader.s2 ∷ []) reader.s4 [] refl).ready in cc
 
@@ -136,6 +140,7 @@ not-ready is = let ready = (is.shards.deeds 0 (reader.s1 ∷ reader.s2 ∷ []) r
 abbrev again : Account
 again = record reader.account { shards = (reader.s1 ∷ reader.s2 ∷ reader.s2 ∷ []) ∷ [] }
 
+-- logs in which the same message is applied twice are no account
 pub applied-twice : ¬ IsAccount reader.script again
 applied-twice is = let number = (is.shards.deeds 0 (reader.s1 ∷ reader.s2 ∷ []) reader.s2 [] refl).number_is in cc
 
@@ -144,6 +149,7 @@ abbrev marked : Account
 marked =
     record reader.account { shards = (reader.s1 ∷ reader.s2 ∷ reader.s3 ∷ record { author = 0; deed = Visited 1 (reader.stamp 2) reader.v 1 true } ∷ []) ∷ [] }
 
+-- logs in which a visit is marked as settled, and the oracle has no entry for it, are no account
 pub no-entry : ¬ IsAccount reader.script marked
 no-entry is =
     let its =
@@ -155,6 +161,7 @@ no-entry is =
 abbrev unread : Account
 unread = record reader.account { shards = (reader.s1 ∷ reader.s2 ∷ reader.s3 ∷ []) ∷ [] }
 
+-- logs in which a program is finished that has not read its vertex are no account
 pub finished-early : ¬ IsAccount reader.script unread
 finished-early is = let next = (is.programs 1 _ _ refl refl).whole refl in cc
 
@@ -162,6 +169,7 @@ finished-early is = let next = (is.programs 1 _ _ refl refl).whole refl in cc
 abbrev unreplied : Account
 unreplied = record reader.account { sessions = (reader.b1 ∷ reader.b2 ∷ reader.b3 ∷ []) ∷ [] }
 
+-- logs in which a program is finished, and has no reply, are no account
 pub finished-unreplied : ¬ IsAccount reader.script unreplied
 finished-unreplied is = let replied = is.sessions.finished_are_replied 1 _ refl refl refl in cc
 
@@ -169,6 +177,7 @@ finished-unreplied is = let replied = is.sessions.finished_are_replied 1 _ refl 
 abbrev of-wrong-kind : GateEntry
 of-wrong-kind = record { author = 0; deed = BeganProgram 0 (reader.stamp 1) }
 
+-- logs in which a transaction begins as a program are no account
 pub wrong-kind : ¬ IsAccount reader.script (record reader.account { gates = (of-wrong-kind ∷ []) ∷ [] })
 wrong-kind is = let own = (is.gatekeepers.begins 0 [] of-wrong-kind [] refl).own in cc
 
@@ -177,6 +186,7 @@ abbrev without-part : GateEntry
 without-part =
     record { author = 0; deed = Sent 0 (record { shard = 0; number = 1; message = record reader.sent { parts = [] } } ∷ []) }
 
+-- logs in which a part is left out of a message are no account
 pub part-left-out : ¬ IsAccount reader.script (record reader.account { gates = (reader.g1 ∷ without-part ∷ []) ∷ [] })
 part-left-out is =
     let sends = is.channels 0 (reader.g1 ∷ []) without-part [] refl in
@@ -191,6 +201,7 @@ part-left-out is =
 abbrev arrives-again : Account
 arrives-again = record reader.account { shards = (reader.s1 ∷ reader.s1 ∷ []) ∷ [] }
 
+-- logs in which the same message arrives twice are no account
 pub arrived-twice : ¬ IsAccount reader.script arrives-again
 arrived-twice is = let new = (is.shards.deeds 0 (reader.s1 ∷ []) reader.s1 [] refl).new in cc
 
@@ -198,6 +209,7 @@ arrived-twice is = let new = (is.shards.deeds 0 (reader.s1 ∷ []) reader.s1 [] 
 abbrev collects : ShardEntry
 collects = record { author = 0; deed = Collected (Some (reader.clock 1)) }
 
+-- logs in which a shard collects below a bound, though nothing was processed, are no account
 pub other-bound : ¬ IsAccount reader.script (record reader.account { shards = (collects ∷ []) ∷ [] })
 other-bound is = let bound : Some (reader.clock 1) ≡ None = is.shards.deeds 0 [] collects [] refl in cc
 
@@ -209,6 +221,7 @@ replied-unsent is = let ended = is.sessions.replies 0 (reader.b1 ∷ []) reader.
 abbrev hears-more : GateEntry
 hears-more = record { author = 0; deed = Heard (reader.clock 5) }
 
+-- logs in which a gatekeeper hears a clock that counts events which were not made are no account
 pub unknown-clock : ¬ IsAccount reader.script (record reader.account { gates = (hears-more ∷ []) ∷ [] })
 unknown-clock is =
     let counts : 5 ≤ 0 = (is.clocks.known 0 (reader.clock 5) (has_head (reader.clock 5) [])).counts 0 in absurd (omega (arith, counts))
@@ -217,6 +230,7 @@ unknown-clock is =
 abbrev hears-own : GateEntry
 hears-own = record { author = 0; deed = Heard (reader.clock 1) }
 
+-- logs in which a gatekeeper hears its first stamp before it made it are no account
 pub heard-own : ¬ IsAccount reader.script (record reader.account { gates = (hears-own ∷ reader.g1 ∷ reader.g2 ∷ reader.g3 ∷ reader.g4 ∷ reader.g5 ∷ []) ∷ [] })
 heard-own is =
     let own : IsTrue (counts_no_more 0 (reader.clock 0) (reader.clock 1)) = is.clocks.hears_no_more 0 [] hears-own (reader.g1 ∷ reader.g2 ∷ reader.g3 ∷ reader.g4 ∷ reader.g5 ∷ []) refl in cc
@@ -225,6 +239,7 @@ heard-own is =
 abbrev twice : Account
 twice = record reader.account { shards = (reader.s1 ∷ reader.s2 ∷ reader.s3 ∷ reader.s4 ∷ reader.s4 ∷ []) ∷ [] }
 
+-- logs in which a program reads its vertex twice are no account
 pub read-twice : ¬ IsAccount reader.script twice
 read-twice is = (is.programs 1 _ _ refl refl).once 0 1 (reader.v, None) (omega arith) (omega arith) refl
 
@@ -232,15 +247,16 @@ read-twice is = (is.programs 1 _ _ refl refl).once 0 1 (reader.v, None) (omega a
 abbrev for-another : StoreEntry
 for-another = record reader.judged { author = 3 }
 
+-- logs in which the store judges a transaction for another one than its author are no account
 pub judged-for-another : ¬ IsAccount reader.script (record reader.account { store = for-another ∷ [] })
 judged-for-another is = let judges = is.store.judges [] for-another [] refl in by-home judges.home judges.begun
   where
-    begun-for : Begun
+    begun-for : BegunRequest
     begun-for = record { author = 3; request = 0; stamp = reader.stamp 1 }
 
     by-home : (home : ℕ) → Contains (txs_of (gate_log reader.account home)) begun-for → ⊥
     by-home zero h =
-        let author = ap (λ (b : Begun). b.author) (only (record { author = 0; request = 0; stamp = reader.stamp 1 }) begun-for h) in absurd (omega (arith, author))
+        let author = ap (λ (b : BegunRequest). b.author) (only (record { author = 0; request = 0; stamp = reader.stamp 1 }) begun-for h) in absurd (omega (arith, author))
     by-home (suc home) h = has_none begun-for h
 
 -- Of a program that reaches a vertex over two shards
@@ -283,6 +299,7 @@ out-of-turn is =
 abbrev elsewhere : ShardEntry
 elsewhere = record { author = 0; deed = Visited 1 (marks.at-second 0 1) marks.a 0 false }
 
+-- logs in which a program reads a vertex at a shard that doesn't keep it are no account
 pub at-another-shard : ¬ IsAccount marks.script (record marks.account { shards = (elsewhere ∷ []) ∷ marks.shard-a ∷ [] })
 at-another-shard is = let here : 1 ≡ 0 = (is.shards.deeds 0 [] elsewhere [] refl).kept_here in absurd (omega (arith, here))
 
@@ -300,6 +317,7 @@ abbrev conflicts : StoreEntry
 conflicts =
     record { author = 0; deed = Judged 1 writers.y (Set writers.v (codes "k") (codes "x") ∷ []) (writers.v ∷ []) (Conflict writers.v 0) }
 
+-- logs in which a transaction conflicts with one that it doesn't precede are no account
 pub conflict-with-unordered : LawsForAccounts
     → ¬ IsAccount writers.script (record writers.account { store = writers.j1 ∷ conflicts ∷ []; oracle = [] })
 conflict-with-unordered laws is =

@@ -5,11 +5,11 @@ use Rattle.std.specs.Option.{option_map}
 use Rattle.weave_data.specs.declared.name.Name.{Name}
 use Rattle.graph_ops.specs.Operations.{State}
 use Rattle.vector_stamp.specs.declared.clock.Stamp.{Stamp}
-use Rattle.vector_stamp.specs.Precedence.{Given, Precedes}
+use Rattle.vector_stamp.specs.Precedence.{GivenPair, Precedes}
 use Rattle.weave_entries.specs.declared.gate_log.GateEntry.{GateEntry}
 use Rattle.weave_entries.specs.declared.shard_log.ShardEntry.{ShardEntry}
 use Rattle.weave_entries.specs.declared.session_log.SessionEntry.{SessionEntry}
-use Rattle.weave_entries.specs.GateReplay.{Begun, begun_in, ended_in}
+use Rattle.weave_entries.specs.GateReplay.{BegunRequest, begun_in, ended_in}
 use Rattle.weave_entries.specs.OracleReplay.{pairs_of_log}
 use Rattle.weave_entries.specs.ShardReplay.{reads_in}
 use Rattle.weave_entries.specs.StoreReplay.{Commit, commits_of}
@@ -33,17 +33,18 @@ session_log account session = slice_index_or account.sessions session []
 -- The requests
 
 -- what was begun at the gatekeepers
-abbrev pub all_begun : Account → List Begun
+abbrev pub all_begun : Account → List BegunRequest
 all_begun account = flat_map begun_in account.gates
 
 -- the stamp of a request, if it was begun
 abbrev pub stamp_of : Account → ℕ → Option Stamp
 stamp_of account r =
-    option_map (λ (begun : Begun). begun.stamp) (find (λ (begun : Begun). begun.request == r) (all_begun account))
+    option_map (λ (begun : BegunRequest). begun.stamp)
+    (find (λ (begun : BegunRequest). begun.request == r) (all_begun account))
 
 -- the stamps of all begun requests
 abbrev pub begun_stamps : Account → List Stamp
-begun_stamps account = map (λ (begun : Begun). begun.stamp) (all_begun account)
+begun_stamps account = map (λ (begun : BegunRequest). begun.stamp) (all_begun account)
 
 -- a stamp is that of a begun request
 abbrev pub IsBegunStamp : Account → Stamp → Type 0
@@ -61,7 +62,7 @@ reads_of account r = flat_map (reads_in r) account.shards
 -- Precedence
 
 -- the pairs of the oracle
-abbrev pub pairs_in : Account → List Given
+abbrev pub pairs_in : Account → List GivenPair
 pairs_in account = pairs_of_log account.oracle
 
 -- one stamp precedes another by the order of stamps and the oracle's pairs

@@ -8,7 +8,7 @@ use Rattle.weave_entries.specs.declared.message.Addressed.{Addressed}
 use Rattle.weave_entries.specs.Logs.{AtEachEntry}
 use Rattle.weave_entries.specs.Sending.{messages_of}
 use Rattle.weave_entries.specs.StoreReplay.{Judgement, judgements_of}
-use Rattle.weave_entries.specs.GateReplay.{Begun}
+use Rattle.weave_entries.specs.GateReplay.{BegunRequest}
 use Rattle.weave_account.specs.declared.account.Account.{Account}
 use Rattle.weave_account.specs.Account.{gate_log}
 
@@ -19,7 +19,7 @@ pub record SendsJudged (account : Account) (shards : ℕ) (before : List GateEnt
   pub judged : Judgement
   pub is_judged : Contains (judgements_of account.store) judged
   pub request_is : judged.request ≡ r
-  pub messages_are : (let tx : Begun = record { author = author; request = r; stamp = judged.stamp } in
+  pub messages_are : (let tx : BegunRequest = record { author = author; request = r; stamp = judged.stamp } in
       messages ≡ messages_of shards before tx judged.ops judged.verdict)
 
 -- what a deed sends, if it sends, is sent like this

@@ -14,7 +14,7 @@ use Rattle.weave_entries.specs.declared.gate_log.GateEntry.{GateEntry}
 use Rattle.weave_entries.specs.declared.gate_log.GateDeed.{GateDeed}
 use Rattle.weave_entries.specs.declared.gate_log.GateDeed.TheVariants.{BeganTx, BeganProgram}
 use Rattle.weave_entries.specs.Logs.{AtEachEntry}
-use Rattle.weave_entries.specs.GateReplay.{Begun, begun_stamp, clock_of}
+use Rattle.weave_entries.specs.GateReplay.{BegunRequest, begun_stamp, clock_of}
 use Rattle.weave_entries.specs.GateRules.{IsGateLog}
 use Rattle.report_rules.specs.Lookups.{is_some_and, request_at, same_session}
 use Rattle.weave_account.specs.declared.account.Account.{Account}
@@ -49,7 +49,7 @@ BeginsAs script account home before _ = ⊤
 
 -- no request is begun twice, at whatever gatekeepers
 abbrev pub BeginEachOnce : Account → Type 0
-BeginEachOnce account = AllPairs (λ (a b : Begun). a.request ≢ b.request) (all_begun account)
+BeginEachOnce account = AllPairs (λ (a b : BegunRequest). a.request ≢ b.request) (all_begun account)
 
 -- Gatekeepers: each log is one of its gatekeeper, each request begins at most once, and as it should.
 -- So stamps rise, no two transactions of a gatekeeper are in flight at once, and each request is sent or finished at

@@ -1,5 +1,6 @@
 -- The account before anything was done.
 use Rattle.std.specs.Prelude.{replicate, []}
+use Rattle.weave_data.specs.Limits.{most_sessions}
 use Rattle.program_defs.specs.declared.script.Script.{Script}
 use Rattle.weave_account.specs.declared.account.Account.{Account}
 
@@ -10,5 +11,5 @@ no_logs script = record {
   store = [];
   oracle = [];
   shards = replicate script.shards [];
-  sessions = replicate 64 [];
+  sessions = replicate most_sessions [];
 }

@@ -5,7 +5,7 @@ use Rattle.weave_data.specs.Names.{shard_of}
 use Rattle.graph_ops.specs.VertexOps.{ops_on}
 use Rattle.program_defs.specs.declared.script.Script.{Script}
 use Rattle.weave_entries.specs.declared.message.Addressed.{Addressed}
-use Rattle.weave_entries.specs.GateReplay.{Begun, addressed_to, flight_of}
+use Rattle.weave_entries.specs.GateReplay.{BegunRequest, addressed_to, flight_of}
 use Rattle.weave_entries.specs.StoreReplay.{Commit}
 use Rattle.weave_account.specs.declared.account.Account.{Account}
 use Rattle.weave_account.specs.Account.{gate_log}
@@ -21,7 +21,7 @@ pub record IsOnChannel (script : Script) (account : Account) (commit : Commit) (
 
 -- the commit is in flight at this gatekeeper
 pub record CommitIsInFlight (account : Account) (commit : Commit) (home : ℕ) : Type 0 where
-  pub flight : Begun
+  pub flight : BegunRequest
   pub flies : flight_of (gate_log account home) ≡ Some flight
   pub request_is : flight.request ≡ commit.request
   pub stamp_is : flight.stamp ≡ commit.stamp

@@ -2,7 +2,7 @@
 use Rattle.std.specs.Prelude.{◌≡◌, ◌⊎◌, ℕ, ◌-◌, ◌<◌, ◌==◌, List, [], ◌∷◌, ◌++◌, Contains, IsTrue, Option, Some, slice_get, IsSomeAnd, ⊤}
 use Rattle.std.specs.List.{find}
 use Rattle.weave_data.specs.declared.name.Name.{Name}
-use Rattle.vector_stamp.specs.Precedence.{Given}
+use Rattle.vector_stamp.specs.Precedence.{GivenPair}
 use Rattle.weave_entries.specs.declared.store_log.StoreEntry.{StoreEntry}
 use Rattle.weave_entries.specs.ShardReplay.{Visit, visits_of}
 use Rattle.weave_entries.specs.StoreReplay.{Commit, judged_by, commit_by, commits_of, commits_naming, last_naming}
@@ -43,13 +43,13 @@ pub record IsAddedByVisit (account : Account) (pair : Pair) : Type 0 where
       (λ (commit : Commit). commit.request ≡ pair.earlier)
 
 -- the pair of requests is this pair of the oracle's, and was added by a commit or by a visit
-pub record IsPairInAccount (account : Account) (pair : Pair) (given : Given) : Type 0 where
+pub record IsPairInAccount (account : Account) (pair : Pair) (given : GivenPair) : Type 0 where
   pub earlier_is : stamp_of account pair.earlier ≡ Some given.0
   pub later_is : stamp_of account pair.later ≡ Some given.1
   pub added : IsAddedByCommit account pair ⊎ IsAddedByVisit account pair
 
 -- the pairs of requests are those of the oracle, one by one
-abbrev pub ArePairsOf : Account → List Pair → List Given → Type 0
+abbrev pub ArePairsOf : Account → List Pair → List GivenPair → Type 0
 ArePairsOf account [] [] = ⊤
 ArePairsOf account (pair ∷ pairs) (given ∷ givens) = IsPairInAccount account pair given
     × ArePairsOf account pairs givens

@@ -5,12 +5,12 @@ use Rattle.std.specs.Option.{option_map, option_and_then, option_or}
 use Rattle.weave_data.specs.declared.name.Name.{Name}
 use Rattle.vector_stamp.specs.declared.clock.Stamp.{Stamp}
 use Rattle.vector_stamp.specs.Order.{same_stamp}
-use Rattle.vector_stamp.specs.Precedence.{Given}
+use Rattle.vector_stamp.specs.Precedence.{GivenPair}
 use Rattle.vector_stamp.specs.Settling.{SettledEntry}
 use Rattle.weave_entries.specs.declared.oracle_log.OracleEntry.{OracleEntry}
 use Rattle.weave_entries.specs.declared.shard_log.ShardEntry.{ShardEntry}
 use Rattle.weave_entries.specs.declared.store_log.StoreEntry.{StoreEntry}
-use Rattle.weave_entries.specs.GateReplay.{Begun}
+use Rattle.weave_entries.specs.GateReplay.{BegunRequest}
 use Rattle.weave_entries.specs.OracleReplay.{settled_entry}
 use Rattle.weave_entries.specs.ShardReplay.{Visit, visits_of}
 use Rattle.weave_entries.specs.StoreReplay.{Judgement, judgements_of}
@@ -22,8 +22,8 @@ use Rattle.weave_account.specs.Oracle.{seen_last}
 -- the request that was begun with this stamp, if there is one
 abbrev pub request_stamped : Account → Stamp → Option ℕ
 request_stamped account stamp =
-    option_map (λ (begun : Begun). begun.request)
-    (find (λ (begun : Begun). same_stamp begun.stamp stamp) (all_begun account))
+    option_map (λ (begun : BegunRequest). begun.request)
+    (find (λ (begun : BegunRequest). same_stamp begun.stamp stamp) (all_begun account))
 
 -- the vertex at a place of what the store asked for this stamp
 abbrev pub vertex_asked : List StoreEntry → Stamp → ℕ → Option Name
@@ -49,7 +49,7 @@ vertex_visited (log ∷ logs) earlier later =
     option_or (vertex_visited_in earlier later log) (vertex_visited logs earlier later)
 
 -- a pair of the oracle, added for this place, as a pair of requests with its vertex
-abbrev pub placed_pair : Account → ℕ → Given → Option Pair
+abbrev pub placed_pair : Account → ℕ → GivenPair → Option Pair
 placed_pair account place given =
     option_and_then (λ (earlier : ℕ). option_and_then
     (λ (later : ℕ). option_map (λ (v : Name). record { vertex = v; earlier = earlier; later = later })

@@ -4,7 +4,7 @@ use Rattle.std.specs.Prelude.{◌≡◌, ℕ, ◌<◌, ◌≤◌, Contains, IsTr
 use Rattle.vector_stamp.specs.declared.clock.Stamp.{Stamp}
 use Rattle.program_defs.specs.declared.script.Request.{Request}
 use Rattle.program_defs.specs.declared.script.Script.{Script}
-use Rattle.weave_entries.specs.GateReplay.{Begun}
+use Rattle.weave_entries.specs.GateReplay.{BegunRequest}
 use Rattle.weave_entries.specs.SessionReplay.{has_reply_in}
 use Rattle.report_rules.specs.Lookups.{request_at}
 use Rattle.report_rules.specs.Meetings.{phase_of}
@@ -21,7 +21,7 @@ pub record EndsPhase (script : Script) (account : Account) (phase : ℕ) (logs :
   pub goes_on : GoesOn logs account
   pub replied : (r : ℕ) (request : Request) → request_at script r ≡ Some request → phase_of script r ≤ phase
       → IsTrue (has_reply_in r (session_log logs request.session))
-  pub begun : (begun : Begun) → Contains (all_begun logs) begun → phase_of script begun.request ≤ phase
+  pub begun : (begun : BegunRequest) → Contains (all_begun logs) begun → phase_of script begun.request ≤ phase
   pub epochs : (epoch : ℕ) → ¬ IsTrue (is_raised logs epoch)
   pub pairs : (earlier later : Stamp) (r : ℕ) → Contains (pairs_in account) (earlier, later)
       → stamp_of account r ≡ Some later
@@ -31,5 +31,5 @@ pub record EndsPhase (script : Script) (account : Account) (phase : ℕ) (logs :
 -- logs
 abbrev pub IsRunByPhases : Script → Account → Type 0
 IsRunByPhases script account =
-    (phase : ℕ) (later : Begun) → Contains (all_begun account) later → phase < phase_of script later.request
+    (phase : ℕ) (later : BegunRequest) → Contains (all_begun account) later → phase < phase_of script later.request
     → (logs : Account) × EndsPhase script account phase logs

@@ -1,6 +1,7 @@
 -- What a hand knows of a shard and of the store in a hold, if it has seen the beginnings of the other logs alone:
 -- no more than the laws on heads and updates need.
 use Rattle.std.specs.Prelude.{◌≡◌, ◌⊎◌, ℕ, ◌≤◌, List, [], Contains, Ok, ⊤}
+use Rattle.weave_data.specs.Limits.{most_gates}
 use Rattle.graph_ops.specs.PlainGraph.{PlainGraph, transaction}
 use Rattle.graph_ops.specs.declared.op.Op.{Op}
 use Rattle.graph_ops.specs.declared.tx.Got.{Got}
@@ -15,7 +16,7 @@ use Rattle.weave_entries.specs.declared.verdict.Counted.{Counted}
 use Rattle.weave_entries.specs.declared.verdict.Verdict.{Verdict}
 use Rattle.weave_entries.specs.declared.verdict.Verdict.TheVariants.{Committed, Conflict, Refused}
 use Rattle.weave_entries.specs.Logs.{AtEachEntry}
-use Rattle.weave_entries.specs.GateReplay.{Begun, addressed_to}
+use Rattle.weave_entries.specs.GateReplay.{BegunRequest, addressed_to}
 use Rattle.weave_entries.specs.GateRules.{IsGateLog}
 use Rattle.weave_entries.specs.ShardReplay.{bound_of}
 use Rattle.weave_entries.specs.Sending.{messages_of}
@@ -53,7 +54,7 @@ pub record IsOfJudgement (shards : ℕ) (store : List StoreEntry) (shard : ℕ) 
   pub judged : Judgement
   pub is_judged : Contains (judgements_of store) judged
   pub log : List GateEntry
-  pub begun : Begun
+  pub begun : BegunRequest
   pub stamp_is : begun.stamp ≡ judged.stamp
   pub addressed : Addressed
   pub sent : Contains (messages_of shards log begun judged.ops judged.verdict) addressed
@@ -91,6 +92,6 @@ ComesAs gates seen shard before (Collected bound) = bound ≡ bound_of gates bef
 -- There are at most 8 gatekeepers, and their logs keep the rules as far as they were seen. Each message that arrived
 -- at the shard, up to the end of this log, was sent there, and each collection had its bound.
 pub record HasSeenSent (gates shards : ℕ) (seen : Account) (shard : ℕ) (log : List ShardEntry) : Type 0 where
-  pub few : gates ≤ 8
+  pub few : gates ≤ most_gates
   pub logs : (home : ℕ) → IsGateLog home shards (gate_log seen home)
   pub comes : AtEachEntry (λ before (entry : ShardEntry). ComesAs gates seen shard before entry.deed) log

@@ -6,7 +6,7 @@ ghost use Rattle.vector_stamp.specs.Clocks.{clock_after_hearing, clock_after_tic
 ghost use Rattle.vector_stamp.specs.Coherence.{AreCoherent};
 ghost use Rattle.vector_stamp.specs.Order.{id_of, is_at_most};
 ghost use Rattle.vector_stamp.specs.declared.clock.Clock.{Clock};
-ghost use Rattle.vector_stamp.specs.Precedence.{Given, IsAcyclic, JoinsEvents};
+ghost use Rattle.vector_stamp.specs.Precedence.{GivenPair, IsAcyclic, JoinsEvents};
 ghost use Rattle.vector_stamp.specs.Settling.{SettledEntry};
 ghost use Rattle.weave_data.specs.declared.name.Name.{Name};
 ghost use Rattle.weave_data.specs.Names.{shard_of};
@@ -22,7 +22,7 @@ ghost use Rattle.weave_entries.specs.declared.shard_log.ShardDeed.{ShardDeed};
 ghost use Rattle.weave_entries.specs.declared.shard_log.ShardEntry.{ShardEntry};
 ghost use Rattle.weave_entries.specs.declared.shard_log.ShardDeed.TheVariants.{Collected, Visited};
 ghost use Rattle.weave_entries.specs.declared.oracle_log.OracleEntry.{OracleEntry};
-ghost use Rattle.weave_entries.specs.GateReplay.{Begun, addressed_to, clock_of, flight_of, has_ended_in, low_mark, running_of, ticks_of};
+ghost use Rattle.weave_entries.specs.GateReplay.{BegunRequest, addressed_to, clock_of, flight_of, has_ended_in, low_mark, running_of, ticks_of};
 ghost use Rattle.weave_entries.specs.GateRules.{BeginsEachOnce, IsGateLog};
 ghost use Rattle.weave_entries.specs.SessionReplay.{begins_in, has_begun_in, has_reply_in, next_request, session_of};
 ghost use Rattle.weave_entries.specs.Sending.{IsCountsOf};
@@ -37,6 +37,7 @@ ghost use Rattle.program_defs.specs.declared.script.Script.{Script};
 ghost use Rattle.program_defs.specs.Works.{is_change, is_look};
 ghost use Rattle.program_defs.specs.declared.script.Work.TheVariants.{Change};
 ghost use Rattle.weave_data.specs.Facts.{AllHold};
+ghost use Rattle.weave_data.specs.Limits.{most_gates};
 ghost use Rattle.report_rules.specs.declared.report.Pair.{Pair};
 ghost use Rattle.report_rules.specs.declared.report.Report.{Report};
 ghost use Rattle.report_rules.specs.Lookups.{EveryReplyIsFinal, RequestPrecedes, is_in, is_some_and, request_at};
@@ -152,19 +153,19 @@ pub fn empty_logs_are_an_account()
 pub fn begun_stamps_are_coherent()
     ensures coherent { (script : Script) (account : Account) → IsWithinLimits script → IsAccount script account
         → AreCoherent (begun_stamps account) }
-    ensures seen { (shards : ℕ) (seen : Account) → length seen.gates ≤ 8
+    ensures seen { (shards : ℕ) (seen : Account) → length seen.gates ≤ most_gates
         → ((home : ℕ) → IsGateLog home shards (gate_log seen home))
         → AreCoherent (begun_stamps seen) }
     ensures acyclic { (script : Script) (account : Account) → IsWithinLimits script → IsAccount script account
         → IsAcyclic (pairs_in account) }
     ensures ids_differ { (script : Script) (account : Account) → IsWithinLimits script → IsAccount script account
-        → AllPairs (λ (a b : Begun). id_of a.stamp ≢ id_of b.stamp) (all_begun account) }
+        → AllPairs (λ (a b : BegunRequest). id_of a.stamp ≢ id_of b.stamp) (all_begun account) }
     ensures differ { (script : Script) (account : Account) → IsWithinLimits script → IsAccount script account
-        → (a b : Begun) → Contains (all_begun account) a → Contains (all_begun account) b → a.request ≢ b.request
+        → (a b : BegunRequest) → Contains (all_begun account) a → Contains (all_begun account) b → a.request ≢ b.request
         → id_of a.stamp ≢ id_of b.stamp }
-    ensures seen_ids { (shards : ℕ) (seen : Account) → length seen.gates ≤ 8
+    ensures seen_ids { (shards : ℕ) (seen : Account) → length seen.gates ≤ most_gates
         → ((home : ℕ) → IsGateLog home shards (gate_log seen home))
-        → AllPairs (λ (a b : Begun). id_of a.stamp ≢ id_of b.stamp) (all_begun seen) }
+        → AllPairs (λ (a b : BegunRequest). id_of a.stamp ≢ id_of b.stamp) (all_begun seen) }
 {
     the_crates_below_keep_their_laws();
 }
@@ -205,7 +206,7 @@ pub fn judgements_are_of_requests()
         → (judged : Judgement) → Contains (judgements_of account.store) judged
         → IsCountsOf judged.ops judged.verdict }
     ensures before { (script : Script) (account : Account) → IsWithinLimits script → IsAccount script account
-        → (home : ℕ) (flight : Begun) → flight_of (gate_log account home) ≡ Some flight
+        → (home : ℕ) (flight : BegunRequest) → flight_of (gate_log account home) ≡ Some flight
         → (judged : Judgement) → Contains (judgements_of account.store) judged → judged.request ≢ flight.request
         → InTurn script judged.request flight.request }
 {
@@ -218,14 +219,14 @@ pub fn requests_end_or_go_on()
     ensures once { (script : Script) (account : Account) → IsWithinLimits script → IsAccount script account
         → (home : ℕ) → BeginsEachOnce (gate_log account home) }
     ensures flights { (script : Script) (account : Account) → IsWithinLimits script → IsAccount script account
-        → (home : ℕ) (flight : Begun) → flight_of (gate_log account home) ≡ Some flight
+        → (home : ℕ) (flight : BegunRequest) → flight_of (gate_log account home) ≡ Some flight
         → IsSomeAnd (request_at script flight.request)
         (λ (request : Request). (request.gate ≡ home) × IsTrue (is_change request.work)) }
     ensures sent { (script : Script) (account : Account) → IsWithinLimits script → IsAccount script account
         → (r : ℕ) (request : Request) → request_at script r ≡ Some request → IsTrue (is_change request.work)
         → IsTrue (has_begun_in r (session_log account request.session))
         → has_ended_in r (gate_log account request.gate) ≡ not (is_some_and
-        (λ (flight : Begun). flight.request == r) (flight_of (gate_log account request.gate))) }
+        (λ (flight : BegunRequest). flight.request == r) (flight_of (gate_log account request.gate))) }
 {
     the_crates_below_keep_their_laws();
 }
@@ -259,7 +260,7 @@ pub fn clocks_are_known()
     ensures gatekeepers { (script : Script) (account : Account) → IsWithinLimits script → IsAccount script account
         → (home : ℕ) → IsKnown account (clock_of home (gate_log account home)) }
     ensures begun { (script : Script) (account : Account) → IsWithinLimits script → IsAccount script account
-        → (begun : Begun) → Contains (all_begun account) begun → IsKnown account begun.stamp.clock }
+        → (begun : BegunRequest) → Contains (all_begun account) begun → IsKnown account begun.stamp.clock }
     ensures judged { (script : Script) (account : Account) → IsWithinLimits script → IsAccount script account
         → (judged : Judgement) → Contains (judgements_of account.store) judged → IsKnown account judged.stamp.clock }
     ensures settled { (script : Script) (account : Account) → IsWithinLimits script → IsAccount script account
@@ -284,17 +285,17 @@ pub fn clocks_are_known()
     ensures sent { (script : Script) (account : Account) → IsWithinLimits script → IsAccount script account
         → (shard home : ℕ) (addressed : Addressed) → Contains (addressed_to shard (gate_log account home)) addressed
         → IsKnown account addressed.message.stamp.clock × IsKnown account addressed.message.low }
-    ensures may_be_heard { (shards home : ℕ) (account : Account) → home < 8
+    ensures may_be_heard { (shards home : ℕ) (account : Account) → home < most_gates
         → IsGateLog home shards (gate_log account home) → (clock : Clock) → IsKnown account clock
         → IsTrue (counts_no_more home (clock_of home (gate_log account home)) clock) }
-    ensures heard { (account : Account) (home : ℕ) → home < 8 → (clock heard : Clock) → IsKnown account clock
+    ensures heard { (account : Account) (home : ℕ) → home < most_gates → (clock heard : Clock) → IsKnown account clock
         → IsKnown account heard → IsKnown account (clock_after_hearing home clock heard) }
     ensures met { (account : Account) (a b : Clock) → IsKnown account a → IsKnown account b
         → IsKnown account (meet_of a b) }
-    ensures low { (account : Account) (stamp : Stamp) (running : List Begun) → IsKnown account stamp.clock
-        → ((begun : Begun) → Contains running begun → IsKnown account begun.stamp.clock)
+    ensures low { (account : Account) (stamp : Stamp) (running : List BegunRequest) → IsKnown account stamp.clock
+        → ((begun : BegunRequest) → Contains running begun → IsKnown account begun.stamp.clock)
         → IsKnown account (low_mark stamp running) }
-    ensures ticked { (script : Script) (account next : Account) → GoesOn account next → (home : ℕ) → home < 8
+    ensures ticked { (script : Script) (account next : Account) → GoesOn account next → (home : ℕ) → home < most_gates
         → (clock : Clock) → IsKnown account clock
         → ticks_of clock.epoch (gate_log next home) ≡ ticks_of clock.epoch (gate_log account home) + 1
         → IsKnown next (clock_after_tick home clock) }
@@ -440,14 +441,14 @@ pub fn programs_read_the_graph_at_their_place()
 pub fn collections_leave_what_programs_see()
     ensures seen_bounds { (gates shards : ℕ) (seen : Account) (shard : ℕ) (log : List ShardEntry)
         → HasSeenSent gates shards seen shard log → (home : ℕ) → home < gates
-        → (program : Begun) → Contains (running_of (gate_log seen home)) program
+        → (program : BegunRequest) → Contains (running_of (gate_log seen home)) program
         → (bound : Clock) → bound_of gates log ≡ Some bound → IsTrue (is_at_most bound program.stamp.clock) }
     ensures seen_kept { (gates shards : ℕ) (seen : Account) (shard : ℕ) (log : List ShardEntry)
         → HasSeen shards seen.store shard log → HasSeenSent gates shards seen shard log → (home : ℕ) → home < gates
-        → (program : Begun) → Contains (running_of (gate_log seen home)) program
+        → (program : BegunRequest) → Contains (running_of (gate_log seen home)) program
         → (v : Name) → shard_of v shards ≡ shard → IsKeptFor program.stamp v log }
     ensures bounds { (script : Script) (account : Account) → IsWithinLimits script → IsAccount script account
-        → (home : ℕ) (program : Begun) → Contains (running_of (gate_log account home)) program
+        → (home : ℕ) (program : BegunRequest) → Contains (running_of (gate_log account home)) program
         → (shard : ℕ) (before after : List ShardEntry) → shard_log account shard ≡ before ++ after
         → (bound : Clock) → bound_of script.gates before ≡ Some bound
         → IsTrue (is_at_most bound program.stamp.clock) }
@@ -455,7 +456,7 @@ pub fn collections_leave_what_programs_see()
         → (v : Name) → let log = shard_log account (shard_of v script.shards) in
         0 < dropped_of v log → IsBeforeABound v log }
     ensures kept { (script : Script) (account : Account) → IsWithinLimits script → IsAccount script account
-        → (home : ℕ) (program : Begun) → Contains (running_of (gate_log account home)) program
+        → (home : ℕ) (program : BegunRequest) → Contains (running_of (gate_log account home)) program
         → (v : Name) → IsKeptFor program.stamp v (shard_log account (shard_of v script.shards)) }
 {
     the_crates_below_keep_their_laws();
@@ -477,7 +478,7 @@ pub fn facts_stay_true()
     ensures clocks { (script : Script) (account next : Account) → GoesOn account next
         → (clock : Clock) → IsKnown account clock → IsKnown next clock }
     ensures begun { (script : Script) (account next : Account) → GoesOn account next
-        → (begun : Begun) → Contains (all_begun account) begun → Contains (all_begun next) begun }
+        → (begun : BegunRequest) → Contains (all_begun account) begun → Contains (all_begun next) begun }
     ensures stamps { (script : Script) (account next : Account) → GoesOn account next → BeginEachOnce next
         → (r : ℕ) (stamp : Stamp) → stamp_of account r ≡ Some stamp → stamp_of next r ≡ Some stamp }
     ensures begins { (script : Script) (account next : Account) → IsWithinLimits script → IsAccount script account
@@ -524,7 +525,7 @@ pub fn facts_stay_true()
         → ReadsInTurn (reads_of account r) program (IsTrue (is_ended account r))
         → ReadsInTurn (reads_of next r) program (IsTrue (is_ended next r)) }
     ensures pairs { (script : Script) (account next : Account) → GoesOn account next → BeginEachOnce next
-        → (pair : Pair) (given : Given) → IsPairInAccount account pair given → IsPairInAccount next pair given }
+        → (pair : Pair) (given : GivenPair) → IsPairInAccount account pair given → IsPairInAccount next pair given }
 {
     the_crates_below_keep_their_laws();
 }

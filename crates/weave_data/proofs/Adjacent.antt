@@ -21,6 +21,7 @@ module _ {X : Type 0} where
   abbrev pub RiseUntil : ℕ → List (List ℕ × X) → Type 0
   RiseUntil place es = (k : ℕ) (d : List ℕ × X) → k + 1 < place → name_cmp (get_or es k d).0 (get_or es (k + 1) d).0 ≡ Less
 
+  -- if each pair up to the end is below the next one, the pairs rise
   pub all_rise : (es : List (List ℕ × X)) (place : ℕ) → length es ≤ place → RiseUntil place es → IsRising es
   all_rise [] place past rise = none X
   all_rise (e ∷ es) place past rise =
@@ -28,6 +29,7 @@ module _ {X : Type 0} where
       let long = length-map (e ∷ es) (λ (p : List ℕ × X). p.0) in
       rw (get_or-map (λ (p : List ℕ × X). p.0) (e ∷ es) k e, get_or-map (λ (p : List ℕ × X). p.0) (e ∷ es) (k + 1) e) (rise k e (omega (arith, inside, long, past))))
 
+  -- in rising pairs each is below the next one
   pub two_rise : (es : List (List ℕ × X)) (k : ℕ) (d : List ℕ × X) → IsRising es → k + 1 < length es → name_cmp (get_or es k d).0 (get_or es (k + 1) d).0 ≡ Less
   two_rise es k d rising inside =
       let long = length-map es (λ (p : List ℕ × X). p.0) in

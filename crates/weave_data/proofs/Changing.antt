@@ -12,7 +12,7 @@ use Rattle.std.specs.Map.{keys_of}
 use Rattle.std.proofs.lemmas.Map.Keys.{sorted_head, sorted_tail}
 use Rattle.std.proofs.lemmas.Cmp.{tied_itself}
 use Rattle.weave_data.specs.Names.{name_cmp}
-use Rattle.weave_data.specs.Pairs.{IsRising, at_key, put, without}
+use Rattle.weave_data.specs.Pairs.{IsRising, at_key, put, without_key}
 use Rattle.weave_data.proofs.Finding.{above_is_below}
 
 weaker : {K : Type 0} {P Q : K → Type 0} → ((k : K) → P k → Q k) → (ks : List K) → AllByRecursion P ks → AllByRecursion Q ks
@@ -27,6 +27,7 @@ none_sorted : {K : Type 0} (c : K → K → Ordering) → IsStrictlySortedBy c [
 unfolding IsStrictlySortedBy
 none_sorted c = tt
 
+-- an empty list of pairs rises
 pub none_rise : {X : Type 0} (es : List (List ℕ × X)) → es ≡ [] → IsRising es
 none_rise es none = subst IsRising (sym none) (none_sorted name_cmp)
 
@@ -44,6 +45,7 @@ module _ {X : Type 0} (key : List ℕ) (value : X) where
         | Greater ↦ (all.0, all_put P here es all.1)
       ]
 
+  -- rising pairs still rise when a value is put
   pub rising_put : (es : List (List ℕ × X)) → IsRising es → IsRising (put key value es)
   rising_put [] rising = sorted name_cmp key [] tt (none_sorted name_cmp)
   rising_put (e ∷ es) rising =
@@ -53,6 +55,7 @@ module _ {X : Type 0} (key : List ℕ) (value : X) where
         | Greater ↦ λ greater. sorted name_cmp e.0 (keys_of (put key value es)) (all_put (λ k. name_cmp e.0 k ≡ Less) (above_is_below e.0 key greater) es (sorted_head name_cmp e.0 (keys_of es) rising)) (rising_put es (sorted_tail name_cmp e.0 (keys_of es) rising))
       ] refl
 
+  -- a value that was put at a key is found there
   pub found_put : (es : List (List ℕ × X)) → at_key key (put key value es) ≡ Some value
   found_put [] = ap (λ o. cond (is_eq o) (Some value) None) (tied_itself nat_list_cmp_total key)
   found_put (e ∷ es) =
@@ -63,13 +66,13 @@ module _ {X : Type 0} (key : List ℕ) (value : X) where
       ] refl
 
   -- a new key is dropped again
-  pub without_put : (es : List (List ℕ × X)) → at_key key es ≡ None → without key (put key value es) ≡ es
+  pub without_put : (es : List (List ℕ × X)) → at_key key es ≡ None → without_key key (put key value es) ≡ es
   without_put [] none = ap (λ o. cond (is_eq o) [] ((key, value) ∷ [])) (tied_itself nat_list_cmp_total key)
   without_put (e ∷ es) none =
-      elim (name_cmp key e.0) as (λ o. name_cmp key e.0 ≡ o → cond (is_eq o) (Some e.1) (at_key key es) ≡ None → without key (put_by o e es) ≡ e ∷ es) [
-        | Less ↦ λ less h. ap (λ o. cond (is_eq o) (e ∷ es) ((key, value) ∷ without key (e ∷ es))) (tied_itself nat_list_cmp_total key)
+      elim (name_cmp key e.0) as (λ o. name_cmp key e.0 ≡ o → cond (is_eq o) (Some e.1) (at_key key es) ≡ None → without_key key (put_by o e es) ≡ e ∷ es) [
+        | Less ↦ λ less h. ap (λ o. cond (is_eq o) (e ∷ es) ((key, value) ∷ without_key key (e ∷ es))) (tied_itself nat_list_cmp_total key)
         | Equal ↦ λ equal h. cc
-        | Greater ↦ λ greater h. ap (λ o. cond (is_eq o) (put key value es) (e ∷ without key (put key value es))) greater ∙ ap (λ rest. e ∷ rest) (without_put es h)
+        | Greater ↦ λ greater h. ap (λ o. cond (is_eq o) (put key value es) (e ∷ without_key key (put key value es))) greater ∙ ap (λ rest. e ∷ rest) (without_put es h)
       ] refl none
 
   put_first : (es : List (List ℕ × X)) → AllByRecursion (λ k. name_cmp key k ≡ Less) (keys_of es) → put key value es ≡ (key, value) ∷ es
@@ -90,30 +93,31 @@ module _ {X : Type 0} (key : List ℕ) where
   one_key : (e : List ℕ × X) → name_cmp key e.0 ≡ Equal → key ≡ e.0
   one_key e equal = slice_cmp-IsAntisymmetric nat_cmp-IsAntisymmetric key e.0 equal
 
-  all_without : (P : List ℕ → Type 0) (es : List (List ℕ × X)) → AllByRecursion P (keys_of es) → AllByRecursion P (keys_of (without key es))
+  all_without : (P : List ℕ → Type 0) (es : List (List ℕ × X)) → AllByRecursion P (keys_of es) → AllByRecursion P (keys_of (without_key key es))
   all_without P [] all = tt
   all_without P (e ∷ es) all =
-      elim (is_eq (name_cmp key e.0)) as (λ b. AllByRecursion P (keys_of (cond b es (e ∷ without key es)))) [
+      elim (is_eq (name_cmp key e.0)) as (λ b. AllByRecursion P (keys_of (cond b es (e ∷ without_key key es)))) [
         | true ↦ all.1
         | false ↦ (all.0, all_without P es all.1)
       ]
 
-  pub rising_without : (es : List (List ℕ × X)) → IsRising es → IsRising (without key es)
+  -- rising pairs still rise when a key is dropped
+  pub rising_without : (es : List (List ℕ × X)) → IsRising es → IsRising (without_key key es)
   rising_without [] rising = rising
   rising_without (e ∷ es) rising =
-      elim (is_eq (name_cmp key e.0)) as (λ b. IsRising (cond b es (e ∷ without key es))) [
+      elim (is_eq (name_cmp key e.0)) as (λ b. IsRising (cond b es (e ∷ without_key key es))) [
         | true ↦ sorted_tail name_cmp e.0 (keys_of es) rising
-        | false ↦ sorted name_cmp e.0 (keys_of (without key es)) (all_without (λ k. name_cmp e.0 k ≡ Less) es (sorted_head name_cmp e.0 (keys_of es) rising)) (rising_without es (sorted_tail name_cmp e.0 (keys_of es) rising))
+        | false ↦ sorted name_cmp e.0 (keys_of (without_key key es)) (all_without (λ k. name_cmp e.0 k ≡ Less) es (sorted_head name_cmp e.0 (keys_of es) rising)) (rising_without es (sorted_tail name_cmp e.0 (keys_of es) rising))
       ]
 
   -- a key that was dropped is gone
-  pub none_left : (es : List (List ℕ × X)) → IsRising es → at_key key (without key es) ≡ None
+  pub none_left : (es : List (List ℕ × X)) → IsRising es → at_key key (without_key key es) ≡ None
   none_left [] rising = refl
   none_left (e ∷ es) rising =
-      elim (name_cmp key e.0) as (λ o. name_cmp key e.0 ≡ o → at_key key (cond (is_eq o) es (e ∷ without key es)) ≡ None) [
-        | Less ↦ λ less. ap (λ o. cond (is_eq o) (Some e.1) (at_key key (without key es))) less ∙ none_left es (sorted_tail name_cmp e.0 (keys_of es) rising)
+      elim (name_cmp key e.0) as (λ o. name_cmp key e.0 ≡ o → at_key key (cond (is_eq o) es (e ∷ without_key key es)) ≡ None) [
+        | Less ↦ λ less. ap (λ o. cond (is_eq o) (Some e.1) (at_key key (without_key key es))) less ∙ none_left es (sorted_tail name_cmp e.0 (keys_of es) rising)
         | Equal ↦ λ equal. none_above es (after_equal e es rising (one_key e equal))
-        | Greater ↦ λ greater. ap (λ o. cond (is_eq o) (Some e.1) (at_key key (without key es))) greater ∙ none_left es (sorted_tail name_cmp e.0 (keys_of es) rising)
+        | Greater ↦ λ greater. ap (λ o. cond (is_eq o) (Some e.1) (at_key key (without_key key es))) greater ∙ none_left es (sorted_tail name_cmp e.0 (keys_of es) rising)
       ] refl
 
   -- the value from before is written again
@@ -131,13 +135,13 @@ module _ {X : Type 0} (key : List ℕ) where
       pair_of (Some x) = (e.0, x) ∷ es
 
   -- the pair that was taken out is put back
-  pub put_without : (es : List (List ℕ × X)) (value : X) → IsRising es → at_key key es ≡ Some value → put key value (without key es) ≡ es
+  pub put_without : (es : List (List ℕ × X)) (value : X) → IsRising es → at_key key es ≡ Some value → put key value (without_key key es) ≡ es
   put_without [] value rising there = cc
   put_without (e ∷ es) value rising there =
-      elim (name_cmp key e.0) as (λ o. name_cmp key e.0 ≡ o → cond (is_eq o) (Some e.1) (at_key key es) ≡ Some value → put key value (cond (is_eq o) es (e ∷ without key es)) ≡ e ∷ es) [
+      elim (name_cmp key e.0) as (λ o. name_cmp key e.0 ≡ o → cond (is_eq o) (Some e.1) (at_key key es) ≡ Some value → put key value (cond (is_eq o) es (e ∷ without_key key es)) ≡ e ∷ es) [
         | Less ↦ λ less h. let none = none_at_less e es rising less in cc (none, h)
         | Equal ↦ λ equal h. put_first key value es (after_equal e es rising (one_key e equal)) ∙ ap (λ (k : List ℕ). (k, value) ∷ es) (one_key e equal) ∙ ap (λ (x : Option X). pair_of x) (sym h)
-        | Greater ↦ λ greater h. ap (λ o. match_ordering o ((key, value) ∷ e ∷ without key es) ((e.0, value) ∷ without key es) (e ∷ put key value (without key es))) greater ∙ ap (λ rest. e ∷ rest) (put_without es value (sorted_tail name_cmp e.0 (keys_of es) rising) h)
+        | Greater ↦ λ greater h. ap (λ o. match_ordering o ((key, value) ∷ e ∷ without_key key es) ((e.0, value) ∷ without_key key es) (e ∷ put key value (without_key key es))) greater ∙ ap (λ rest. e ∷ rest) (put_without es value (sorted_tail name_cmp e.0 (keys_of es) rising) h)
       ] refl there
     where
       pair_of : Option X → List (List ℕ × X)
@@ -145,10 +149,10 @@ module _ {X : Type 0} (key : List ℕ) where
       pair_of (Some x) = (e.0, x) ∷ es
 
   -- to drop a key that isn't there changes nothing
-  pub without_absent : (es : List (List ℕ × X)) → at_key key es ≡ None → without key es ≡ es
+  pub without_absent : (es : List (List ℕ × X)) → at_key key es ≡ None → without_key key es ≡ es
   without_absent [] none = refl
   without_absent (e ∷ es) none =
-      elim (is_eq (name_cmp key e.0)) as (λ b. cond b (Some e.1) (at_key key es) ≡ None → cond b es (e ∷ without key es) ≡ e ∷ es) [
+      elim (is_eq (name_cmp key e.0)) as (λ b. cond b (Some e.1) (at_key key es) ≡ None → cond b es (e ∷ without_key key es) ≡ e ∷ es) [
         | true ↦ λ h. cc
         | false ↦ λ h. ap (λ rest. e ∷ rest) (without_absent es h)
       ] none

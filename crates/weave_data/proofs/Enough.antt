@@ -4,6 +4,7 @@ use Rattle.std.proofs.Common.{◌≡◌, ℕ, ◌+◌, ◌*◌, ◌/◌, ◌<◌
 use Rattle.std.proofs.lemmas.Bool.Decides.{nat_tests}
 use Rattle.weave_data.specs.Changes.{places}
 
+-- a map of n pairs has at least n places
 pub enough : (n : ℕ) → n ≤ places n
 enough n =
     elim (nat_le n 16) as (λ b. n ≤ cond b ((n + 3) / 4 * 4) ((n + 63) / 64 * 64)) [
@@ -11,6 +12,7 @@ enough n =
       | false ↦ omega arith
     ]
 
+-- for one pair more a map has no fewer places
 pub no_fewer : (n : ℕ) → places n ≤ places (n + 1)
 no_fewer n =
     elim (nat_le n 16) as (λ b. nat_le n 16 ≡ b → cond b ((n + 3) / 4 * 4) ((n + 63) / 64 * 64) ≤ places (n + 1)) [

@@ -22,6 +22,7 @@ one_place (Fact ∷ facts) (suc (suc m)) zero g h = absurd h
 one_place (Fact ∷ facts) (suc (suc m)) (suc zero) g h = absurd (h g.0)
 one_place (Fact ∷ facts) (suc (suc m)) (suc (suc n)) g h = ap suc (one_place facts (suc m) (suc n) g.1 h.1)
 
+-- if each fact of two lists holds, each of both joined holds
 pub hold-append : (xs ys : Facts) → AllHold xs → AllHold ys → AllHold (xs ++ ys)
 hold-append [] ys g h = h
 hold-append (Fact ∷ xs) ys g h = (g.0, hold-append xs ys g.1 h)
@@ -41,8 +42,10 @@ module _ {A : Type 0} (F : List A → A → Type 0) where
   breaks_after before (x ∷ xs) (suc i) d lt h fails =
       (h.0, breaks_after (before ++ x ∷ []) xs i d (omega (arith, lt)) h.1 (λ fact. fails (subst (λ b. F b (get_or xs i d)) (sym (append-step before x (take i xs))) fact)))
 
+  -- if each fact before a place holds, and the one at it too, each up to it holds
   pub holds_step : (xs : List A) (i : ℕ) (d : A) → i < length xs → AllHold (facts_in_turn F (take i xs)) → F (take i xs) (get_or xs i d) → AllHold (facts_in_turn F (take (i + 1) xs))
   holds_step xs i d lt h fact = let same : i + 1 ≡ suc i = omega arith in subst (λ n. AllHold (facts_in_turn F (take n xs))) (sym same) (holds_after [] xs i d lt h fact)
 
+  -- if each fact before a place holds, and the one at it doesn't, the clause breaks first there
   pub breaks_at : (xs : List A) (i : ℕ) (d : A) → i < length xs → AllHold (facts_in_turn F (take i xs)) → ¬ F (take i xs) (get_or xs i d) → BreaksFirstAt (facts_in_turn F xs) (i + 1)
   breaks_at xs i d lt h fails = let same : i + 1 ≡ suc i = omega arith in subst (λ n. BreaksFirstAt (facts_in_turn F xs) n) (sym same) (breaks_after [] xs i d lt h fails)

@@ -9,7 +9,7 @@ use Rattle.std.specs.Cmp.Lexicographic.{slice_cmp}
 use Rattle.std.specs.Ordering.{nat_cmp, ordering_then}
 use Rattle.std.specs.List.{list_all}
 use Rattle.std.specs.Slice.Scan.{big_endian}
-use Rattle.weave_data.specs.Names.{is_name, is_name_byte, name_cmp, padded, IsStored}
+use Rattle.weave_data.specs.Names.{is_name, is_name_byte, name_cmp, padded_bytes, IsStored}
 use Rattle.std.specs.declared.cmp.Ordering.{Ordering}
 use Rattle.std.specs.declared.cmp.Ordering.TheVariants.{Less, Equal, Greater}
 
@@ -134,5 +134,5 @@ names_as_letters len len' letters letters' is is' =
     let short = one.0 in
     let short' = other.0 in
     subst (λ (xs : List ℕ). slice_cmp nat_cmp xs letters' ≡ name_cmp name name') (sym is.2)
-    (subst (λ (xs : List ℕ). slice_cmp nat_cmp (padded name) xs ≡ name_cmp name name') (sym is'.2)
+    (subst (λ (xs : List ℕ). slice_cmp nat_cmp (padded_bytes name) xs ≡ name_cmp name name') (sym is'.2)
     (behind name name' (32 - length name) (32 - length name') one.1 other.1 (omega (arith, short, short'))))

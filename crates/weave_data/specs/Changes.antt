@@ -1,6 +1,6 @@
 -- Changes of one key of a map, and how they are taken back.
 use Rattle.std.specs.Prelude.{◌≡◌, ℕ, ◌+◌, ◌*◌, ◌/◌, ◌<◌, ◌≤◌, false, IsTrue, List, length, nat_le, if◌then◌else◌}
-use Rattle.weave_data.specs.Pairs.{has, put, without}
+use Rattle.weave_data.specs.Pairs.{has, put, without_key}
 use Rattle.weave_data.specs.declared.name.Name.{Name}
 use Rattle.weave_data.specs.declared.change.Undo.{Undo}
 use Rattle.weave_data.specs.declared.change.Undo.TheVariants.{Write, Remove, PutBack}
@@ -11,10 +11,10 @@ places pairs = if nat_le pairs 16 then (pairs + 3) / 4 * 4 else (pairs + 63) / 6
 
 module _ {X : Type 0} where
   -- the pairs with a change taken back
-  abbrev pub undone : Undo X → List (Name × X) → List (Name × X)
-  undone (Write key value) pairs = put key value pairs
-  undone (Remove key) pairs = without key pairs
-  undone (PutBack key value room) pairs = put key value pairs
+  abbrev pub undone_pairs : Undo X → List (Name × X) → List (Name × X)
+  undone_pairs (Write key value) pairs = put key value pairs
+  undone_pairs (Remove key) pairs = without_key key pairs
+  undone_pairs (PutBack key value room) pairs = put key value pairs
 
   -- it can be taken back on these pairs without memory
   abbrev pub Fits : Undo X → List (Name × X) → Type 0
@@ -25,4 +25,4 @@ module _ {X : Type 0} where
 
   -- it takes back the change from `before` to `now`
   abbrev pub TakesBack : Undo X → List (Name × X) → List (Name × X) → Type 0
-  TakesBack undo now before = Fits undo now × (undone undo now ≡ before)
+  TakesBack undo now before = Fits undo now × (undone_pairs undo now ≡ before)

@@ -38,10 +38,10 @@ abbrev pub shard_of : List ℕ → ℕ → ℕ
 shard_of name shards = sum name % shards
 
 -- 32 bytes that begin with these, and are 0 after them
-abbrev pub padded : List ℕ → List ℕ
-padded bytes = bytes ++ replicate (32 - length bytes) 0
+abbrev pub padded_bytes : List ℕ → List ℕ
+padded_bytes bytes = bytes ++ replicate (32 - length bytes) 0
 
 -- the first `len` of the 32 bytes are a name, and the others are 0
 abbrev pub IsStored : ℕ → List ℕ → Type 0
 IsStored len letters = (IsTrue (is_name (take len letters))) × (len ≡ length (take len letters))
-    × (letters ≡ padded (take len letters))
+    × (letters ≡ padded_bytes (take len letters))

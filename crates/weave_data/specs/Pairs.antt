@@ -23,8 +23,8 @@ module _ {X : Type 0} where
   put key value pairs = insert_entry name_cmp pairs key value
 
   -- the pairs without the key
-  abbrev pub without : List ℕ → List (List ℕ × X) → List (List ℕ × X)
-  without key pairs = remove_entry (is_at (name_cmp key)) pairs
+  abbrev pub without_key : List ℕ → List (List ℕ × X) → List (List ℕ × X)
+  without_key key pairs = remove_entry (is_at (name_cmp key)) pairs
 
   -- there is no room for the key: it is new, and the limit is reached
   abbrev pub is_full : ℕ → List ℕ → List (List ℕ × X) → Bool

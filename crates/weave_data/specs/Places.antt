@@ -1,4 +1,4 @@
--- Places in pairs in rising order of keys. Only proofs use this.
+-- Places in pairs in rising order of keys. Only proofs use this. No public contract cites this.
 use Rattle.std.specs.Prelude.{◌≡◌, ℕ, zero, suc, false, T, List, [], ◌∷◌}
 use Rattle.std.specs.declared.cmp.Ordering.TheVariants.{Less, Greater}
 use Rattle.weave_data.specs.Names.{name_cmp}

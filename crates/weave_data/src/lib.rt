@@ -2,6 +2,7 @@
 //!
 //! Its lemmas on lists, on logs entry by entry and on steps that may fail are those that several crates cite.
 //! `specs/Facts` is the notion of a clause that is judged place by place.
+//! The numbers of the limits stand in `limits` for code, and in `specs/Limits` for contracts.
 //!
 //! Contracts see a name as the list of its bytes, a list as a list, and a map as the list of its pairs in rising order
 //! of keys.
@@ -11,6 +12,7 @@ mod change;
 mod copied;
 mod items;
 mod letters;
+mod limits;
 mod name;
 mod name_map;
 mod places;
@@ -18,5 +20,9 @@ mod places;
 pub use change::Undo;
 pub use copied::Copied;
 pub use items::Items;
+pub use limits::{
+    MOST_BYTES, MOST_GATES, MOST_GETS, MOST_OPS, MOST_PROGRAMS, MOST_REQUESTS, MOST_SESSIONS,
+    MOST_SHARDS,
+};
 pub use name::Name;
 pub use name_map::{NameMap, are_rising};

@@ -24,7 +24,7 @@ pub struct Name {
 
 impl Model for Name {
     ghost use Rattle.std.specs.Prelude.{ℕ, List, length, take};
-    ghost use Rattle.weave_data.specs.Names.{IsStored, padded};
+    ghost use Rattle.weave_data.specs.Names.{IsStored, padded_bytes};
 
     ghost Value = { List ℕ };
 
@@ -32,7 +32,7 @@ impl Model for Name {
 
     ghost invariant = { λ n. IsStored n.len n.letters };
 
-    ghost inverse = { λ bytes. record { len = length bytes; letters = padded bytes } };
+    ghost inverse = { λ bytes. record { len = length bytes; letters = padded_bytes bytes } };
 
     ghost use Rattle.std.proofs.Common.{sym};
 

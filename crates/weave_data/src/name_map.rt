@@ -1,9 +1,9 @@
 //! A map under names.
 ghost use Rattle.std.specs.Prelude.{◌≡◌, ◌≤◌, ◌<◌, ◌+◌, ◌-◌, ◌^◌, [], length, Some, option_copied, IsTrue, ◌↔◌, IfOk, IfErr, IsOk, OnOk, OnErr};
 ghost use Rattle.std.specs.Vec.{vec_len, vec_capacity};
-ghost use Rattle.weave_data.specs.Changes.{places, undone, Fits, TakesBack};
+ghost use Rattle.weave_data.specs.Changes.{places, undone_pairs, Fits, TakesBack};
 ghost use Rattle.weave_data.specs.declared.change.Undo.TheVariants.{PutBack};
-ghost use Rattle.weave_data.specs.Pairs.{at_key, has, put, without, is_full, IsRising};
+ghost use Rattle.weave_data.specs.Pairs.{at_key, has, put, without_key, is_full, IsRising};
 ghost use Rattle.weave_data.specs.Places.{IsAt, IsGap};
 
 use crate::change::{Room, Undo};
@@ -156,7 +156,7 @@ impl<T: Drop> NameMap<T> {
     /// Drops a key, and answers whether it was there.
     pub fn remove(&mut self, key: Name) -> bool
         ensures found { result ≡ has key self.old }
-        ensures after { self.new ≡ without key self.old }
+        ensures after { self.new ≡ without_key key self.old }
     {
         match search(self.pairs.as_slice(), key) {
             Ok(at) => {
@@ -170,7 +170,7 @@ impl<T: Drop> NameMap<T> {
     /// Drops a key, and answers what takes that back. The one error is out of memory, and then the map is as before.
     pub fn take(&mut self, alloc: Global, key: Name) -> Result<Undo<T>, AllocError>
         requires { IsTrue (has key self.old) }
-        ensures ok { OnOk result (self.new ≡ without key self.old) }
+        ensures ok { OnOk result (self.new ≡ without_key key self.old) }
         ensures undo { IfOk result (λ undo. TakesBack undo self.new self.old) }
         ensures err { OnErr result (self.new ≡ self.old) }
     {
@@ -185,7 +185,7 @@ impl<T: Drop> NameMap<T> {
     /// Takes a change back. It takes no memory.
     pub fn take_back(&mut self, undo: Undo<T>)
         requires { Fits undo self.old }
-        ensures { self.new ≡ undone undo self.old }
+        ensures { self.new ≡ undone_pairs undo self.old }
     {
         match undo {
             Undo::Write { key, value } => {
@@ -270,7 +270,7 @@ fn write<T>(pairs: &mut Vec<(Name, T)>, at: usize, key: Name, value: T) -> T
 fn cut<T>(pairs: &mut Vec<(Name, T)>, at: usize, key: Name) -> T
     requires { IsAt key pairs.old.items at }
     ensures before { at_key key pairs.old.items ≡ Some result }
-    ensures items { pairs.new.items ≡ without key pairs.old.items }
+    ensures items { pairs.new.items ≡ without_key key pairs.old.items }
     ensures len { vec_len pairs.new + 1 ≡ vec_len pairs.old }
     ensures capacity { vec_capacity pairs.new ≡ vec_capacity pairs.old }
 {

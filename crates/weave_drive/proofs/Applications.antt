@@ -85,6 +85,7 @@ module _ (account : Account) (shard gate : ℕ) where
   head-there None ok = cc
   head-there (Some m) ok = (m, refl)
 
+-- an `apply` that is done leaves fewer messages to process; else nothing changes, and the channel was stuck
 pub apply-done : (laws : LawsForDriving) (old new : CoreView) (shard gate : ℕ) (answer : StepAnswer) → AreCores old new → gate < old.script.gates → shard < old.script.shards → DoesStep (Apply shard gate) old new answer → AppliesChannel old.script.gates shard gate old.state new.state (is_ok answer)
 apply-done laws old new shard gate answer cores gate-inside inside did = record {
   same_gates = ap (λ (a : Account). a.gates) is ∙ gates-are old.state.account shard gate (is_ok (answer_of_apply old.state.account shard (head_of gate (shard_log old.state.account shard))));
@@ -113,11 +114,13 @@ apply-done laws old new shard gate answer cores gate-inside inside did = record 
 pub applied-at : (shard gate : ℕ) (old middle new : CoreView) (moved : Bool) → Drives 0 old middle → AppliesChannel middle.script.gates shard gate middle.state new.state moved → AppliesChannel old.script.gates shard gate middle.state new.state moved
 applied-at shard gate old middle new moved d a = subst (λ (s : Script). AppliesChannel s.gates shard gate middle.state new.state moved) d.script_is a
 
+-- the same of a round
 pub round-at : (shard : ℕ) (old middle new : CoreView) (moved : Bool) → Drives 0 old middle → AppliesRound middle.script.gates shard middle.script.gates middle.state new.state moved → AppliesRound old.script.gates shard old.script.gates middle.state new.state moved
 round-at shard old middle new moved d a = subst (λ (s : Script). AppliesRound s.gates shard s.gates middle.state new.state moved) d.script_is a
 
 -- A channel
 
+-- before any head is processed nothing has changed
 pub applying-none : (gates shard : ℕ) (old : CoreView) → IsApplying gates shard old old false
 applying-none gates shard old = record { drives = drives-none 0 old; same_gates = refl; fewer = λ t. cc; same = λ f. refl }
 
@@ -126,6 +129,7 @@ no-more : (gates shard : ℕ) (old new : CoreState) (moved : Bool) → (IsTrue m
 no-more gates shard old new true fewer same = let less = fewer refl in omega (arith, less)
 no-more gates shard old new false fewer same = let is = ap (λ (s : CoreState). left_of gates s.account shard) (same refl) in omega (arith, is)
 
+-- after one more channel fewer messages are left, if something moved in it or before, and else nothing has changed
 pub applying-next : (gates shard gate : ℕ) (old middle new : CoreView) (before moved : Bool) → IsApplying gates shard old middle before → Drives 0 middle new → AppliesChannel gates shard gate middle.state new.state moved → IsApplying gates shard old new (before || moved)
 applying-next gates shard gate old middle new before moved a drives b = record {
   drives = drives-through 0 old middle new a.drives drives;
@@ -158,6 +162,7 @@ applying-on gates shard gate old middle new before a drives b = subst (IsApplyin
     or-true true = refl
     or-true false = refl
 
+-- when a channel is stuck, there are fewer messages left, or it was stuck from the start and nothing has changed
 pub applying-end : (gates shard gate : ℕ) (old middle new : CoreView) (moved : Bool) → IsApplying gates shard old middle moved → AppliesChannel gates shard gate middle.state new.state false → AppliesChannel gates shard gate old.state new.state moved
 applying-end gates shard gate old middle new moved a b = record {
   same_gates = b.same_gates ∙ a.same_gates;
@@ -168,9 +173,11 @@ applying-end gates shard gate old middle new moved a b = record {
 
 -- A round
 
+-- before the first channel of a round nothing has changed
 pub round-none : (gates shard : ℕ) (old : CoreView) → AppliesBelow gates shard 0 old old false
 round-none gates shard old = record { applying = applying-none gates shard old; stuck = λ f gate below. absurd (omega (arith, below)) }
 
+-- with the next channel tried one more is known to have been stuck, if nothing has changed
 pub round-next : (gates shard n m : ℕ) (old middle new : CoreView) (before moved : Bool) → m ≡ n + 1 → AppliesBelow gates shard n old middle before → Drives 0 middle new → AppliesChannel gates shard n middle.state new.state moved → AppliesBelow gates shard m old new (before || moved)
 round-next gates shard n m old middle new before moved next a drives b = record {
   applying = applying-next gates shard n old middle new before moved a.applying drives b;
@@ -185,6 +192,7 @@ round-next gates shard n m old middle new before moved next a drives b = record 
       | inr other ↦ p.stuck refl gate (omega (arith, below, other, next))
     ]
 
+-- when the channels of all gatekeepers were tried, it is a round
 pub round-end : (gates shard n : ℕ) (old new : CoreView) (moved : Bool) → gates ≤ n → AppliesBelow gates shard n old new moved → AppliesRound gates shard gates old.state new.state moved
 round-end gates shard n old new moved all a = record {
   same_gates = a.applying.same_gates;
@@ -195,9 +203,11 @@ round-end gates shard n old new moved all a = record {
 
 -- All
 
+-- before the first round the core is as it was
 pub catching-none : (shard : ℕ) (old : CoreView) → IsCatchingUp shard old old
 catching-none shard old = record { drives = drives-none 0 old; same_gates = refl }
 
+-- after one more round the core was driven still, and the gatekeepers' logs are as before
 pub catching-next : (gates shard n : ℕ) (old middle new : CoreView) (moved : Bool) → IsCatchingUp shard old middle → Drives 0 middle new → AppliesRound gates shard n middle.state new.state moved → IsCatchingUp shard old new
 catching-next gates shard n old middle new moved a drives b = record { drives = drives-through 0 old middle new a.drives drives; same_gates = b.same_gates ∙ a.same_gates }
 
@@ -206,6 +216,7 @@ pub still-all-arrived : (old new : Account) → GoesOn old new → new.gates ≡
 still-all-arrived old new on same shard arrived home addressed h =
     still-message old new on shard home addressed.number addressed.message (arrived home addressed (subst (λ (gs : List (List GateEntry)). Contains (addressed_to shard (slice_index_or gs home [])) addressed) same h))
 
+-- if no transaction was in flight and all had arrived, all is processed once a round has changed nothing
 pub catching-end : (laws : LawsForDriving) (shard : ℕ) (old middle new : CoreView) → IsWithinLimits old.script → IsCore old.script old.state → IsQuiet old.state.account → AllArrived old.state.account shard
     → IsCatchingUp shard old middle → AppliesRound old.script.gates shard old.script.gates middle.state new.state false → AppliesAll shard old.state.account new.state.account
 catching-end laws shard old middle new limits core quiet arrived a b = record {

@@ -16,7 +16,7 @@ use Rattle.report_rules.specs.Lookups.{request_at}
 use Rattle.weave_entries.specs.declared.gate_log.GateEntry.{GateEntry}
 use Rattle.weave_entries.specs.declared.gate_log.GateDeed.{GateDeed}
 use Rattle.weave_entries.specs.declared.message.Message.{Message}
-use Rattle.weave_entries.specs.GateReplay.{Begun, program_begun}
+use Rattle.weave_entries.specs.GateReplay.{BegunRequest, program_begun}
 use Rattle.weave_entries.specs.StoreReplay.{Judgement}
 use Rattle.weave_account.specs.declared.account.Account.{Account}
 use Rattle.weave_account.specs.Account.{gate_log}
@@ -51,11 +51,11 @@ module _ (upto : ℕ) where
       fine (Change ops) = less
       fine (Look program) = less
 
-  judges : (script : Script) (account : Account) (o : Option Begun) → DrivesGates upto account (after_judge script account o)
+  judges : (script : Script) (account : Account) (o : Option BegunRequest) → DrivesGates upto account (after_judge script account o)
   judges script account None = gates-same account
   judges script account (Some flight) = gates-same account
 
-  sends : (script : Script) (account : Account) (g : ℕ) (o : Option Begun) (j : Option Judgement) → DrivesGates upto account (after_send script account g o j)
+  sends : (script : Script) (account : Account) (g : ℕ) (o : Option BegunRequest) (j : Option Judgement) → DrivesGates upto account (after_send script account g o j)
   sends script account g None None = gates-same account
   sends script account g None (Some judged) = gates-same account
   sends script account g (Some flight) None = gates-same account
@@ -69,17 +69,17 @@ module _ (upto : ℕ) where
   delivers account g s number None = gates-same account
   delivers account g s number (Some message) = gates-same account
 
-  visits : (script : Script) (account : Account) (r : ℕ) (o : Option Begun) (next : Option Name) → DrivesGates upto account (after_visit script account r o next)
+  visits : (script : Script) (account : Account) (r : ℕ) (o : Option BegunRequest) (next : Option Name) → DrivesGates upto account (after_visit script account r o next)
   visits script account r None None = gates-same account
   visits script account r None (Some v) = gates-same account
   visits script account r (Some begun) None = gates-same account
   visits script account r (Some begun) (Some v) = gates-same account
 
-  visits-at : (script : Script) (account : Account) (r : ℕ) (o : Option Request) (next : Request → Option Name) (of : Request → Option Begun) → DrivesGates upto account (at_request (λ request. after_visit script account r (of request) (next request)) account o)
+  visits-at : (script : Script) (account : Account) (r : ℕ) (o : Option Request) (next : Request → Option Name) (of : Request → Option BegunRequest) → DrivesGates upto account (at_request (λ request. after_visit script account r (of request) (next request)) account o)
   visits-at script account r None next of = gates-same account
   visits-at script account r (Some request) next of = visits script account r (of request) (next request)
 
-  finishes : (account : Account) (r g : ℕ) (o : Option Begun) → DrivesGates upto account (with_finish account r g o)
+  finishes : (account : Account) (r g : ℕ) (o : Option BegunRequest) → DrivesGates upto account (with_finish account r g o)
   finishes account r g None = gates-same account
   finishes account r g (Some begun) = with-deed account g begun.author _ refl
 
@@ -109,6 +109,7 @@ module _ (upto : ℕ) where
   done script state (Collect s) driving = cc
   done script state (Epoch g epoch) driving = cc
 
+  -- what a driving step adds at gatekeepers begins no request from the bound on, and raises no epoch
   pub after-step : (script : Script) (state : CoreState) (step : Step) → IsTrue (is_driving upto step) → DrivesGates upto state.account (state_after script state step).account
   after-step script state step driving = subst (DrivesGates upto state.account) (sym (account-after script state step)) (at (is_ok (answer_of script state step)))
     where
@@ -122,5 +123,6 @@ module _ (upto : ℕ) where
       gates-through state.account (state_after script state step).account (fold (state_after script) (state_after script state step) steps).account
       (after-step script state step are.0) (after-steps script steps (state_after script state step) are.3)
 
+  -- the same of what driving steps add, one after another
   pub driven-gates : (script : Script) (old new : CoreState) → IsDriven script upto old new → DrivesGates upto old.account new.account
   driven-gates script old new driven = subst (λ (s : CoreState). DrivesGates upto old.account s.account) (sym driven.is) (after-steps script driven.steps old driven.are)

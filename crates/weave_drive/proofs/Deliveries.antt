@@ -84,6 +84,7 @@ module _ (account : Account) (gate shard number : ℕ) (within : shard < length 
             ∙ none-or (find (λ (a : Arrival). (a.gate == gate) && (a.number == number)) (arrivals_of (shard_log account shard))) one ((gate == gate) && (number == number)) e (and_from _ _ (eq-eqb gate gate refl) (eq-eqb number number refl));
       }
 
+-- after `deliver` the message of that number is at the shard, if it was sent, and the answer says whether it was
 pub deliver-done : (old new : CoreView) (gate shard number : ℕ) (answer : StepAnswer) → AreCores old new → shard < old.script.shards → DoesStep (Deliver gate shard number) old new answer → DeliversMessage gate shard number old.state.account new.state.account (is_known answer)
 deliver-done old new gate shard number answer cores inside did =
     let account = old.state.account in
@@ -101,9 +102,11 @@ deliver-done old new gate shard number answer cores inside did =
 
 -- A channel
 
+-- the deliveries of a channel may start at any number from 1 on, if all messages before it have arrived
 pub delivering-none : (old : CoreView) (gate shard number : ℕ) → 1 ≤ number → HaveArrived old.state.account shard gate number → IsDelivering gate shard number old old
 delivering-none old gate shard number some arrived = record { drives = drives-none 0 old; same_gates = refl; some = some; arrived = arrived }
 
+-- if the message of a number was sent and is delivered, those before the next number have arrived
 pub delivering-next : (old middle new : CoreView) (gate shard number next : ℕ) → next ≡ number + 1 → GoesOn middle.state.account new.state.account → IsDelivering gate shard number old middle → Drives 0 middle new
     → DeliversMessage gate shard number middle.state.account new.state.account true → IsDelivering gate shard next old new
 delivering-next old middle new gate shard number next after on before drives d = record {
@@ -124,6 +127,7 @@ delivering-less old new gate shard number next after some d =
     let within = sent-within number (channel_of shard (gate_log old gate)) some (sym d.sent_is) in
     omega (arith, after, long, within)
 
+-- if no message of the next number was sent, all messages of the channel have arrived
 pub delivering-all : (old middle new : CoreView) (gate shard number : ℕ) → GoesOn middle.state.account new.state.account → IsDelivering gate shard number old middle
     → DeliversMessage gate shard number middle.state.account new.state.account false → DeliversAll gate shard old.state.account new.state.account
 delivering-all old middle new gate shard number on before d = record {
@@ -138,9 +142,11 @@ delivering-all old middle new gate shard number on before d = record {
 
 -- All channels
 
+-- to begin with, the messages of the first 0 gatekeepers have arrived
 pub below-none : (shard : ℕ) (old : CoreView) → DeliversBelow 0 shard old old
 below-none shard old = record { drives = drives-none 0 old; same_gates = refl; arrived = λ gate below. absurd (omega (arith, below)) }
 
+-- once those of gatekeeper n are delivered, too, the messages of one gatekeeper more have arrived
 pub below-next : (old middle new : CoreView) (n m shard : ℕ) → m ≡ n + 1 → GoesOn middle.state.account new.state.account → DeliversBelow n shard old middle → Drives 0 middle new → DeliversAll n shard middle.state.account new.state.account → DeliversBelow m shard old new
 below-next old middle new n m shard after on before drives d = record {
   drives = drives-through 0 old middle new before.drives drives;
@@ -154,6 +160,7 @@ below-next old middle new n m shard after on before drives d = record {
   ];
 }
 
+-- when those of all gatekeepers have arrived, all that was sent to the shard is there as it was sent
 pub below-all : (laws : LawsForDriving) (old new : CoreView) (n shard : ℕ) → IsWithinLimits old.script → IsCore old.script new.state → old.script.gates ≤ n → DeliversBelow n shard old new → DeliversTo shard old.state.account new.state.account
 below-all laws old new n shard limits core all d = record {
   same_gates = d.same_gates;

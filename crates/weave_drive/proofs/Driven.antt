@@ -17,8 +17,6 @@ use Rattle.weave_drive.specs.Driving.{AreDriving, Drives, IsDriven, is_driving}
 use Rattle.weave_drive.specs.LowerLaws.{LawsForDriving}
 use Rattle.step_rules.proofs.StepGoesOn.{goes-further, goes-same}
 
--- Accounts go on
-
 -- Lists of steps
 
 module _ (script : Script) (upto : ℕ) where
@@ -51,6 +49,7 @@ module _ (script : Script) (upto : ℕ) where
     goes-on-steps (step ∷ steps) state core are =
         goes-further state.account (state_after script state step).account (fold (state_after script) (state_after script state step) steps).account (laws.goes_on script state step limits are.1 core) (goes-on-steps steps (state_after script state step) are.2 are.3)
 
+    -- each log of what a core is driven to begins with the core's own
     pub driven-goes-on : (old new : CoreState) → IsCore script old → IsDriven script upto old new → GoesOn old.account new.account
     driven-goes-on old new core driven = subst (λ (s : CoreState). GoesOn old.account s.account) (sym driven.is) (goes-on-steps driven.steps old core driven.are)
 
@@ -75,6 +74,7 @@ more-are script m n below (step ∷ steps) state are = (more-driving m n below s
 
 -- Cores
 
+-- a core is driven to itself, by no steps
 pub drives-none : (upto : ℕ) (old : CoreView) → Drives upto old old
 drives-none upto old = record { script_is = refl; driven = driven-none old.script upto old.state }
 
@@ -82,6 +82,7 @@ drives-none upto old = record { script_is = refl; driven = driven-none old.scrip
 pub drives-same : (upto : ℕ) (old new : CoreView) → new ≡ old → Drives upto old new
 drives-same upto old new same = subst (Drives upto old) (sym same) (drives-none upto old)
 
+-- a core that did a driving step of the script, and is a core after it, was driven
 pub drives-step : (upto : ℕ) (old new : CoreView) (step : Step) (answer : StepAnswer) → DoesStep step old new answer → IsStepOf old.script step → IsCore new.script new.state → IsTrue (is_driving upto step) → Drives upto old new
 drives-step upto old new step answer did there core driving = record {
   script_is = did.script_is;
@@ -92,12 +93,14 @@ drives-step upto old new step answer did there core driving = record {
   };
 }
 
+-- a core that was driven, and then was driven on, was driven
 pub drives-through : (upto : ℕ) (a b c : CoreView) → Drives upto a b → Drives upto b c → Drives upto a c
 drives-through upto a b c x y = record {
   script_is = y.script_is ∙ x.script_is;
   driven = driven-through a.script upto a.state b.state c.state x.driven (subst (λ s. IsDriven s upto b.state c.state) x.script_is y.driven);
 }
 
+-- what was driven below a bound was driven below every higher one
 pub drives-more : (m n : ℕ) → m ≤ n → (old new : CoreView) → Drives m old new → Drives n old new
 drives-more m n below old new d = record {
   script_is = d.script_is;
@@ -108,5 +111,6 @@ drives-more m n below old new d = record {
 pub drives-core : (upto : ℕ) (old new : CoreView) → IsCore old.script old.state → Drives upto old new → IsCore old.script new.state
 drives-core upto old new core d = core-after old.script upto old.state new.state core d.driven
 
+-- and its logs go on from the old ones
 pub drives-on : (upto : ℕ) (laws : LawsForDriving) (old new : CoreView) → IsWithinLimits old.script → IsCore old.script old.state → Drives upto old new → GoesOn old.state.account new.state.account
 drives-on upto laws old new limits core d = driven-goes-on old.script upto laws limits old.state new.state core d.driven

@@ -44,6 +44,7 @@ use Rattle.weave_drive.proofs.Quiet.{stays-quiet}
 
 -- What stays at a gatekeeper
 
+-- a stamp that a gatekeeper has made is one of its stamps still when the account goes on
 pub still-stamped : (old new : Account) → GoesOn old new → (home : ℕ) (p : Stamp) → Contains (stamps_of (gate_log old home)) p → Contains (stamps_of (gate_log new home)) p
 still-stamped old new on home p h =
     let more = on.gates home in
@@ -122,6 +123,7 @@ module _ (laws : LawsForDriving) (script : Script) (limits : IsWithinLimits scri
       (Contains-append_right (addressed_to shard (gate_log second.account g)) (addressed_to shard (entry ∷ [])) one
       (Contains-append_left (to_shard shard (one ∷ [])) [] one (has_filter (λ (a : Addressed). a.shard == shard) (one ∷ []) one (has_head one []) (eq-eqb shard shard refl))))
 
+  -- in a quiet core, after `say` of a home, and `hear` and `nop` of g, g has sent after each stamp of that home
   pub nudged : Nudges home g shard old.account third.account
   unfolding one
   nudged p begun = record {
@@ -130,6 +132,7 @@ module _ (laws : LawsForDriving) (script : Script) (limits : IsWithinLimits scri
     later = subst (λ (c : Clock). IsTrue (stamp_before p (next_stamp g c))) (sym clock-second) (laws.after_its_home script old.account limits core.account g home g-inside home-inside p begun);
   }
 
+-- the same of a core that did these three steps
 pub nudge-done : (laws : LawsForDriving) (old first second third : CoreView) (home g shard notice : ℕ) (a b c : StepAnswer) → AreCores old first → IsQuiet old.state.account → home < old.script.gates → g < old.script.gates
     → notice ≡ length first.state.notices → DoesStep (Say home) old first a → DoesStep (Hear g notice) first second b → DoesStep (Nop g shard) second third c → Nudges home g shard old.state.account third.state.account
 nudge-done laws old first second third home g shard notice a b c cores quiet home-inside g-inside notice-is said heard sent =
@@ -141,9 +144,11 @@ nudge-done laws old first second third home g shard notice a b c cores quiet hom
 
 -- All gatekeepers
 
+-- to begin with, the first 0 gatekeepers have sent later messages
 pub nudges-none : (home shard : ℕ) (old : CoreView) → NudgesBelow 0 home shard old old
 nudges-none home shard old = record { drives = drives-none 0 old; nudges = λ gate below. absurd (omega (arith, below)) }
 
+-- after gatekeeper n has sent later messages, one gatekeeper more has
 pub nudges-next : (home shard n m : ℕ) (old middle new : CoreView) → m ≡ n + 1 → GoesOn old.state.account middle.state.account → GoesOn middle.state.account new.state.account → NudgesBelow n home shard old middle → Drives 0 middle new → Nudges home n shard middle.state.account new.state.account → NudgesBelow m home shard old new
 nudges-next home shard n m old middle new next on further before drives here = record {
   drives = drives-through 0 old middle new before.drives drives;
@@ -155,6 +160,7 @@ nudges-next home shard n m old middle new next on further before drives here = r
 
 -- The shard
 
+-- if all gatekeepers sent later messages, and all is delivered and applied, the shard is ready for the home's stamps
 pub ready-made : (laws : LawsForDriving) (script : Script) (old nudged brought new : Account) (home shard : ℕ) → IsWithinLimits script → (core : CoreState) → core.account ≡ new → IsCore script core
     → ((gate : ℕ) → gate < script.gates → Nudges home gate shard old nudged) → DeliversTo shard nudged brought → AppliesAll shard brought new → MakesReady script home shard old new
 ready-made laws script old nudged brought new home shard limits state state-is core nudges d a p begun =

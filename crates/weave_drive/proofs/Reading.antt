@@ -24,7 +24,7 @@ use Rattle.report_rules.specs.declared.report.StepAnswer.TheVariants.{Ok, Twice,
 use Rattle.weave_entries.specs.declared.gate_log.GateEntry.{GateEntry}
 use Rattle.weave_entries.specs.declared.shard_log.ShardEntry.{ShardEntry}
 use Rattle.weave_entries.specs.declared.shard_log.ShardDeed.TheVariants.{Visited}
-use Rattle.weave_entries.specs.GateReplay.{Begun, program_begun, program_by, programs_of}
+use Rattle.weave_entries.specs.GateReplay.{BegunRequest, program_begun, program_by, programs_of}
 use Rattle.weave_entries.specs.ShardReplay as shards
 use Rattle.weave_entries.specs.ShardReplay.{first_unready, reads_in, state_of_updates, updates_of, visit_by, visits_of}
 use Rattle.weave_account.specs.declared.account.Account.{Account}
@@ -33,7 +33,7 @@ use Rattle.weave_account.specs.GoesOn.{GoesOn}
 use Rattle.weave_account.specs.IsAccount.{IsAccount}
 use Rattle.step_rules.specs.CoreState.{CoreState}
 use Rattle.step_rules.specs.Answers.{again_or_ok, answer_of_visit, for_request}
-use Rattle.step_rules.specs.Entries.{account_with, after_visit, at_request, update_stamps, with_visit_of}
+use Rattle.step_rules.specs.Entries.{account_with, after_visit, at_request, update_stamps_at, with_visit_of}
 use Rattle.step_rules.specs.IsCore.{IsCore}
 use Rattle.step_rules.specs.Requests.{next_vertex}
 use Rattle.step_rules.specs.Trace.{is_ok}
@@ -145,11 +145,12 @@ module _ (laws : LawsForDriving) (script : Script) (limits : IsWithinLimits scri
 
 -- The program stays begun
 
-still-program : (old new : Account) → GoesOn old new → (home r : ℕ) (begun : Begun) → program_begun r (gate_log old home) ≡ Some begun → program_begun r (gate_log new home) ≡ Some begun
+still-program : (old new : Account) → GoesOn old new → (home r : ℕ) (begun : BegunRequest) → program_begun r (gate_log old home) ≡ Some begun → program_begun r (gate_log new home) ≡ Some begun
 still-program old new on home r begun is =
     let more = on.gates home in
-    ap (program_begun r) more.1 ∙ ap (find (λ (b : Begun). b.request == r)) (flat_map-append (λ (entry : GateEntry). program_by entry.author entry.deed) (gate_log old home) more.0) ∙ find-append (λ (b : Begun). b.request == r) (programs_of (gate_log old home)) _ ∙ ap (λ o. option_or o (find (λ (b : Begun). b.request == r) (programs_of more.0))) is
+    ap (program_begun r) more.1 ∙ ap (find (λ (b : BegunRequest). b.request == r)) (flat_map-append (λ (entry : GateEntry). program_by entry.author entry.deed) (gate_log old home) more.0) ∙ find-append (λ (b : BegunRequest). b.request == r) (programs_of (gate_log old home)) _ ∙ ap (λ o. option_or o (find (λ (b : BegunRequest). b.request == r) (programs_of more.0))) is
 
+-- a program that has begun at its gatekeeper has begun there still when the account goes on
 pub still-reading : (script : Script) (old new : Account) → GoesOn old new → (r home : ℕ) → IsReading script r home old → IsReading script r home new
 still-reading script old new on r home reading = record {
   request = reading.request;
@@ -162,6 +163,7 @@ still-reading script old new on r home reading = record {
   stamped = still-stamped old new on home reading.begun.stamp reading.stamped;
 }
 
+-- the shard of a vertex is one of the shards of the script
 pub shard-there : (script : Script) → IsWithinLimits script → (v : Name) → shard_of v script.shards < script.shards
 shard-there script limits v = let some = limits.some_shard in omega (arith, some)
 
@@ -207,7 +209,7 @@ module _ (laws : LawsForDriving) (old new : CoreView) (r home : ℕ) (answer : S
   visit-more : (v : Name) → next_visit (reads_of old.state.account r) reading.program ≡ Some v → answer ≡ Ok → shard_of v old.script.shards < old.script.shards → length (reads_of new.state.account r) ≡ length (reads_of old.state.account r) + 1
   visit-more v e ok inside =
       let s = shard_of v old.script.shards in
-      let is : new.state.account ≡ with_visit_of old.state.account s r reading.begun.stamp v (update_stamps old.state.account s v) =
+      let is : new.state.account ≡ with_visit_of old.state.account s r reading.begun.stamp v (update_stamps_at old.state.account s v) =
       ap (λ (k : CoreState). k.account) did.state_is ∙ account-after old.script old.state (Visit r)
       ∙ ap (λ b. cond {A = Account} b (account_with old.script old.state (Visit r)) old.state.account) (ap is_ok (sym did.answer_is ∙ ok))
       ∙ ap (at_request (λ request. after_visit old.script old.state.account r (program_begun r (gate_log old.state.account request.gate)) (next_vertex old.state.account r request.work)) old.state.account) reading.request_is
@@ -217,6 +219,7 @@ module _ (laws : LawsForDriving) (old new : CoreView) (r home : ℕ) (answer : S
       let many = cores.before.account.shards.as_many in
       ap (λ (a : Account). length (reads_of a r)) is ∙ reads-many r old.state.account.shards s _ (omega (arith, many, inside)) (read-more r (shard_log old.state.account s) reading.begun.stamp v _ _)
 
+  -- a visit that was done leaves fewer vertices to read and shards to wait for
   pub visit-ok : GoesOn old.state.account new.state.account → ((v : Name) → shard_of v old.script.shards < old.script.shards) → answer ≡ Ok → ReadsOnward old.script r home old.state.account new.state.account true
   visit-ok on some-shard ok = at (next_visit (reads_of old.state.account r) reading.program) refl
     where
@@ -243,6 +246,7 @@ module _ (laws : LawsForDriving) (old new : CoreView) (r home : ℕ) (answer : S
     pub gate : ℕ
     pub unready : first_unready old.script.gates reading.begun.stamp (shard_log old.state.account s) ≡ Some gate
 
+  -- if it answers `again`, nothing has changed, there is a next vertex, and the shard named isn't ready for the program
   pub visit-again : (s g : ℕ) → ((v : Name) → shard_of v old.script.shards < old.script.shards) → answer ≡ Again s g → IsAgain s
   visit-again s g some-shard again = at (next_visit (reads_of old.state.account r) reading.program) refl
     where
@@ -267,6 +271,7 @@ module _ (laws : LawsForDriving) (old new : CoreView) (r home : ℕ) (answer : S
       at None e = let clash : Again s g ≡ Idle = sym again ∙ answer-by None e in cc
       at (Some v) e = by v e (ready-at v) refl
 
+  -- if that shard is made ready, there are fewer left to wait for
   pub visit-readied : (s : ℕ) (readied : CoreView) → IsAgain s → IsCore old.script readied.state → GoesOn old.state.account readied.state.account → MakesReady old.script home s old.state.account readied.state.account → ReadsOnward old.script r home old.state.account readied.state.account true
   visit-readied s readied again core on made = record {
     less = λ t. (
@@ -280,6 +285,7 @@ module _ (laws : LawsForDriving) (old new : CoreView) (r home : ℕ) (answer : S
     whole = λ f. cc;
   }
 
+  -- the same of a core that was driven to make it ready
   pub visit-after : (s : ℕ) (readied : CoreView) → IsAgain s → Drives 0 new readied → MakesReady new.script home s new.state.account readied.state.account → ReadsOnward old.script r home old.state.account readied.state.account true
   visit-after s readied again drives made =
       let core-new : IsCore new.script new.state = subst (λ (k : Script). IsCore k new.state) (sym did.script_is) cores.after in

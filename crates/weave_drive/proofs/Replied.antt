@@ -25,7 +25,7 @@ use Rattle.weave_entries.specs.declared.gate_log.GateEntry.{GateEntry}
 use Rattle.weave_entries.specs.declared.gate_log.GateDeed.{GateDeed}
 use Rattle.weave_entries.specs.declared.gate_log.GateDeed.TheVariants.{BeganTx, BeganProgram, Sent, Nop, Heard, Raised, Finished}
 use Rattle.weave_entries.specs.declared.session_log.SessionEntry.{SessionEntry}
-use Rattle.weave_entries.specs.GateReplay.{Begun, begun_by, begun_in, flight_after, flight_of, has_ended_in, program_begun, program_by, programs_of, stamps_by, stamps_of, tx_by}
+use Rattle.weave_entries.specs.GateReplay.{BegunRequest, begun_by, begun_in, flight_after, flight_of, has_ended_in, program_begun, program_by, programs_of, stamps_by, stamps_of, tx_by}
 use Rattle.weave_entries.specs.SessionReplay.{begin_by, begins_in, has_begun_in, has_reply_in, replied_in, reply_by}
 use Rattle.weave_account.specs.declared.account.Account.{Account}
 use Rattle.weave_account.specs.Account.{all_begun, gate_log, session_log}
@@ -49,6 +49,7 @@ use Rattle.weave_drive.proofs.After.{account-after, set-other, set-there}
 use Rattle.weave_drive.proofs.Driven.{drives-core, drives-on, drives-through}
 use Rattle.weave_drive.proofs.Quiet.{drives-quiet, drives-quiet-at}
 
+-- if a list has something at a place, the place is below its length
 pub get-inside : {A : Type 0} (xs : List A) (n : ℕ) (x : A) → slice_get xs n ≡ Some x → n < length xs
 get-inside [] n x e = cc
 get-inside (y ∷ xs) zero x e = omega arith
@@ -78,6 +79,7 @@ begun-longer r log more h = ap (list_any (λ (begun : ℕ × Stamp). begun.0 == 
 replied-longer : (r : ℕ) (log more : List SessionEntry) → has_reply_in r log ≡ true → has_reply_in r (log ++ more) ≡ true
 replied-longer r log more h = ap (list_any (λ replied. replied == r)) (flat_map-append (λ (entry : SessionEntry). reply_by entry.deed) log more) ∙ any-more _ (replied_in log) (replied_in more) h
 
+-- a request that has begun has begun still when the account goes on
 pub still-begun : (old new : Account) → GoesOn old new → (r : ℕ) (request : Request) → has_begun old r request ≡ true → has_begun new r request ≡ true
 still-begun old new on r request h = let more = on.sessions request.session in ap (has_begun_in r) more.1 ∙ begun-longer r (session_log old request.session) more.0 h
 
@@ -156,6 +158,7 @@ module _ (laws : LawsForDriving) (script : Script) (limits : IsWithinLimits scri
       no-flight true = refl
       no-flight false = refl
 
+  -- in a quiet core where all requests before one have replies, `begin` leaves it begun, and no other in flight
   pub begun-now : (state : CoreState) → IsCore script state → IsQuiet state.account → AreReplied script r state.account → Begins (state_after script state (Begin r)).account
   begun-now state core quiet replied = begins-by state core quiet replied (has_begun state.account r request) refl
 
@@ -165,7 +168,7 @@ module _ (laws : LawsForDriving) (script : Script) (limits : IsWithinLimits scri
   same-sessions account (Change ops) = refl
   same-sessions account (Look program) = at (has_ended account r request) (program_begun r (gate_log account request.gate))
     where
-      at : (b : Bool) (o : Option Begun) → (cond {A = Account} b account (with_finish account r request.gate o)).sessions ≡ account.sessions
+      at : (b : Bool) (o : Option BegunRequest) → (cond {A = Account} b account (with_finish account r request.gate o)).sessions ≡ account.sessions
       at true o = refl
       at false None = refl
       at false (Some begun) = refl
@@ -177,6 +180,7 @@ module _ (laws : LawsForDriving) (script : Script) (limits : IsWithinLimits scri
       ∙ ap (λ b. cond (b || not (is_answered account r request request.work)) Idle Ok) none
       ∙ ap (λ b. cond (not b) Idle Ok) ended
 
+  -- after `reply` a request that has begun, and was sent or read, has its reply
   pub replied-now : (state : CoreState) → IsCore script state → has_begun state.account r request ≡ true → is_answered state.account r request request.work ≡ true → (on : GoesOn state.account (state_after script state (Reply r)).account) → has_reply (state_after script state (Reply r)).account r request ≡ true
   replied-now state core begun ended on = at (has_reply state.account r request) refl
     where
@@ -193,7 +197,7 @@ module _ (laws : LawsForDriving) (script : Script) (limits : IsWithinLimits scri
 
   -- in a quiet core a begun transaction was sent
   pub sent-when-quiet : (state : CoreState) → IsCore script state → IsQuiet state.account → IsTrue (is_change request.work) → has_begun state.account r request ≡ true → is_answered state.account r request request.work ≡ true
-  sent-when-quiet state core quiet change begun = by request.work change (laws.sent script state.account limits core.account r request request-is change begun ∙ ap (λ o. not (is_some_and (λ (flight : Begun). flight.request == r) o)) (quiet request.gate))
+  sent-when-quiet state core quiet change begun = by request.work change (laws.sent script state.account limits core.account r request request-is change begun ∙ ap (λ o. not (is_some_and (λ (flight : BegunRequest). flight.request == r) o)) (quiet request.gate))
     where
       by : (work : Work) → IsTrue (is_change work) → has_ended_in r (gate_log state.account request.gate) ≡ true → is_answered state.account r request work ≡ true
       by (Change ops) t e = e
@@ -214,8 +218,8 @@ module _ (laws : LawsForDriving) (script : Script) (limits : IsWithinLimits scri
   IsOwn is_kind home q = IsTrue (is_some_and (λ (other : Request). (other.gate == home) && is_kind other.work) (request_at script q))
 
   module _ (account : Account) (home : ℕ) (before : List GateEntry) where
-    tx-own : (author : ℕ) (deed : GateDeed) (b : Begun) → BeginsAs script account home before deed → Contains (tx_by author deed) b → IsOwn is_change home b.request
-    tx-own author (BeganTx q stamp) b begins h = subst (λ (c : Begun). IsOwn is_change home c.request) (only (record { author = author; request = q; stamp = stamp }) b h) begins.own
+    tx-own : (author : ℕ) (deed : GateDeed) (b : BegunRequest) → BeginsAs script account home before deed → Contains (tx_by author deed) b → IsOwn is_change home b.request
+    tx-own author (BeganTx q stamp) b begins h = subst (λ (c : BegunRequest). IsOwn is_change home c.request) (only (record { author = author; request = q; stamp = stamp }) b h) begins.own
     tx-own author (BeganProgram q stamp) b begins h = absurd (has_none b h)
     tx-own author (Sent q messages) b begins h = absurd (has_none b h)
     tx-own author (Nop to number stamp low) b begins h = absurd (has_none b h)
@@ -223,8 +227,8 @@ module _ (laws : LawsForDriving) (script : Script) (limits : IsWithinLimits scri
     tx-own author (Raised epoch) b begins h = absurd (has_none b h)
     tx-own author (Finished q) b begins h = absurd (has_none b h)
 
-    program-own : (author : ℕ) (deed : GateDeed) (b : Begun) → BeginsAs script account home before deed → Contains (program_by author deed) b → IsOwn is_look home b.request
-    program-own author (BeganProgram q stamp) b begins h = subst (λ (c : Begun). IsOwn is_look home c.request) (only (record { author = author; request = q; stamp = stamp }) b h) begins.own
+    program-own : (author : ℕ) (deed : GateDeed) (b : BegunRequest) → BeginsAs script account home before deed → Contains (program_by author deed) b → IsOwn is_look home b.request
+    program-own author (BeganProgram q stamp) b begins h = subst (λ (c : BegunRequest). IsOwn is_look home c.request) (only (record { author = author; request = q; stamp = stamp }) b h) begins.own
     program-own author (BeganTx q stamp) b begins h = absurd (has_none b h)
     program-own author (Sent q messages) b begins h = absurd (has_none b h)
     program-own author (Nop to number stamp low) b begins h = absurd (has_none b h)
@@ -240,8 +244,8 @@ module _ (laws : LawsForDriving) (script : Script) (limits : IsWithinLimits scri
     | inr more ↦ (let rest = list-place xss xs more in (suc rest.0, rest.1))
   ]
 
-  stamp-by : (author : ℕ) (deed : GateDeed) (b : Begun) → Contains (program_by author deed) b → Contains (stamps_by deed) b.stamp
-  stamp-by author (BeganProgram q stamp) b k = subst (λ (x : Begun). Contains (stamp ∷ []) x.stamp) (only (record { author = author; request = q; stamp = stamp }) b k) (has_head stamp [])
+  stamp-by : (author : ℕ) (deed : GateDeed) (b : BegunRequest) → Contains (program_by author deed) b → Contains (stamps_by deed) b.stamp
+  stamp-by author (BeganProgram q stamp) b k = subst (λ (x : BegunRequest). Contains (stamp ∷ []) x.stamp) (only (record { author = author; request = q; stamp = stamp }) b k) (has_head stamp [])
   stamp-by author (BeganTx q stamp) b k = absurd (has_none b k)
   stamp-by author (Sent q messages) b k = absurd (has_none b k)
   stamp-by author (Nop to number stamp low) b k = absurd (has_none b k)
@@ -249,13 +253,13 @@ module _ (laws : LawsForDriving) (script : Script) (limits : IsWithinLimits scri
   stamp-by author (Raised epoch) b k = absurd (has_none b k)
   stamp-by author (Finished q) b k = absurd (has_none b k)
 
-  program-stamp : (log : List GateEntry) (b : Begun) → Contains (programs_of log) b → Contains (stamps_of log) b.stamp
+  program-stamp : (log : List GateEntry) (b : BegunRequest) → Contains (programs_of log) b → Contains (stamps_of log) b.stamp
   program-stamp log b h =
       let from = flat_has (λ (e : GateEntry). program_by e.author e.deed) log b h in
       has_flat (λ (e : GateEntry). stamps_by e.deed) log from.0 b.stamp from.1 (stamp-by from.0.author from.0.deed b from.2)
 
   module _ (account : Account) (is : IsAccount script account) (program : Program) (look : request.work ≡ Look program) where
-    at-its-own : (b : Begun) (home : ℕ) → IsTrue (b.request == r) → Contains (begun_in (gate_log account home)) b → Contains (programs_of (gate_log account request.gate)) b
+    at-its-own : (b : BegunRequest) (home : ℕ) → IsTrue (b.request == r) → Contains (begun_in (gate_log account home)) b → Contains (programs_of (gate_log account request.gate)) b
     at-its-own b home same h =
         let from = flat_has (λ (e : GateEntry). begun_by e.author e.deed) (gate_log account home) b h in
         let cut = cut_at (gate_log account home) from.0 from.1 in
@@ -269,14 +273,14 @@ module _ (laws : LawsForDriving) (script : Script) (limits : IsWithinLimits scri
               subst (λ n. Contains (programs_of (gate_log account n)) b) (sym gate) (has_flat (λ (e : GateEntry). program_by e.author e.deed) (gate_log account home) from.0 b from.1 one)
         ]
       where
-        no-change : (home : ℕ) (b : Begun) → IsTrue ((request.gate == home) && is_change request.work) → Contains (programs_of (gate_log account request.gate)) b
+        no-change : (home : ℕ) (b : BegunRequest) → IsTrue ((request.gate == home) && is_change request.work) → Contains (programs_of (gate_log account request.gate)) b
         no-change home b h = absurd (let change : IsTrue (is_change (Look program)) = subst (λ w. IsTrue (is_change w)) look (and_parts (request.gate == home) (is_change request.work) h).1 in cc)
 
-    reading-of : (b : Begun) → IsTrue (b.request == r) → Contains (programs_of (gate_log account request.gate)) b → IsReading script r request.gate account
+    reading-of : (b : BegunRequest) → IsTrue (b.request == r) → Contains (programs_of (gate_log account request.gate)) b → IsReading script r request.gate account
     reading-of b same there = at (program_begun r (gate_log account request.gate)) refl
       where
-        at : (o : Option Begun) → program_begun r (gate_log account request.gate) ≡ o → IsReading script r request.gate account
-        at None e = absurd (find_lacks (λ (k : Begun). k.request == r) (programs_of (gate_log account request.gate)) b e there same)
+        at : (o : Option BegunRequest) → program_begun r (gate_log account request.gate) ≡ o → IsReading script r request.gate account
+        at None e = absurd (find_lacks (λ (k : BegunRequest). k.request == r) (programs_of (gate_log account request.gate)) b e there same)
         at (Some k) e = record {
           request = request;
           program = program;
@@ -285,18 +289,19 @@ module _ (laws : LawsForDriving) (script : Script) (limits : IsWithinLimits scri
           gate_is = refl;
           work_is = look;
           begun_is = e;
-          stamped = program-stamp (gate_log account request.gate) k (find_has (λ (q : Begun). q.request == r) (programs_of (gate_log account request.gate)) k e).0;
+          stamped = program-stamp (gate_log account request.gate) k (find_has (λ (q : BegunRequest). q.request == r) (programs_of (gate_log account request.gate)) k e).0;
         }
 
+    -- a program that has begun in its session has begun at its gatekeeper, with a stamp that this one made
     pub is-reading : has_begun account r request ≡ true → IsReading script r request.gate account
     is-reading begun =
         let some = any_has (λ (b : ℕ × Stamp). b.0 == r) (begins_in (session_log account request.session)) begun in
         by (find (λ (b : ℕ × Stamp). b.0 == r) (begins_in (session_log account request.session))) refl some.0 some.1 some.2
       where
-        at : (o : Option Begun) → find (λ (b : Begun). b.request == r) (all_begun account) ≡ o → (s : Stamp) → option_map (λ (b : Begun). b.stamp) o ≡ Some s → IsReading script r request.gate account
+        at : (o : Option BegunRequest) → find (λ (b : BegunRequest). b.request == r) (all_begun account) ≡ o → (s : Stamp) → option_map (λ (b : BegunRequest). b.stamp) o ≡ Some s → IsReading script r request.gate account
         at None e s some = cc
         at (Some b) e s some =
-            let found = find_has (λ (k : Begun). k.request == r) (all_begun account) b e in
+            let found = find_has (λ (k : BegunRequest). k.request == r) (all_begun account) b e in
             let log = flat_has begun_in account.gates b found.0 in
             let home = list-place account.gates log.0 log.1 in
             reading-of b found.1 (at-its-own b home.0 found.1 (subst (λ l. Contains (begun_in l) b) (sym home.1) log.2))
@@ -304,11 +309,12 @@ module _ (laws : LawsForDriving) (script : Script) (limits : IsWithinLimits scri
         by : (o : Option (ℕ × Stamp)) → find (λ (b : ℕ × Stamp). b.0 == r) (begins_in (session_log account request.session)) ≡ o → (x : ℕ × Stamp) → Contains (begins_in (session_log account request.session)) x → IsTrue (x.0 == r) → IsReading script r request.gate account
         by None e x has same = absurd (find_lacks (λ (b : ℕ × Stamp). b.0 == r) (begins_in (session_log account request.session)) x e has same)
         by (Some b) e x has same =
-            at (find (λ (k : Begun). k.request == r) (all_begun account)) refl b.1
+            at (find (λ (k : BegunRequest). k.request == r) (all_begun account)) refl b.1
             (sym (is.sessions.stamps r request request-is) ∙ ap (option_map (λ (begun : ℕ × Stamp). begun.1)) e)
 
   -- Answered
 
+  -- if it has its reply, as all before it had, and none is in flight, all below the next number are answered
   pub answered-next : (old new : Account) → GoesOn old new → AreReplied script r old → IsQuiet new → has_reply new r request ≡ true → (n : ℕ) → n ≡ r + 1 → AreAnsweredBelow script n new
   answered-next old new on replied quiet has n n-is = record {
     quiet = quiet;
@@ -325,6 +331,7 @@ module _ (laws : LawsForDriving) (script : Script) (limits : IsWithinLimits scri
 
 module _ (laws : LawsForDriving) (old first : CoreView) (r : ℕ) (request : Request) (request-is : request_at old.script r ≡ Some request) (cores : AreCores old first) (a : StepAnswer) (did : DoesStep (Begin r) old first a)
     (answered : AreAnsweredBelow old.script r old.state.account) where
+  -- after `begin` in its turn the request has begun, and no transaction but this one is in flight
   pub first-begins : Begins laws old.script cores.limits r request request-is first.state.account
   first-begins = subst (λ (s : CoreState). Begins laws old.script cores.limits r request request-is s.account) (sym did.state_is)
       (begun-now laws old.script cores.limits r request request-is old.state cores.before answered.quiet answered.replied)
@@ -348,6 +355,7 @@ module _ (laws : LawsForDriving) (old first : CoreView) (r : ℕ) (request : Req
       by (Change ops) e f = cc
       by (Look program) e f = is-reading laws old.script cores.limits r request request-is first.state.account cores.after.account program e first-begins.has
 
+  -- and the logs go on from those before
   pub first-on : GoesOn old.state.account first.state.account
   first-on = subst (λ (s : CoreState). GoesOn old.state.account s.account) (sym did.state_is) (laws.goes_on old.script old.state (Begin r) cores.limits (get-inside old.script.requests r request request-is) cores.before)
 
@@ -396,17 +404,20 @@ begins-below r = lt-ltb r (r + 1) (omega arith)
 
 -- The loop
 
+-- a core driven to where none is in flight and the first n requests have replies has answered these requests
 pub answers-from : (upto n : ℕ) (old new : CoreView) → Drives upto old new → IsQuiet new.state.account → AreReplied new.script n new.state.account → AnswersBelow upto n old new
 answers-from upto n old new drives quiet replied = record {
   drives = drives;
   answered = record { quiet = quiet; replied = subst (λ (s : Script). AreReplied s n new.state.account) drives.script_is replied };
 }
 
+-- and if it is driven on to where the first m requests are answered, it has answered these
 pub answers-next : (upto n : ℕ) (old middle new : CoreView) (m : ℕ) → AnswersBelow upto n old middle → Drives upto middle new → AreAnsweredBelow middle.script m new.state.account → AnswersBelow upto m old new
 answers-next upto n old middle new m before drives answered = record {
   drives = drives-through upto old middle new before.drives drives;
   answered = subst (λ (s : Script). AreAnsweredBelow s m new.state.account) before.drives.script_is answered;
 }
 
+-- if these are all requests below the bound, each request below it has its reply
 pub answers-all : (upto n : ℕ) (old new : CoreView) → upto ≤ n → AnswersBelow upto n old new → AreReplied old.script upto new.state.account
 answers-all upto n old new all a r request below is = a.answered.replied r request (omega (arith, below, all)) is

@@ -79,11 +79,13 @@ module _ (laws : LawsForDriving) (script : Script) (limits : IsWithinLimits scri
       let same = laws.whole script state step limits are.1 core r request program request-is work-is whole in
       reads-through steps (state_after script state step) are.2 are.3 (ap (λ reads. next_visit reads program) same ∙ whole) ∙ same
 
+  -- what a finished program has read stays the same while its core is driven
   pub reads-stand : (old new : CoreState) → IsCore script old → IsDriven script upto old new → IsTrue (is_ended old.account r) → reads_of new.account r ≡ reads_of old.account r
   reads-stand old new core driven ended =
       ap (λ (s : CoreState). reads_of s.account r) driven.is
       ∙ reads-through driven.steps old core driven.are ((core.account.programs r request program request-is work-is).whole ended)
 
+-- stamps, verdicts, finished programs with what they read, and the first pairs stay when a core is driven
 pub report-stays : (laws : LawsForDriving) (upto : ℕ) (old new : CoreView) → IsWithinLimits old.script → IsCore old.script old.state → Drives upto old new → ReportStays old.script old.state.account new.state.account
 report-stays laws upto old new limits core d =
     let on = drives-on upto laws old new limits core d in

@@ -63,7 +63,8 @@ DrivesGates upto account next =
 
 -- The core
 
--- the core was driven: its script is the same, and driving steps lead from its old state to its new one
+-- the core was driven: its script is the same, and driving steps lead from its old state to its new one.
+-- No public contract cites this.
 pub record Drives (upto : ℕ) (old new : CoreView) : Type 0 where
   pub script_is : new.script ≡ old.script
   pub driven : IsDriven old.script upto old.state new.state

@@ -16,7 +16,7 @@ use Rattle.report_rules.specs.Lookups.{is_some_and, request_at}
 use Rattle.shard_queue.specs.Sent.{sent_as}
 use Rattle.weave_entries.specs.declared.message.Addressed.{Addressed}
 use Rattle.weave_entries.specs.declared.message.Message.{Message}
-use Rattle.weave_entries.specs.GateReplay.{Begun, addressed_to, channel_of, clock_of, flight_of, has_ended_in, next_stamp, stamps_of}
+use Rattle.weave_entries.specs.GateReplay.{BegunRequest, addressed_to, channel_of, clock_of, flight_of, has_ended_in, next_stamp, stamps_of}
 use Rattle.weave_entries.specs.SessionReplay.{has_begun_in}
 use Rattle.weave_entries.specs.ShardReplay.{arrived_at, first_unready}
 use Rattle.weave_account.specs.declared.account.Account.{Account}
@@ -90,7 +90,7 @@ pub record LawsForDriving : Type 0 where
       → (r : ℕ) (request : Request) → request_at script r ≡ Some request → IsTrue (is_change request.work)
       → IsTrue (has_begun_in r (session_log account request.session))
       → has_ended_in r (gate_log account request.gate)
-      ≡ not (is_some_and (λ (flight : Begun). flight.request == r) (flight_of (gate_log account request.gate)))
+      ≡ not (is_some_and (λ (flight : BegunRequest). flight.request == r) (flight_of (gate_log account request.gate)))
   -- facts_stay_true
   pub stamps : (script : Script) (account next : Account) → GoesOn account next → BeginEachOnce next
       → (r : ℕ) (stamp : Stamp) → stamp_of account r ≡ Some stamp → stamp_of next r ≡ Some stamp

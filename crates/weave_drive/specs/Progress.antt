@@ -13,7 +13,7 @@ use Rattle.report_rules.specs.Lookups.{request_at}
 use Rattle.report_rules.specs.declared.report.StepAnswer.{StepAnswer}
 use Rattle.report_rules.specs.declared.report.StepAnswer.TheVariants.{Ok, Repeat}
 use Rattle.weave_entries.specs.declared.message.Addressed.{Addressed}
-use Rattle.weave_entries.specs.GateReplay.{Begun, addressed_to, channel_of, program_begun, stamps_of}
+use Rattle.weave_entries.specs.GateReplay.{BegunRequest, addressed_to, channel_of, program_begun, stamps_of}
 use Rattle.weave_entries.specs.ShardReplay.{arrived_at, first_unready, processed_count}
 use Rattle.weave_account.specs.declared.account.Account.{Account}
 use Rattle.weave_account.specs.Account.{gate_log, reads_of, shard_log}
@@ -113,7 +113,7 @@ MakesReady script home shard old new = (stamp : Stamp) → Contains (stamps_of (
 pub record IsReading (script : Script) (r home : ℕ) (account : Account) : Type 0 where
   pub request : Request
   pub program : Program
-  pub begun : Begun
+  pub begun : BegunRequest
   pub request_is : request_at script r ≡ Some request
   pub gate_is : request.gate ≡ home
   pub work_is : request.work ≡ Look program
@@ -127,7 +127,7 @@ unready_of (suc s) gates stamp account =
     unready_of s gates stamp account + (if is_some (first_unready gates stamp (shard_log account s)) then 1 else 0)
 
 -- vertices that a program may still read, and shards that are not ready for it
-abbrev pub reading_left_of : Script → ℕ → Account → Option Begun → ℕ
+abbrev pub reading_left_of : Script → ℕ → Account → Option BegunRequest → ℕ
 reading_left_of script r account None = 0
 reading_left_of script r account (Some begun) =
     (1 + link_count script + unready_of script.shards script.gates begun.stamp account) - length (reads_of account r)

@@ -17,7 +17,7 @@ use Rattle.weave_entries.specs.declared.message.Addressed.{Addressed}
 use Rattle.weave_entries.specs.declared.gate_log.GateEntry.{GateEntry}
 use Rattle.weave_entries.specs.declared.gate_log.GateDeed.{GateDeed}
 use Rattle.weave_entries.specs.declared.gate_log.GateDeed.TheVariants.{BeganTx, BeganProgram, Sent, Nop, Heard, Raised, Finished}
-use Rattle.weave_entries.specs.GateReplay.{Begun, next_stamp, nop_message, clock_after, clock_of, flight_after, flight_of, messages_by, to_shard, addressed_to, next_number}
+use Rattle.weave_entries.specs.GateReplay.{BegunRequest, next_stamp, nop_message, clock_after, clock_of, flight_after, flight_of, messages_by, to_shard, addressed_to, next_number}
 use Rattle.weave_entries.specs.GateRules.{IsBegunAt, FitsAs, IsGateLog, StampsRise, IsChannel}
 use Rattle.weave_entries.specs.Sending.{message_to, messages_of}
 use Rattle.weave_data.proofs.Members.{only}
@@ -33,18 +33,18 @@ module _ (laws : ClockLaws) where
   stamps_in sent = map (λ (message : Message). message.stamp) (map (λ (addressed : Addressed). addressed.message) sent)
 
   -- a stamp that was sent is before that of the transaction in flight; if none is, it is at most the clock
-  abbrev pub StandsBefore : Clock → Option Begun → Stamp → Type 0
+  abbrev pub StandsBefore : Clock → Option BegunRequest → Stamp → Type 0
   StandsBefore clock None stamp = IsTrue (is_at_most stamp.clock clock)
   StandsBefore clock (Some flight) stamp = IsTrue (stamp_before stamp flight.stamp)
 
   -- what holds of a channel along a log
-  pub record RisesBelow (clock : Clock) (flight : Option Begun) (sent : List Addressed) : Type 0 where
+  pub record RisesBelow (clock : Clock) (flight : Option BegunRequest) (sent : List Addressed) : Type 0 where
     pub numbers : map (λ (addressed : Addressed). addressed.number) sent ≡ range_with_len 1 (length (map (λ (addressed : Addressed). addressed.message) sent))
     pub rise : StampsRise (stamps_in sent)
     pub under : (stamp : Stamp) → Contains (stamps_in sent) stamp → StandsBefore clock flight stamp
     pub flying : ForSome flight (λ begun. IsTrue (is_at_most begun.stamp.clock clock))
 
-  module _ (clock next : Clock) (flight after : Option Begun) (sent : List Addressed)
+  module _ (clock next : Clock) (flight after : Option BegunRequest) (sent : List Addressed)
       (goes : (stamp : Stamp) → StandsBefore clock flight stamp → StandsBefore next after stamp)
       (flying : ForSome after (λ begun. IsTrue (is_at_most begun.stamp.clock next)))
       (so_far : RisesBelow clock flight sent) where
@@ -81,7 +81,7 @@ module _ (laws : ClockLaws) where
         }
 
   -- the clock grows, and the flight stays
-  grows : (clock next : Clock) (flight : Option Begun) (sent : List Addressed) → IsTrue (is_at_most clock next) → RisesBelow clock flight sent → RisesBelow next flight (sent ++ [])
+  grows : (clock next : Clock) (flight : Option BegunRequest) (sent : List Addressed) → IsTrue (is_at_most clock next) → RisesBelow clock flight sent → RisesBelow next flight (sent ++ [])
   grows clock next None sent at_most so_far = still clock next None None sent (λ stamp stands. laws.at_most_at_most stamp.clock clock next stands at_most) (λ begun is. absurd (cc)) so_far
   grows clock next (Some begun) sent at_most so_far = still clock next (Some begun) (Some begun) sent (λ stamp stands. stands) (λ one is. laws.at_most_at_most one.stamp.clock clock next (so_far.flying one is) at_most) so_far
 
@@ -92,42 +92,42 @@ module _ (laws : ClockLaws) where
 
   module _ (home shards shard : ℕ) (below : home < 8) (log : List GateEntry) (author : ℕ) where
     -- the flight is sent, with one message to the shard or none
-    sent_on : (begun : Begun) (ops : List Op) (clock : Clock) (sent : List Addressed) → ((s : Stamp) → StandsBefore clock (Some begun) s → StandsBefore clock None s) → ForSome None (λ (one : Begun). IsTrue (is_at_most one.stamp.clock clock)) → RisesBelow clock (Some begun) sent → IsTrue (is_at_most begun.stamp.clock clock) → sent ≡ addressed_to shard log → (some : List Addressed) → OneAtMost shards log begun ops shard some → RisesBelow clock None (sent ++ some)
+    sent_on : (begun : BegunRequest) (ops : List Op) (clock : Clock) (sent : List Addressed) → ((s : Stamp) → StandsBefore clock (Some begun) s → StandsBefore clock None s) → ForSome None (λ (one : BegunRequest). IsTrue (is_at_most one.stamp.clock clock)) → RisesBelow clock (Some begun) sent → IsTrue (is_at_most begun.stamp.clock clock) → sent ≡ addressed_to shard log → (some : List Addressed) → OneAtMost shards log begun ops shard some → RisesBelow clock None (sent ++ some)
     sent_on begun ops clock sent goes none before at_most is_sent some NoMessage = still clock clock (Some begun) None sent goes none before
     sent_on begun ops clock sent goes none before at_most is_sent some (OneMessage counts) =
         let number_is : next_number shard log ≡ length (map (λ (addressed : Addressed). addressed.message) sent) + 1 = ap (λ (ms : List Addressed). length (map (λ (addressed : Addressed). addressed.message) ms) + 1) (sym is_sent) in
         sends clock clock (Some begun) None sent goes none before (message_to shards log begun ops counts shard) number_is (λ s stands. stands) at_most
 
     -- each deed that is right goes on so
-    step : (deed : GateDeed) (clock : Clock) (flight : Option Begun) (sent : List Addressed) → HasEightCounts clock → clock ≡ clock_of home log → flight ≡ flight_of log → sent ≡ addressed_to shard log → FitsAs home shards log author deed → RisesBelow clock flight sent → RisesBelow (clock_after home clock deed) (flight_after flight author deed) (sent ++ to_shard shard (messages_by deed))
+    step : (deed : GateDeed) (clock : Clock) (flight : Option BegunRequest) (sent : List Addressed) → HasEightCounts clock → clock ≡ clock_of home log → flight ≡ flight_of log → sent ≡ addressed_to shard log → FitsAs home shards log author deed → RisesBelow clock flight sent → RisesBelow (clock_after home clock deed) (flight_after flight author deed) (sent ++ to_shard shard (messages_by deed))
     step (BeganTx request stamp) clock flight sent eight is_clock is_flight is_sent fits so_far =
         let alone : flight ≡ None = is_flight ∙ fits.alone in
         let later = begun_later home clock stamp below eight (subst (λ (c : Clock). IsBegunAt home c stamp) (sym is_clock) fits.begun) in
         still clock stamp.clock None (Some (record { author = author; request = request; stamp = stamp })) sent
         (λ s stands. laws.at_most_before s.clock clock stamp.clock stands later)
         (λ one is. let e : stamp ≡ one.stamp = cc in subst (λ (s : Stamp). IsTrue (is_at_most s.clock stamp.clock)) e (laws.at_most_itself stamp.clock))
-        (subst (λ (f : Option Begun). RisesBelow clock f sent) alone so_far)
+        (subst (λ (f : Option BegunRequest). RisesBelow clock f sent) alone so_far)
     step (BeganProgram request stamp) clock flight sent eight is_clock is_flight is_sent fits so_far =
         grows clock stamp.clock flight sent (before_is_at_most laws clock stamp.clock (begun_later home clock stamp below eight (subst (λ (c : Clock). IsBegunAt home c stamp) (sym is_clock) fits))) so_far
     step (Sent request messages) clock flight sent eight is_clock is_flight is_sent fits so_far =
-        let begun : Begun = record { author = author; request = request; stamp = fits.stamp } in
+        let begun : BegunRequest = record { author = author; request = request; stamp = fits.stamp } in
         let flies : flight ≡ Some begun = is_flight ∙ fits.flight in
-        let before : RisesBelow clock (Some begun) sent = subst (λ (f : Option Begun). RisesBelow clock f sent) flies so_far in
+        let before : RisesBelow clock (Some begun) sent = subst (λ (f : Option BegunRequest). RisesBelow clock f sent) flies so_far in
         let at_most : IsTrue (is_at_most fits.stamp.clock clock) = before.flying begun refl in
         let goes : (s : Stamp) → StandsBefore clock (Some begun) s → StandsBefore clock None s = λ s stands. before_is_at_most laws s.clock clock (laws.before_at_most s.clock fits.stamp.clock clock stands at_most) in
-        let none : ForSome None (λ (one : Begun). IsTrue (is_at_most one.stamp.clock clock)) = λ one is. absurd (cc) in
+        let none : ForSome None (λ (one : BegunRequest). IsTrue (is_at_most one.stamp.clock clock)) = λ one is. absurd (cc) in
         let made : messages_of shards log begun fits.ops fits.verdict ≡ messages = sym fits.messages_are in
         subst (λ (ms : List Addressed). RisesBelow clock None (sent ++ to_shard shard ms)) made
         (sent_on begun fits.ops clock sent goes none before at_most is_sent _ (one_at_most shards log begun fits.ops shard fits.verdict))
     step (Nop to number stamp low) clock flight sent eight is_clock is_flight is_sent fits so_far =
         let alone : flight ≡ None = is_flight ∙ fits.alone in
-        let before : RisesBelow clock None sent = subst (λ (f : Option Begun). RisesBelow clock f sent) alone so_far in
+        let before : RisesBelow clock None sent = subst (λ (f : Option BegunRequest). RisesBelow clock f sent) alone so_far in
         let stamp_is : stamp ≡ next_stamp home clock = fits.stamp_is ∙ ap (λ (c : Clock). next_stamp home c) (sym is_clock) in
         let later : IsTrue (is_before clock stamp.clock) = subst (λ (s : Stamp). IsTrue (is_before clock s.clock)) (sym stamp_is) (laws.tick_is_later home clock below eight) in
         let goes : (s : Stamp) → StandsBefore clock None s → StandsBefore stamp.clock None s = λ s stands. laws.at_most_at_most s.clock clock stamp.clock stands (before_is_at_most laws clock stamp.clock later) in
-        let none : ForSome None (λ (one : Begun). IsTrue (is_at_most one.stamp.clock stamp.clock)) = λ one is. absurd (cc) in
+        let none : ForSome None (λ (one : BegunRequest). IsTrue (is_at_most one.stamp.clock stamp.clock)) = λ one is. absurd (cc) in
         let one : Addressed = record { shard = to; number = number; message = nop_message stamp low } in
-        subst (λ (f : Option Begun). RisesBelow stamp.clock f (sent ++ to_shard shard (one ∷ []))) (sym alone)
+        subst (λ (f : Option BegunRequest). RisesBelow stamp.clock f (sent ++ to_shard shard (one ∷ []))) (sym alone)
         (elim (cases_Bool (nat_eq to shard)) [
           | inl here ↦
               let e : to ≡ shard = eqb-true to shard here in
@@ -150,9 +150,10 @@ module _ (laws : ClockLaws) where
       (λ log entry right fits so_far.
       let stepped = step home shards shard below log entry.author entry.deed (clock_of home log) (flight_of log) (addressed_to shard log) ((rises laws home shards below log right).eight) refl refl refl fits so_far in
       subst (λ (c : Clock). RisesBelow c (flight_of (log ++ entry ∷ [])) (addressed_to shard (log ++ entry ∷ []))) (sym (clock-push log entry home))
-      (subst (λ (f : Option Begun). RisesBelow (clock_after home (clock_of home log) entry.deed) f (addressed_to shard (log ++ entry ∷ []))) (sym (flight-push log entry))
+      (subst (λ (f : Option BegunRequest). RisesBelow (clock_after home (clock_of home log) entry.deed) f (addressed_to shard (log ++ entry ∷ []))) (sym (flight-push log entry))
       (subst (λ (s : List Addressed). RisesBelow (clock_after home (clock_of home log) entry.deed) (flight_after (flight_of log) entry.author entry.deed) s) (sym (addressed-push log entry shard)) stepped)))
 
+  -- in a gatekeeper's log the numbers of a channel run from 1, and its stamps rise
   pub is_channel : (home shards shard : ℕ) → home < 8 → (log : List GateEntry) → IsGateLog home shards log → IsChannel shard log
   is_channel home shards shard below log right =
       let facts = channels_rise home shards shard below log right in

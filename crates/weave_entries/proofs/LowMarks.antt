@@ -12,7 +12,7 @@ use Rattle.weave_entries.specs.declared.message.Addressed.{Addressed}
 use Rattle.weave_entries.specs.declared.gate_log.GateEntry.{GateEntry}
 use Rattle.weave_entries.specs.declared.gate_log.GateDeed.{GateDeed}
 use Rattle.weave_entries.specs.declared.gate_log.GateDeed.TheVariants.{BeganTx, BeganProgram, Sent, Nop, Heard, Raised, Finished}
-use Rattle.weave_entries.specs.GateReplay.{Begun, is_begun, nop_message, next_stamp, begun_stamp, clock_of, stamps_by, stamps_of, running_after, running_of, messages_by, sent_in, low_mark}
+use Rattle.weave_entries.specs.GateReplay.{BegunRequest, is_begun, nop_message, next_stamp, begun_stamp, clock_of, stamps_by, stamps_of, running_after, running_of, messages_by, sent_in, low_mark}
 use Rattle.weave_entries.specs.GateRules.{IsBegunAt, FitsAs, IsGateLog}
 use Rattle.weave_entries.proofs.OwnStamps.{flight-stamp, running-stamp, sent-stamp, of-begun}
 use Rattle.weave_entries.proofs.Replay.{stamps-push, running-push, sent-push, by_entries}
@@ -20,7 +20,7 @@ use Rattle.weave_entries.proofs.Rising.{begun-eight, rises}
 use Rattle.weave_entries.proofs.Channels.{begun_later}
 
 -- a low mark is the meet of a list
-pub low-meet : (clock : Clock) (running : List Begun) → fold (λ low (begun : Begun). meet_of low begun.stamp.clock) clock running ≡ meet_with clock (map (λ (begun : Begun). begun.stamp.clock) running)
+pub low-meet : (clock : Clock) (running : List BegunRequest) → fold (λ low (begun : BegunRequest). meet_of low begun.stamp.clock) clock running ≡ meet_with clock (map (λ (begun : BegunRequest). begun.stamp.clock) running)
 low-meet clock [] = refl
 low-meet clock (begun ∷ running) = low-meet (meet_of clock begun.stamp.clock) running
 
@@ -41,6 +41,7 @@ module _ (laws : ClockLaws) where
   stamps_step home shards log author (Raised epoch) below eight fits stamp has = absurd (has_none stamp has)
   stamps_step home shards log author (Finished request) below eight fits stamp has = absurd (has_none stamp has)
 
+  -- each stamp that a gatekeeper made has eight counts
   pub stamps-eight : (home shards : ℕ) → home < 8 → (log : List GateEntry) → IsGateLog home shards log → (stamp : Stamp) → Contains (stamps_of log) stamp → HasEightCounts stamp.clock
   stamps-eight home shards below =
       by_entries home shards (λ log. (stamp : Stamp) → Contains (stamps_of log) stamp → HasEightCounts stamp.clock)
@@ -53,32 +54,35 @@ module _ (laws : ClockLaws) where
 
   -- a low mark as it is made
   module _ (home shards : ℕ) (below : home < 8) (log : List GateEntry) (right : IsGateLog home shards log) (stamp : Stamp) (eight : HasEightCounts stamp.clock) where
-    all-eight : HaveEightCounts (stamp.clock ∷ map (λ (begun : Begun). begun.stamp.clock) (running_of log))
+    all-eight : HaveEightCounts (stamp.clock ∷ map (λ (begun : BegunRequest). begun.stamp.clock) (running_of log))
     all-eight clock has =
-        elim (has_read stamp.clock (map (λ (begun : Begun). begun.stamp.clock) (running_of log)) clock has) [
+        elim (has_read stamp.clock (map (λ (begun : BegunRequest). begun.stamp.clock) (running_of log)) clock has) [
           | inl here ↦ subst HasEightCounts here eight
           | inr there ↦
-              let at = map_has (λ (begun : Begun). begun.stamp.clock) (running_of log) clock there in
+              let at = map_has (λ (begun : BegunRequest). begun.stamp.clock) (running_of log) clock there in
               subst HasEightCounts at.2 (stamps-eight home shards below log right at.0.stamp (running-stamp log at.0 at.1))
         ]
 
+    -- the low mark of a stamp with eight counts, over the programs that are running, has eight counts
     pub low-eight : HasEightCounts (low_mark stamp (running_of log))
-    low-eight = subst HasEightCounts (sym (low-meet stamp.clock (running_of log))) (laws.meet_eight stamp.clock (map (λ (begun : Begun). begun.stamp.clock) (running_of log)) all-eight)
+    low-eight = subst HasEightCounts (sym (low-meet stamp.clock (running_of log))) (laws.meet_eight stamp.clock (map (λ (begun : BegunRequest). begun.stamp.clock) (running_of log)) all-eight)
 
-    below-each : (clock : Clock) → Contains (stamp.clock ∷ map (λ (begun : Begun). begun.stamp.clock) (running_of log)) clock → IsTrue (is_at_most (low_mark stamp (running_of log)) clock)
-    below-each clock has = subst (λ (c : Clock). IsTrue (is_at_most c clock)) (sym (low-meet stamp.clock (running_of log))) (laws.meet_below_each stamp.clock (map (λ (begun : Begun). begun.stamp.clock) (running_of log)) all-eight clock has)
+    below-each : (clock : Clock) → Contains (stamp.clock ∷ map (λ (begun : BegunRequest). begun.stamp.clock) (running_of log)) clock → IsTrue (is_at_most (low_mark stamp (running_of log)) clock)
+    below-each clock has = subst (λ (c : Clock). IsTrue (is_at_most c clock)) (sym (low-meet stamp.clock (running_of log))) (laws.meet_below_each stamp.clock (map (λ (begun : BegunRequest). begun.stamp.clock) (running_of log)) all-eight clock has)
 
+    -- it is at most the stamp
     pub low-stamp : IsTrue (is_at_most (low_mark stamp (running_of log)) stamp.clock)
     low-stamp = below-each stamp.clock (has_head stamp.clock _)
 
-    pub low-running : (b : Begun) → Contains (running_of log) b → IsTrue (is_at_most (low_mark stamp (running_of log)) b.stamp.clock)
-    low-running b has = below-each b.stamp.clock (has_tail stamp.clock _ b.stamp.clock (has_map (λ (begun : Begun). begun.stamp.clock) (running_of log) b has))
+    -- and at most the stamp of each running program
+    pub low-running : (b : BegunRequest) → Contains (running_of log) b → IsTrue (is_at_most (low_mark stamp (running_of log)) b.stamp.clock)
+    low-running b has = below-each b.stamp.clock (has_tail stamp.clock _ b.stamp.clock (has_map (λ (begun : BegunRequest). begun.stamp.clock) (running_of log) b has))
 
   -- what holds of a message as long as these programs run
-  pub record LowOf (running : List Begun) (addressed : Addressed) : Type 0 where
+  pub record LowOf (running : List BegunRequest) (addressed : Addressed) : Type 0 where
     pub eight : HasEightCounts addressed.message.low
     pub of_stamp : IsTrue (is_at_most addressed.message.low addressed.message.stamp.clock)
-    pub of_running : (b : Begun) → Contains running b → IsTrue (is_at_most addressed.message.low b.stamp.clock)
+    pub of_running : (b : BegunRequest) → Contains running b → IsTrue (is_at_most addressed.message.low b.stamp.clock)
 
   made_low : (home shards : ℕ) → home < 8 → (log : List GateEntry) → IsGateLog home shards log → (stamp : Stamp) → HasEightCounts stamp.clock → (addressed : Addressed) → addressed.message.stamp ≡ stamp → addressed.message.low ≡ low_mark stamp (running_of log) → LowOf (running_of log) addressed
   made_low home shards below log right stamp eight addressed stamp_is low_is =
@@ -100,7 +104,7 @@ module _ (laws : ClockLaws) where
           of_stamp = so_far.of_stamp;
           of_running = λ b has_b. elim (Contains-append_cases (running_of log) (record { author = author; request = request; stamp = stamp } ∷ []) b has_b) [
             | inl earlier ↦ so_far.of_running b earlier
-            | inr last ↦ subst (λ (x : Begun). IsTrue (is_at_most addressed.message.low x.stamp.clock)) (only _ b last) (
+            | inr last ↦ subst (λ (x : BegunRequest). IsTrue (is_at_most addressed.message.low x.stamp.clock)) (only _ b last) (
                 laws.at_most_at_most addressed.message.low addressed.message.stamp.clock stamp.clock so_far.of_stamp (
                 laws.at_most_at_most addressed.message.stamp.clock (clock_of home log) stamp.clock sent (laws.before_is_at_most (clock_of home log) stamp.clock later)))
           ];
@@ -126,7 +130,7 @@ module _ (laws : ClockLaws) where
     sends_low (BeganTx request stamp) fits addressed has = absurd (has_none addressed has)
     sends_low (BeganProgram request stamp) fits addressed has = absurd (has_none addressed has)
     sends_low (Sent request messages) fits addressed has =
-        let begun : Begun = record { author = author; request = request; stamp = fits.stamp } in
+        let begun : BegunRequest = record { author = author; request = request; stamp = fits.stamp } in
         let is = of-begun shards log begun fits.ops fits.verdict addressed (subst (λ (ms : List Addressed). Contains ms addressed) fits.messages_are has) in
         made_low home shards below log right fits.stamp (stamps-eight home shards below log right fits.stamp (flight-stamp log begun fits.flight)) addressed is.stamp_is is.low_is
     sends_low (Nop shard number stamp low) fits addressed has =
@@ -143,7 +147,7 @@ module _ (laws : ClockLaws) where
       by_entries home shards (λ log. (addressed : Addressed) → Contains (sent_in log) addressed → LowOf (running_of log) addressed)
       (λ addressed has. absurd (has_none addressed has))
       (λ log entry right fits so_far addressed has.
-      subst (λ (rs : List Begun). LowOf rs addressed) (sym (running-push log entry))
+      subst (λ (rs : List BegunRequest). LowOf rs addressed) (sym (running-push log entry))
       (elim (Contains-append_cases (sent_in log) (messages_by entry.deed) addressed (subst (λ (ms : List Addressed). Contains ms addressed) (sent-push log entry) has)) [
         | inl earlier ↦ runs_on home shards below log right entry.author entry.deed fits addressed earlier (so_far addressed earlier)
         | inr new ↦ sends_low home shards below log right entry.author entry.deed fits addressed new

@@ -16,7 +16,7 @@ use Rattle.weave_entries.specs.declared.message.Addressed.{Addressed}
 use Rattle.weave_entries.specs.declared.gate_log.GateEntry.{GateEntry}
 use Rattle.weave_entries.specs.declared.gate_log.GateDeed.{GateDeed}
 use Rattle.weave_entries.specs.declared.gate_log.GateDeed.TheVariants.{BeganTx, BeganProgram, Sent, Nop, Heard, Raised, Finished}
-use Rattle.weave_entries.specs.GateReplay.{Begun, clock_after_last, clock_after, clock_of, running_of, low_mark, clocks_of_message, clocks_by, clocks_in}
+use Rattle.weave_entries.specs.GateReplay.{BegunRequest, clock_after_last, clock_after, clock_of, running_of, low_mark, clocks_of_message, clocks_by, clocks_in}
 use Rattle.weave_entries.specs.GateRules.{FitsAs, IsGateLog, HearsNonePastAt, HearsNonePastAs, HearsNonePast}
 use Rattle.weave_entries.proofs.LowMarks.{low-meet}
 use Rattle.weave_entries.proofs.OwnStamps.{flight-stamp, running-stamp, of-begun, stamp-clock}
@@ -39,12 +39,12 @@ module _ (laws : ClockLaws) (gates home shards : ℕ) (below : home < gates) whe
   module _ (log : List GateEntry) (author : ℕ) (so_far : NoneTo gates (clock_of home log) (clocks_in log)) where
     low-none : (stamp : Stamp) → CountsNonePast gates stamp.clock → CountsNonePast gates (low_mark stamp (running_of log))
     low-none stamp none =
-        let others : List Clock = map (λ (begun : Begun). begun.stamp.clock) (running_of log) in
+        let others : List Clock = map (λ (begun : BegunRequest). begun.stamp.clock) (running_of log) in
         subst (CountsNonePast gates) (sym (low-meet stamp.clock (running_of log))) (laws.meet_none_past gates stamp.clock others (λ clock has.
         elim (has_read stamp.clock others clock has) [
           | inl here ↦ subst (CountsNonePast gates) here none
           | inr there ↦
-              let at = map_has (λ (begun : Begun). begun.stamp.clock) (running_of log) clock there in
+              let at = map_has (λ (begun : BegunRequest). begun.stamp.clock) (running_of log) clock there in
               subst (CountsNonePast gates) at.2 (so_far.each at.0.stamp.clock (stamp-clock log at.0.stamp (running-stamp log at.0 at.1)))
         ]))
 
@@ -62,11 +62,12 @@ module _ (laws : ClockLaws) (gates home shards : ℕ) (below : home < gates) whe
     still : (next : Clock) → CountsNonePast gates next → NoneTo gates next (clocks_in log ++ [])
     still next none = record { own = none; each = λ clock has. so_far.each clock (subst (λ (cs : List Clock). Contains cs clock) (append-nil (clocks_in log)) has) }
 
+    -- if no clock counted an event of an absent gatekeeper, none does after a right deed that heard no such clock
     pub step : (deed : GateDeed) → FitsAs home shards log author deed → HearsNonePastAs gates home log deed → NoneTo gates (clock_after home (clock_of home log) deed) (clocks_in log ++ clocks_by deed)
     step (BeganTx request stamp) fits hears = let none = begun-none (clock_of home log) stamp so_far.own hears in one-more stamp.clock stamp.clock none none
     step (BeganProgram request stamp) fits hears = let none = begun-none (clock_of home log) stamp so_far.own hears in one-more stamp.clock stamp.clock none none
     step (Sent request messages) fits hears =
-        let begun : Begun = record { author = author; request = request; stamp = fits.stamp } in
+        let begun : BegunRequest = record { author = author; request = request; stamp = fits.stamp } in
         let none : CountsNonePast gates fits.stamp.clock = so_far.each fits.stamp.clock (stamp-clock log fits.stamp (flight-stamp log begun fits.flight)) in
         record {
           own = so_far.own;
@@ -101,6 +102,7 @@ module _ (laws : ClockLaws) (gates home shards : ℕ) (below : home < gates) whe
   abbrev Rule : List GateEntry → GateEntry → Type 0
   Rule before entry = FitsAs home shards before entry.author entry.deed × HearsNonePastAs gates home before entry.deed
 
+  -- in a whole log no clock counts an event of a gatekeeper that isn't there, if none that is heard does
   pub none_past : (log : List GateEntry) → IsGateLog home shards log → HearsNonePast gates home log → NoneTo gates (clock_of home log) (clocks_in log)
   none_past log right hears =
       entries.by_entries Rule (λ log. NoneTo gates (clock_of home log) (clocks_in log))

@@ -10,7 +10,7 @@ use Rattle.vector_stamp.specs.declared.clock.Stamp.{Stamp}
 use Rattle.weave_entries.specs.declared.gate_log.GateEntry.{GateEntry}
 use Rattle.weave_entries.specs.declared.gate_log.GateDeed.{GateDeed}
 use Rattle.weave_entries.specs.declared.gate_log.GateDeed.TheVariants.{BeganTx, BeganProgram, Sent, Nop, Heard, Raised, Finished}
-use Rattle.weave_entries.specs.GateReplay.{Begun, is_begun, tx_by, program_by, txs_of, programs_of, requests_of, flight_after, flight_of, running_after, running_of}
+use Rattle.weave_entries.specs.GateReplay.{BegunRequest, is_begun, tx_by, program_by, txs_of, programs_of, requests_of, flight_after, flight_of, running_after, running_of}
 use Rattle.weave_entries.specs.GateRules.{FitsAs, IsGateLog, BeginsEachOnce, ended_by, EndsEachOnce, EndsAs, EndsWhatItBegan}
 use Rattle.weave_data.proofs.Ends.{by_last}
 use Rattle.weave_data.proofs.Ends.{flat_push}
@@ -29,10 +29,10 @@ one_place R xs pairs x y at_x at_y not_first not_second =
 
 -- What ends was begun
 
-is_begun_is : (author request : ℕ) (begun : Begun) → is_begun author request begun ≡ true → (begun.author ≡ author) × (begun.request ≡ request)
+is_begun_is : (author request : ℕ) (begun : BegunRequest) → is_begun author request begun ≡ true → (begun.author ≡ author) × (begun.request ≡ request)
 is_begun_is author request begun h = let parts = and_parts _ _ h in (eqb-true _ _ parts.0, eqb-true _ _ parts.1)
 
-flight_step : (author : ℕ) (deed : GateDeed) (flight : Option Begun) (txs : List Begun) → ((b : Begun) → flight ≡ Some b → Contains txs b) → (b : Begun) → flight_after flight author deed ≡ Some b → Contains (txs ++ tx_by author deed) b
+flight_step : (author : ℕ) (deed : GateDeed) (flight : Option BegunRequest) (txs : List BegunRequest) → ((b : BegunRequest) → flight ≡ Some b → Contains txs b) → (b : BegunRequest) → flight_after flight author deed ≡ Some b → Contains (txs ++ tx_by author deed) b
 flight_step author (BeganTx request stamp) flight txs so_far b is =
     let e : record { author = author; request = request; stamp = stamp } ≡ b = cc in
     subst (λ x. Contains (txs ++ record { author = author; request = request; stamp = stamp } ∷ []) x) e (has_last txs _)
@@ -44,12 +44,12 @@ flight_step author (Raised epoch) flight txs so_far b is = Contains-append_left 
 flight_step author (Finished request) flight txs so_far b is = Contains-append_left txs [] b (so_far b is)
 
 -- the transaction in flight was begun
-pub flight_begun : (log : List GateEntry) → (b : Begun) → flight_of log ≡ Some b → Contains (txs_of log) b
+pub flight_begun : (log : List GateEntry) → (b : BegunRequest) → flight_of log ≡ Some b → Contains (txs_of log) b
 flight_begun =
-    by_last (λ log. (b : Begun) → flight_of log ≡ Some b → Contains (txs_of log) b) (λ b is. absurd (cc)) (λ log entry so_far b is.
+    by_last (λ log. (b : BegunRequest) → flight_of log ≡ Some b → Contains (txs_of log) b) (λ b is. absurd (cc)) (λ log entry so_far b is.
     subst (λ ts. Contains ts b) (sym (txs-push log entry)) (flight_step entry.author entry.deed (flight_of log) (txs_of log) so_far b (sym (flight-push log entry) ∙ is)))
 
-running_step : (author : ℕ) (deed : GateDeed) (running programs : List Begun) → ((b : Begun) → Contains running b → Contains programs b) → (b : Begun) → Contains (running_after running author deed) b → Contains (programs ++ program_by author deed) b
+running_step : (author : ℕ) (deed : GateDeed) (running programs : List BegunRequest) → ((b : BegunRequest) → Contains running b → Contains programs b) → (b : BegunRequest) → Contains (running_after running author deed) b → Contains (programs ++ program_by author deed) b
 running_step author (BeganTx request stamp) running programs so_far b has = Contains-append_left programs [] b (so_far b has)
 running_step author (BeganProgram request stamp) running programs so_far b has =
     elim (Contains-append_cases running (record { author = author; request = request; stamp = stamp } ∷ []) b has) [
@@ -63,9 +63,9 @@ running_step author (Raised epoch) running programs so_far b has = Contains-appe
 running_step author (Finished request) running programs so_far b has = Contains-append_left programs [] b (so_far b ((filter_has _ running b has).0))
 
 -- each running program was begun
-pub running_begun : (log : List GateEntry) → (b : Begun) → Contains (running_of log) b → Contains (programs_of log) b
+pub running_begun : (log : List GateEntry) → (b : BegunRequest) → Contains (running_of log) b → Contains (programs_of log) b
 running_begun =
-    by_last (λ log. (b : Begun) → Contains (running_of log) b → Contains (programs_of log) b) (λ b has. absurd (has_none b has)) (λ log entry so_far b has.
+    by_last (λ log. (b : BegunRequest) → Contains (running_of log) b → Contains (programs_of log) b) (λ b has. absurd (has_none b has)) (λ log entry so_far b has.
     subst (λ ps. Contains ps b) (sym (programs-push log entry)) (running_step entry.author entry.deed (running_of log) (programs_of log) so_far b (subst (λ rs. Contains rs b) (running-push log entry) has)))
 
 ends_as : (home shards : ℕ) (log : List GateEntry) (author : ℕ) (deed : GateDeed) → FitsAs home shards log author deed → EndsAs log author deed
@@ -80,29 +80,30 @@ ends_as home shards log author (Finished request) fits =
     let is = is_begun_is author request found.0 found.2 in
     (found.0.stamp, subst (λ x. Contains (programs_of log) x) (λ i. record { author = is.0 i; request = is.1 i; stamp = found.0.stamp }) (running_begun log found.0 found.1))
 
+-- in a gatekeeper's log each request is sent or finished after its begin, by the author of its begin
 pub ends_what_it_began : (home shards : ℕ) (log : List GateEntry) → IsGateLog home shards log → EndsWhatItBegan log
 ends_what_it_began home shards log right before entry after is = ends_as home shards before entry.author entry.deed (right before entry after is)
 
 -- No request ends twice
 
 -- what ended, what flies and what runs are different requests, and all were begun
-pub record EndsTo (requests ended : List ℕ) (flight : Option Begun) (running : List Begun) : Type 0 where
+pub record EndsTo (requests ended : List ℕ) (flight : Option BegunRequest) (running : List BegunRequest) : Type 0 where
   pub once : AllPairs (λ a b. a ≢ b) ended
   pub among : (r : ℕ) → Contains ended r → Contains requests r
-  pub flies : (b : Begun) → flight ≡ Some b → Contains requests b.request × (Contains ended b.request → ⊥)
-  pub runs : (b : Begun) → Contains running b → Contains requests b.request × (Contains ended b.request → ⊥)
-  pub apart : (b d : Begun) → flight ≡ Some b → Contains running d → d.request ≢ b.request
+  pub flies : (b : BegunRequest) → flight ≡ Some b → Contains requests b.request × (Contains ended b.request → ⊥)
+  pub runs : (b : BegunRequest) → Contains running b → Contains requests b.request × (Contains ended b.request → ⊥)
+  pub apart : (b d : BegunRequest) → flight ≡ Some b → Contains running d → d.request ≢ b.request
   pub alone : AllPairs (λ a b. a.request ≢ b.request) running
 
-stays : (requests ended : List ℕ) (flight : Option Begun) (running : List Begun) → EndsTo requests ended flight running → EndsTo (requests ++ []) (ended ++ []) flight running
+stays : (requests ended : List ℕ) (flight : Option BegunRequest) (running : List BegunRequest) → EndsTo requests ended flight running → EndsTo (requests ++ []) (ended ++ []) flight running
 stays requests ended flight running so_far = subst (λ rs. EndsTo rs (ended ++ []) flight running) (sym (append-nil requests)) (subst (λ es. EndsTo requests es flight running) (sym (append-nil ended)) so_far)
 
 -- the requests that a deed began
 abbrev requests_by : ℕ → GateDeed → List ℕ
-requests_by author deed = map (λ (begun : Begun). begun.request) (tx_by author deed ++ program_by author deed)
+requests_by author deed = map (λ (begun : BegunRequest). begun.request) (tx_by author deed ++ program_by author deed)
 
 -- a transaction is begun, with a request that is new
-begins_tx : (author request : ℕ) (stamp : Stamp) (requests ended : List ℕ) (flight : Option Begun) (running : List Begun) → ((r : ℕ) → Contains requests r → r ≢ request) → EndsTo requests ended flight running → EndsTo (requests ++ request ∷ []) (ended ++ []) (Some (record { author = author; request = request; stamp = stamp })) running
+begins_tx : (author request : ℕ) (stamp : Stamp) (requests ended : List ℕ) (flight : Option BegunRequest) (running : List BegunRequest) → ((r : ℕ) → Contains requests r → r ≢ request) → EndsTo requests ended flight running → EndsTo (requests ++ request ∷ []) (ended ++ []) (Some (record { author = author; request = request; stamp = stamp })) running
 begins_tx author request stamp requests ended flight running new so_far =
     subst (λ es. EndsTo (requests ++ request ∷ []) es (Some (record { author = author; request = request; stamp = stamp })) running) (sym (append-nil ended)) (record {
       once = so_far.once;
@@ -116,9 +117,9 @@ begins_tx author request stamp requests ended flight running new so_far =
     })
 
 -- the same holds of a program
-begins_program : (author request : ℕ) (stamp : Stamp) (requests ended : List ℕ) (flight : Option Begun) (running : List Begun) → ((r : ℕ) → Contains requests r → r ≢ request) → EndsTo requests ended flight running → EndsTo (requests ++ request ∷ []) (ended ++ []) flight (running ++ record { author = author; request = request; stamp = stamp } ∷ [])
+begins_program : (author request : ℕ) (stamp : Stamp) (requests ended : List ℕ) (flight : Option BegunRequest) (running : List BegunRequest) → ((r : ℕ) → Contains requests r → r ≢ request) → EndsTo requests ended flight running → EndsTo (requests ++ request ∷ []) (ended ++ []) flight (running ++ record { author = author; request = request; stamp = stamp } ∷ [])
 begins_program author request stamp requests ended flight running new so_far =
-    let begun : Begun = record { author = author; request = request; stamp = stamp } in
+    let begun : BegunRequest = record { author = author; request = request; stamp = stamp } in
     subst (λ es. EndsTo (requests ++ request ∷ []) es flight (running ++ begun ∷ [])) (sym (append-nil ended)) (record {
       once = so_far.once;
       among = λ r has. Contains-append_left requests (request ∷ []) r (so_far.among r has);
@@ -126,20 +127,20 @@ begins_program author request stamp requests ended flight running new so_far =
       runs = λ b has. elim (Contains-append_cases running (begun ∷ []) b has) [
         | inl earlier ↦ let was = so_far.runs b earlier in (Contains-append_left requests (request ∷ []) b.request was.0, was.1)
         | inr last ↦
-            let e : request ≡ b.request = ap (λ (x : Begun). x.request) (only begun b last) in
+            let e : request ≡ b.request = ap (λ (x : BegunRequest). x.request) (only begun b last) in
             (subst (Contains (requests ++ request ∷ [])) e (has_last requests request), λ in_ended. new request (so_far.among request (subst (Contains ended) (sym e) in_ended)) refl)
       ];
       apart = λ b d is has same. elim (Contains-append_cases running (begun ∷ []) d has) [
         | inl earlier ↦ so_far.apart b d is earlier same
         | inr last ↦
-            let e : request ≡ d.request = ap (λ (x : Begun). x.request) (only begun d last) in
+            let e : request ≡ d.request = ap (λ (x : BegunRequest). x.request) (only begun d last) in
             new b.request ((so_far.flies b is).0) (sym (e ∙ same))
       ];
-      alone = pairs_push (λ (a b : Begun). a.request ≢ b.request) running begun so_far.alone (λ d has. new d.request ((so_far.runs d has).0));
+      alone = pairs_push (λ (a b : BegunRequest). a.request ≢ b.request) running begun so_far.alone (λ d has. new d.request ((so_far.runs d has).0));
     })
 
 -- the transaction in flight is sent
-sends_flight : (b : Begun) (requests ended : List ℕ) (flight : Option Begun) (running : List Begun) → flight ≡ Some b → EndsTo requests ended flight running → EndsTo (requests ++ []) (ended ++ b.request ∷ []) None running
+sends_flight : (b : BegunRequest) (requests ended : List ℕ) (flight : Option BegunRequest) (running : List BegunRequest) → flight ≡ Some b → EndsTo requests ended flight running → EndsTo (requests ++ []) (ended ++ b.request ∷ []) None running
 sends_flight b requests ended flight running flying so_far =
     let was = so_far.flies b flying in
     subst (λ rs. EndsTo rs (ended ++ b.request ∷ []) None running) (sym (append-nil requests)) (record {
@@ -161,14 +162,14 @@ sends_flight b requests ended flight running flying so_far =
     })
 
 -- a running program is finished
-finishes : (author request : ℕ) (requests ended : List ℕ) (flight : Option Begun) (running : List Begun) → list_any (is_begun author request) running ≡ true → EndsTo requests ended flight running → EndsTo (requests ++ []) (ended ++ request ∷ []) flight (filter (λ begun. not (is_begun author request begun)) running)
+finishes : (author request : ℕ) (requests ended : List ℕ) (flight : Option BegunRequest) (running : List BegunRequest) → list_any (is_begun author request) running ≡ true → EndsTo requests ended flight running → EndsTo (requests ++ []) (ended ++ request ∷ []) flight (filter (λ begun. not (is_begun author request begun)) running)
 finishes author request requests ended flight running any so_far =
     let found = any_has (is_begun author request) running any in
-    let one : Begun = found.0 in
+    let one : BegunRequest = found.0 in
     let here : Contains running one = found.1 in
     let is = is_begun_is author request one found.2 in
     let was = so_far.runs one here in
-    let left : Begun → Bool = λ begun. not (is_begun author request begun) in
+    let left : BegunRequest → Bool = λ begun. not (is_begun author request begun) in
     subst (λ rs. EndsTo rs (ended ++ request ∷ []) flight (filter left running)) (sym (append-nil requests)) (record {
       once = pairs_push (λ x y. x ≢ y) ended request so_far.once (λ r has same. was.1 (subst (Contains ended) (same ∙ sym is.1) has));
       among = λ r has. elim (Contains-append_cases ended (request ∷ []) r has) [
@@ -190,17 +191,17 @@ finishes author request requests ended flight running any so_far =
               | inl earlier ↦ runs.1 earlier
               | inr last ↦
                   let same : one.request ≡ d.request = is.1 ∙ only request d.request last in
-                  let e : one ≡ d = one_place (λ (a b : Begun). a.request ≢ b.request) running so_far.alone one d here kept.0 (λ differ. differ same) (λ differ. differ (sym same)) in
+                  let e : one ≡ d = one_place (λ (a b : BegunRequest). a.request ≢ b.request) running so_far.alone one d here kept.0 (λ differ. differ same) (λ differ. differ (sym same)) in
                   let gone : left one ≡ false = rw found.2 refl in
-                  let stays_left : left one ≡ true = subst (λ (x : Begun). left x ≡ true) (sym e) kept.1 in
+                  let stays_left : left one ≡ true = subst (λ (x : BegunRequest). left x ≡ true) (sym e) kept.1 in
                   both_ways (left one) gone stays_left
             ],
           );
       apart = λ b d flying has. so_far.apart b d flying ((filter_has left running d has).0);
-      alone = AllPairs-filter (λ (a b : Begun). a.request ≢ b.request) left running so_far.alone;
+      alone = AllPairs-filter (λ (a b : BegunRequest). a.request ≢ b.request) left running so_far.alone;
     })
 
-once_step : (home shards : ℕ) (log : List GateEntry) (author : ℕ) (deed : GateDeed) (requests ended : List ℕ) (flight : Option Begun) (running : List Begun) → flight ≡ flight_of log → running ≡ running_of log → FitsAs home shards log author deed → AllPairs (λ a b. a ≢ b) (requests ++ requests_by author deed) → EndsTo requests ended flight running → EndsTo (requests ++ requests_by author deed) (ended ++ ended_by deed) (flight_after flight author deed) (running_after running author deed)
+once_step : (home shards : ℕ) (log : List GateEntry) (author : ℕ) (deed : GateDeed) (requests ended : List ℕ) (flight : Option BegunRequest) (runs : List BegunRequest) → flight ≡ flight_of log → runs ≡ running_of log → FitsAs home shards log author deed → AllPairs (λ a b. a ≢ b) (requests ++ requests_by author deed) → EndsTo requests ended flight runs → EndsTo (requests ++ requests_by author deed) (ended ++ ended_by deed) (flight_after flight author deed) (running_after runs author deed)
 once_step home shards log author (BeganTx request stamp) requests ended flight running is_flight is_running fits distinct so_far = begins_tx author request stamp requests ended flight running (pairs_last (λ a b. a ≢ b) requests request distinct) so_far
 once_step home shards log author (BeganProgram request stamp) requests ended flight running is_flight is_running fits distinct so_far = begins_program author request stamp requests ended flight running (pairs_last (λ a b. a ≢ b) requests request distinct) so_far
 once_step home shards log author (Sent request messages) requests ended flight running is_flight is_running fits distinct so_far = sends_flight (record { author = author; request = request; stamp = fits.stamp }) requests ended flight running (is_flight ∙ fits.flight) so_far
@@ -213,6 +214,7 @@ once_step home shards log author (Finished request) requests ended flight runnin
 abbrev ended_of : List GateEntry → List ℕ
 ended_of log = flat_map (λ (entry : GateEntry). ended_by entry.deed) log
 
+-- if each request is begun once, those that ended, fly and run are different ones, and all were begun
 pub ends_to : (home shards : ℕ) (log : List GateEntry) → IsGateLog home shards log → BeginsEachOnce log → EndsTo (requests_of log) (ended_of log) (flight_of log) (running_of log)
 ends_to home shards =
     by_entries home shards (λ log. BeginsEachOnce log → EndsTo (requests_of log) (ended_of log) (flight_of log) (running_of log))

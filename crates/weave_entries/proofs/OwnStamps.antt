@@ -13,7 +13,7 @@ use Rattle.weave_entries.specs.declared.verdict.Verdict.TheVariants.{Committed, 
 use Rattle.weave_entries.specs.declared.gate_log.GateEntry.{GateEntry}
 use Rattle.weave_entries.specs.declared.gate_log.GateDeed.{GateDeed}
 use Rattle.weave_entries.specs.declared.gate_log.GateDeed.TheVariants.{BeganTx, BeganProgram, Sent, Nop, Heard, Raised, Finished}
-use Rattle.weave_entries.specs.GateReplay.{Begun, stamps_by, stamps_of, tx_by, program_by, begun_by, begun_in, txs_of, programs_of, flight_of, running_of, messages_by, to_shard, addressed_to, channel_of, sent_in, low_mark, clocks_by, clocks_in}
+use Rattle.weave_entries.specs.GateReplay.{BegunRequest, stamps_by, stamps_of, tx_by, program_by, begun_by, begun_in, txs_of, programs_of, flight_of, running_of, messages_by, to_shard, addressed_to, channel_of, sent_in, low_mark, clocks_by, clocks_in}
 use Rattle.weave_entries.specs.GateRules.{FitsAs, IsGateLog}
 use Rattle.weave_entries.specs.Sending.{message_to, messages_of, shards_named}
 use Rattle.weave_entries.proofs.Once.{flight_begun, running_begun}
@@ -21,34 +21,39 @@ use Rattle.weave_entries.proofs.Replay.{sent-push, stamps-push, by_entries}
 
 -- what was begun has one of the stamps
 
-deed-begun : (author : ℕ) (deed : GateDeed) (b : Begun) → Contains (begun_by author deed) b → Contains (stamps_by deed) b.stamp
-deed-begun author (BeganTx request stamp) b has = subst (λ (x : Begun). Contains (stamp ∷ []) x.stamp) (only _ b has) (has_head stamp [])
-deed-begun author (BeganProgram request stamp) b has = subst (λ (x : Begun). Contains (stamp ∷ []) x.stamp) (only _ b has) (has_head stamp [])
+deed-begun : (author : ℕ) (deed : GateDeed) (b : BegunRequest) → Contains (begun_by author deed) b → Contains (stamps_by deed) b.stamp
+deed-begun author (BeganTx request stamp) b has = subst (λ (x : BegunRequest). Contains (stamp ∷ []) x.stamp) (only _ b has) (has_head stamp [])
+deed-begun author (BeganProgram request stamp) b has = subst (λ (x : BegunRequest). Contains (stamp ∷ []) x.stamp) (only _ b has) (has_head stamp [])
 deed-begun author (Sent request messages) b has = absurd (has_none b has)
 deed-begun author (Nop shard number stamp low) b has = absurd (has_none b has)
 deed-begun author (Heard clock) b has = absurd (has_none b has)
 deed-begun author (Raised epoch) b has = absurd (has_none b has)
 deed-begun author (Finished request) b has = absurd (has_none b has)
 
-pub begun-stamp : (log : List GateEntry) (b : Begun) → Contains (begun_in log) b → Contains (stamps_of log) b.stamp
+-- the stamp of a begun request is one that the gatekeeper made
+pub begun-stamp : (log : List GateEntry) (b : BegunRequest) → Contains (begun_in log) b → Contains (stamps_of log) b.stamp
 begun-stamp log b has =
     let at = flat_has (λ (entry : GateEntry). begun_by entry.author entry.deed) log b has in
     has_flat (λ (entry : GateEntry). stamps_by entry.deed) log at.0 b.stamp at.1 (deed-begun at.0.author at.0.deed b at.2)
 
-pub tx-begun : (log : List GateEntry) (b : Begun) → Contains (txs_of log) b → Contains (begun_in log) b
+-- a begun transaction is one of the begun requests
+pub tx-begun : (log : List GateEntry) (b : BegunRequest) → Contains (txs_of log) b → Contains (begun_in log) b
 tx-begun log b has =
     let at = flat_has (λ (entry : GateEntry). tx_by entry.author entry.deed) log b has in
     has_flat (λ (entry : GateEntry). begun_by entry.author entry.deed) log at.0 b at.1 (Contains-append_left (tx_by at.0.author at.0.deed) (program_by at.0.author at.0.deed) b at.2)
 
-pub program-begun : (log : List GateEntry) (b : Begun) → Contains (programs_of log) b → Contains (begun_in log) b
+-- the same of a program
+pub program-begun : (log : List GateEntry) (b : BegunRequest) → Contains (programs_of log) b → Contains (begun_in log) b
 program-begun log b has =
     let at = flat_has (λ (entry : GateEntry). program_by entry.author entry.deed) log b has in
     has_flat (λ (entry : GateEntry). begun_by entry.author entry.deed) log at.0 b at.1 (Contains-append_right (tx_by at.0.author at.0.deed) (program_by at.0.author at.0.deed) b at.2)
 
-pub flight-stamp : (log : List GateEntry) (b : Begun) → flight_of log ≡ Some b → Contains (stamps_of log) b.stamp
+-- the stamp of the transaction in flight is one that the gatekeeper made
+pub flight-stamp : (log : List GateEntry) (b : BegunRequest) → flight_of log ≡ Some b → Contains (stamps_of log) b.stamp
 flight-stamp log b is = begun-stamp log b (tx-begun log b (flight_begun log b is))
 
-pub running-stamp : (log : List GateEntry) (b : Begun) → Contains (running_of log) b → Contains (stamps_of log) b.stamp
+-- the same of a running program
+pub running-stamp : (log : List GateEntry) (b : BegunRequest) → Contains (running_of log) b → Contains (stamps_of log) b.stamp
 running-stamp log b has = begun-stamp log b (program-begun log b (running_begun log b has))
 
 -- the messages of a transaction have its stamp and its low mark
@@ -56,7 +61,8 @@ pub record IsOf (stamp : Stamp) (low : Clock) (addressed : Addressed) : Type 0 w
   pub stamp_is : addressed.message.stamp ≡ stamp
   pub low_is : addressed.message.low ≡ low
 
-pub of-begun : (shards : ℕ) (log : List GateEntry) (begun : Begun) (ops : List Op) (verdict : Verdict) (addressed : Addressed) → Contains (messages_of shards log begun ops verdict) addressed → IsOf begun.stamp (low_mark begun.stamp (running_of log)) addressed
+-- each message of a transaction has its stamp, and the low mark over the programs that are running
+pub of-begun : (shards : ℕ) (log : List GateEntry) (begun : BegunRequest) (ops : List Op) (verdict : Verdict) (addressed : Addressed) → Contains (messages_of shards log begun ops verdict) addressed → IsOf begun.stamp (low_mark begun.stamp (running_of log)) addressed
 of-begun shards log begun ops (Committed number answers counts) addressed has =
     let at = map_has (message_to shards log begun ops counts) (shards_named shards counts) addressed has in
     subst (IsOf begun.stamp (low_mark begun.stamp (running_of log))) at.2 (record { stamp_is = refl; low_is = refl })
@@ -68,7 +74,7 @@ sent_step : (home shards : ℕ) (log : List GateEntry) (author : ℕ) (deed : Ga
 sent_step home shards log author (BeganTx request stamp) fits addressed has = absurd (has_none addressed has)
 sent_step home shards log author (BeganProgram request stamp) fits addressed has = absurd (has_none addressed has)
 sent_step home shards log author (Sent request messages) fits addressed has =
-    let begun : Begun = record { author = author; request = request; stamp = fits.stamp } in
+    let begun : BegunRequest = record { author = author; request = request; stamp = fits.stamp } in
     let is = of-begun shards log begun fits.ops fits.verdict addressed (subst (λ (ms : List Addressed). Contains ms addressed) fits.messages_are has) in
     Contains-append_left (stamps_of log) [] addressed.message.stamp (subst (λ (s : Stamp). Contains (stamps_of log) s) (sym is.stamp_is) (flight-stamp log begun fits.flight))
 sent_step home shards log author (Nop shard number stamp low) fits addressed has =
@@ -77,6 +83,7 @@ sent_step home shards log author (Heard clock) fits addressed has = absurd (has_
 sent_step home shards log author (Raised epoch) fits addressed has = absurd (has_none addressed has)
 sent_step home shards log author (Finished request) fits addressed has = absurd (has_none addressed has)
 
+-- the stamp of each message that was sent is one that the gatekeeper made
 pub sent-stamp : (home shards : ℕ) (log : List GateEntry) → IsGateLog home shards log → (addressed : Addressed) → Contains (sent_in log) addressed → Contains (stamps_of log) addressed.message.stamp
 sent-stamp home shards =
     by_entries home shards (λ log. (addressed : Addressed) → Contains (sent_in log) addressed → Contains (stamps_of log) addressed.message.stamp)
@@ -105,6 +112,7 @@ deed-clock (Heard clock) stamp has = absurd (has_none stamp has)
 deed-clock (Raised epoch) stamp has = absurd (has_none stamp has)
 deed-clock (Finished request) stamp has = absurd (has_none stamp has)
 
+-- the clock of each stamp that the gatekeeper made is one of the log's clocks
 pub stamp-clock : (log : List GateEntry) (stamp : Stamp) → Contains (stamps_of log) stamp → Contains (clocks_in log) stamp.clock
 stamp-clock log stamp has =
     let at = flat_has (λ (entry : GateEntry). stamps_by entry.deed) log stamp has in

@@ -27,13 +27,16 @@ module _ (laws : ClockLaws) where
   -- What is heard before a tick
 
   module _ (home : ℕ) (clock : Clock) (below : home < 8) (eight : HasEightCounts clock) where
+    -- the clock has eight counts after the last stamp of a session, if any, was heard
     pub last-eight : (last : Option Stamp) → ForSome last (λ heard. HasEightCounts heard.clock) → HasEightCounts (clock_after_last home clock last)
     last-eight None heard = eight
     last-eight (Some stamp) heard = laws.hearing_eight home clock stamp.clock below eight (heard stamp refl)
 
+    -- the stamp of a begin has eight counts
     pub begun-eight : (last : Option Stamp) → ForSome last (λ heard. HasEightCounts heard.clock) → HasEightCounts ((begun_stamp home clock last).clock)
     begun-eight last heard = length-set _ _ _ ∙ last-eight last heard
 
+    -- the clock is before the stamp that is begun at it
     pub begun-before : (last : Option Stamp) → ForSome last (λ heard. HasEightCounts heard.clock) → IsTrue (is_before clock ((begun_stamp home clock last).clock))
     begun-before None heard = laws.tick_is_later home clock below eight
     begun-before (Some stamp) heard = laws.then_rises home clock stamp.clock below eight (heard stamp refl)
@@ -47,6 +50,7 @@ module _ (laws : ClockLaws) where
           | inr (inr higher) ↦ let e = laws.hearing_higher home clock heard below eight eight_heard higher in omega arith
         ]
 
+    -- nor does hearing the last stamp of a session, if there is one
     pub own-last : (last : Option Stamp) → ForSome last (λ heard. HasEightCounts heard.clock) → count_of home (clock_after_last home clock last) ≤ count_of home clock
     own-last None heard = omega arith
     own-last (Some stamp) heard = own-hearing stamp.clock (heard stamp refl)

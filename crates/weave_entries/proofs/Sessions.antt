@@ -92,6 +92,7 @@ module _ (transitive : (a b c : Stamp) → IsTrue (stamp_before a b) → IsTrue 
   step (Begun request stamp) fits = begun_on request stamp fits
   step (Replied request) fits = replied_on request fits
 
+-- in a session's log the begun requests are its first ones, so are those with replies, and the begun stamps rise
 pub in_turn : ((a b c : Stamp) → IsTrue (stamp_before a b) → IsTrue (stamp_before b c) → IsTrue (stamp_before a c)) → (number : ℕ) (requests : List ℕ) (log : List SessionEntry) → IsSessionLog number requests log → IsInTurn requests (session_of requests log) (begins_in log) (replied_in log)
 in_turn transitive number requests =
     entries.by_entries (λ before (entry : SessionEntry). (entry.author ≡ number) × FitsSession (session_of requests before) entry.deed) (λ log. IsInTurn requests (session_of requests log) (begins_in log) (replied_in log))

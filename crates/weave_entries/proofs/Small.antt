@@ -13,7 +13,7 @@ use Rattle.weave_entries.specs.declared.message.Addressed.{Addressed}
 use Rattle.weave_entries.specs.declared.gate_log.GateEntry.{GateEntry}
 use Rattle.weave_entries.specs.declared.gate_log.GateDeed.{GateDeed}
 use Rattle.weave_entries.specs.declared.gate_log.GateDeed.TheVariants.{BeganTx, BeganProgram, Sent, Nop, Heard, Raised, Finished}
-use Rattle.weave_entries.specs.GateReplay.{Begun, clock_after_last, begun_stamp, clock_after, clock_of, messages_by, to_shard, addressed_to}
+use Rattle.weave_entries.specs.GateReplay.{BegunRequest, clock_after_last, begun_stamp, clock_after, clock_of, messages_by, to_shard, addressed_to}
 use Rattle.weave_entries.specs.GateRules.{IsBegunAt, FitsAs, IsGateLog}
 use Rattle.weave_entries.specs.Sending.{messages_of}
 use Rattle.weave_entries.proofs.Replay.{clock-push, addressed-push, by_entries}
@@ -26,10 +26,12 @@ module _ (laws : ClockLaws) where
   zeroes (suc many) zero = refl
   zeroes (suc many) (suc place) = zeroes many place
 
+  -- the first clock of an epoch counts no event of any gatekeeper
   pub own-first : (home epoch : ℕ) → count_of home (first_clock epoch) ≡ 0
   own-first home epoch = zeroes 8 home
 
   module _ (home : ℕ) (clock : Clock) (below : home < 8) (eight : HasEightCounts clock) where
+    -- an event of the gatekeeper raises its own count by one
     pub own-tick : count_of home (clock_after_tick home clock) ≡ count_of home clock + 1
     own-tick = laws.tick_counts home clock below eight
 
@@ -53,6 +55,7 @@ module _ (laws : ClockLaws) where
     own_step shards log author (Raised epoch) is fits = let e = own-first home epoch in omega arith
     own_step shards log author (Finished request) is fits = omega arith
 
+  -- the own count of a gatekeeper is at most the number of its log's entries
   pub own_small : (home shards : ℕ) → home < 8 → (log : List GateEntry) → IsGateLog home shards log → count_of home (clock_of home log) ≤ length log
   own_small home shards below =
       by_entries home shards (λ log. count_of home (clock_of home log) ≤ length log)
@@ -62,16 +65,17 @@ module _ (laws : ClockLaws) where
       let e : count_of home (clock_of home (log ++ entry ∷ [])) ≡ count_of home (clock_after home (clock_of home log) entry.deed) = ap (λ (c : Clock). count_of home c) (clock-push log entry home) in
       omega (arith, length-append log (entry ∷ [])))
 
--- a right deed sends at most one message to a shard, and none to one that isn't there
-sent_one : (shards : ℕ) (log : List GateEntry) (begun : Begun) (ops : List Op) (shard : ℕ) (some : List Addressed) → OneAtMost shards log begun ops shard some → length some ≤ 1
+-- a list of no message, or of the one made for a shard, has at most one message
+sent_one : (shards : ℕ) (log : List GateEntry) (begun : BegunRequest) (ops : List Op) (shard : ℕ) (some : List Addressed) → OneAtMost shards log begun ops shard some → length some ≤ 1
 sent_one shards log begun ops shard some NoMessage = omega arith
 sent_one shards log begun ops shard some (OneMessage counts) = omega arith
 
+-- a right deed sends at most one message to a shard
 sent_step : (home shards : ℕ) (log : List GateEntry) (author : ℕ) (deed : GateDeed) (shard : ℕ) → FitsAs home shards log author deed → length (to_shard shard (messages_by deed)) ≤ 1
 sent_step home shards log author (BeganTx request stamp) shard fits = omega arith
 sent_step home shards log author (BeganProgram request stamp) shard fits = omega arith
 sent_step home shards log author (Sent request messages) shard fits =
-    let begun : Begun = record { author = author; request = request; stamp = fits.stamp } in
+    let begun : BegunRequest = record { author = author; request = request; stamp = fits.stamp } in
     let made : messages_of shards log begun fits.ops fits.verdict ≡ messages = sym fits.messages_are in
     subst (λ (ms : List Addressed). length (to_shard shard ms) ≤ 1) made (sent_one shards log begun fits.ops shard _ (one_at_most shards log begun fits.ops shard fits.verdict))
 sent_step home shards log author (Nop to number stamp low) shard fits =
@@ -83,6 +87,7 @@ sent_step home shards log author (Heard heard) shard fits = omega arith
 sent_step home shards log author (Raised epoch) shard fits = omega arith
 sent_step home shards log author (Finished request) shard fits = omega arith
 
+-- the messages that a gatekeeper sent to a shard are at most as many as its log's entries
 pub sent_small : (home shards shard : ℕ) → (log : List GateEntry) → IsGateLog home shards log → length (addressed_to shard log) ≤ length log
 sent_small home shards shard =
     by_entries home shards (λ log. length (addressed_to shard log) ≤ length log)
@@ -92,6 +97,7 @@ sent_small home shards shard =
     let e = ap length (addressed-push log entry shard) in
     omega (arith, length-append log (entry ∷ []), length-append (addressed_to shard log) (to_shard shard (messages_by entry.deed))))
 
+-- a right deed sends no message to a shard that isn't there
 none_step : (home shards : ℕ) (log : List GateEntry) (author : ℕ) (deed : GateDeed) (shard : ℕ) → shards ≤ shard → FitsAs home shards log author deed → to_shard shard (messages_by deed) ≡ []
 none_step home shards log author (BeganTx request stamp) shard beyond fits = refl
 none_step home shards log author (BeganProgram request stamp) shard beyond fits = refl
@@ -106,6 +112,7 @@ none_step home shards log author (Heard heard) shard beyond fits = refl
 none_step home shards log author (Raised epoch) shard beyond fits = refl
 none_step home shards log author (Finished request) shard beyond fits = refl
 
+-- nothing is sent to a shard that isn't there
 pub none_sent : (home shards shard : ℕ) → shards ≤ shard → (log : List GateEntry) → IsGateLog home shards log → addressed_to shard log ≡ []
 none_sent home shards shard beyond =
     by_entries home shards (λ log. addressed_to shard log ≡ [])

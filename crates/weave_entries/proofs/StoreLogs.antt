@@ -14,7 +14,7 @@ use Rattle.graph_ops.specs.declared.tx.Got.{Got}
 use Rattle.graph_ops.specs.PlainGraph.{PlainGraph, TxOutcome, transaction}
 use Rattle.vector_stamp.specs.declared.clock.Stamp.{Stamp}
 use Rattle.vector_stamp.specs.Order.{stamp_before, unordered}
-use Rattle.vector_stamp.specs.Precedence.{Given, precedes}
+use Rattle.vector_stamp.specs.Precedence.{GivenPair, precedes}
 use Rattle.weave_entries.specs.declared.store_log.StoreEntry.{StoreEntry}
 use Rattle.weave_entries.specs.declared.verdict.Counted.{Counted}
 use Rattle.weave_entries.specs.declared.verdict.Verdict.TheVariants.{Committed, Conflict, Refused}
@@ -23,12 +23,15 @@ use Rattle.weave_entries.specs.StoreRule.{LastCommit, lasts_of, asked_of, counts
 
 -- One more entry, and one more commit
 
+-- one more entry adds its judgement
 pub judgements-push : (log : List StoreEntry) (entry : StoreEntry) → judgements_of (log ++ entry ∷ []) ≡ judgements_of log ++ judged_by entry.author entry.deed ∷ []
 judgements-push log entry = map-append (λ (one : StoreEntry). judged_by one.author one.deed) log (entry ∷ [])
 
+-- one more entry adds its commit, if it is one
 pub commits-push : (log : List StoreEntry) (entry : StoreEntry) → commits_of (log ++ entry ∷ []) ≡ commits_of log ++ commit_by entry.deed
 commits-push log entry = flat_push (λ (one : StoreEntry). commit_by one.deed) log entry
 
+-- after one more commit the last one that names a vertex is this one, if it names it, and otherwise the one before
 pub last-push : (v : Name) (commits : List Commit) (commit : Commit) → last_naming v (commits ++ commit ∷ []) ≡ cond (names_vertex v commit) (Some commit) (last_naming v commits)
 last-push v commits commit = ap (find (names_vertex v)) (reverse-append commits (commit ∷ []))
 
@@ -36,12 +39,14 @@ one_or_none : (b : Bool) (commit : Commit) → length (cond b (commit ∷ []) []
 one_or_none true commit = refl
 one_or_none false commit = refl
 
+-- one more commit raises the count of those that name a vertex by one if it names it, and otherwise by none
 pub count-push : (v : Name) (commits : List Commit) (commit : Commit) → count_naming v (commits ++ commit ∷ []) ≡ count_naming v commits + cond (names_vertex v commit) 1 0
 count-push v commits commit =
     ap length (filter-append (names_vertex v) commits (commit ∷ []))
     ∙ length-append (filter (names_vertex v) commits) (filter (names_vertex v) (commit ∷ []))
     ∙ ap (λ n. count_naming v commits + n) (one_or_none (names_vertex v commit) commit)
 
+-- after one more commit the graph is the one before with that commit replayed on it
 pub graph-push : (commits : List Commit) (commit : Commit) → graph_committed (commits ++ commit ∷ []) ≡ graph_with_commit (graph_committed commits) commit
 graph-push commits commit = fold-append _ _ commits (commit ∷ [])
 
@@ -54,7 +59,8 @@ commits_if ops commits None (Some last) outcome number answers counts is = absur
 commits_if ops commits None None (Ok passed) number answers counts is = let a : length commits + 1 ≡ number = cc in let b : counts_of ops commits ≡ counts = cc in (sym a, sym b)
 commits_if ops commits None None (Err stopped) number answers counts is = absurd cc
 
-pub commits-if : (pairs : List Given) (commits : List Commit) (stamp : Stamp) (ops : List Op) (number : ℕ) (answers : List Got) (counts : List Counted) → verdict_on pairs commits stamp ops ≡ Committed number answers counts → (number ≡ length commits + 1) × (counts ≡ counts_of ops commits)
+-- a commit has the next number after the commits before it, and counts how many of these name each of its vertices
+pub commits-if : (pairs : List GivenPair) (commits : List Commit) (stamp : Stamp) (ops : List Op) (number : ℕ) (answers : List Got) (counts : List Counted) → verdict_on pairs commits stamp ops ≡ Committed number answers counts → (number ≡ length commits + 1) × (counts ≡ counts_of ops commits)
 commits-if pairs commits stamp ops number answers counts is =
     commits_if ops commits
     (find (λ (last : LastCommit). stamp_before stamp last.commit.stamp) (lasts_of ops commits))
@@ -72,7 +78,8 @@ passes_if ops commits None (Some last) outcome number answers counts is = absurd
 passes_if ops commits None None (Ok passed) number answers counts is = let a : passed.gots ≡ answers = cc in (passed.graph, ap (passed_with passed.graph) a)
 passes_if ops commits None None (Err stopped) number answers counts is = absurd cc
 
-pub passes-if : (pairs : List Given) (commits : List Commit) (stamp : Stamp) (ops : List Op) (number : ℕ) (answers : List Got) (counts : List Counted)
+-- if the verdict is a commit, the operations pass on the graph of the commits before, with the verdict's answers
+pub passes-if : (pairs : List GivenPair) (commits : List Commit) (stamp : Stamp) (ops : List Op) (number : ℕ) (answers : List Got) (counts : List Counted)
     → verdict_on pairs commits stamp ops ≡ Committed number answers counts → (graph : PlainGraph) × (transaction ops (graph_committed commits) ≡ Ok (record { graph = graph; gots = answers }))
 passes-if pairs commits stamp ops number answers counts is =
     passes_if ops commits
@@ -92,7 +99,8 @@ refused_if ops commits None None (Err stopped) op reason at is =
     let n : length commits ≡ at = cc in
     (sym n, λ i. Err (record { op = a i; reason = b i }))
 
-pub refused-if : (pairs : List Given) (commits : List Commit) (stamp : Stamp) (ops : List Op) (op : ℕ) (reason : Reason) (at : ℕ)
+-- a refusal counts the commits before it, and gives the operation that their graph refuses, with the reason
+pub refused-if : (pairs : List GivenPair) (commits : List Commit) (stamp : Stamp) (ops : List Op) (op : ℕ) (reason : Reason) (at : ℕ)
     → verdict_on pairs commits stamp ops ≡ Refused op reason at → (at ≡ length commits) × (transaction ops (graph_committed commits) ≡ Err (record { op = op; reason = reason }))
 refused-if pairs commits stamp ops op reason at is =
     refused_if ops commits
@@ -108,7 +116,7 @@ newer_if P ops commits None None (Ok passed) of_first of_second vertex newer is 
 newer_if P ops commits None None (Err stopped) of_first of_second vertex newer is = absurd cc
 
 -- which the new transaction precedes
-pub conflict-if : (pairs : List Given) (commits : List Commit) (stamp : Stamp) (ops : List Op) → ((a b : Stamp) → IsTrue (stamp_before a b) → IsTrue (precedes pairs a b)) → (vertex : Name) (newer : ℕ) → verdict_on pairs commits stamp ops ≡ Conflict vertex newer → (last : LastCommit) × (last.vertex ≡ vertex) × (last.commit.request ≡ newer) × Contains (lasts_of ops commits) last × IsTrue (precedes pairs stamp last.commit.stamp)
+pub conflict-if : (pairs : List GivenPair) (commits : List Commit) (stamp : Stamp) (ops : List Op) → ((a b : Stamp) → IsTrue (stamp_before a b) → IsTrue (precedes pairs a b)) → (vertex : Name) (newer : ℕ) → verdict_on pairs commits stamp ops ≡ Conflict vertex newer → (last : LastCommit) × (last.vertex ≡ vertex) × (last.commit.request ≡ newer) × Contains (lasts_of ops commits) last × IsTrue (precedes pairs stamp last.commit.stamp)
 conflict-if pairs commits stamp ops ordered vertex newer is =
     let found = newer_if (λ (last : LastCommit). Contains (lasts_of ops commits) last × IsTrue (precedes pairs stamp last.commit.stamp)) ops commits
     (find (λ (last : LastCommit). stamp_before stamp last.commit.stamp) (lasts_of ops commits))

@@ -32,6 +32,7 @@ module _ (laws : ClockLaws) where
   HeardSo home clock heard = ((clock.epoch < heard.epoch) × (count_of home heard ≡ 0)) ⊎ ((heard.epoch ≡ clock.epoch) × (count_of home heard ≡ count_of home clock))
 
   module _ (home : ℕ) (clock : Clock) (below : home < 8) (eight : HasEightCounts clock) where
+    -- hearing a clock leaves a later epoch with own count 0, or the same epoch with the same own count
     pub heard_so : (heard : Clock) → HasEightCounts heard → HeardSo home clock (clock_after_hearing home clock heard)
     heard_so heard eight_heard =
         elim (cases_order heard.epoch clock.epoch) [
@@ -42,6 +43,7 @@ module _ (laws : ClockLaws) where
               inl (omega arith, laws.hearing_higher home clock heard below eight eight_heard higher)
         ]
 
+    -- the same after the last stamp of a session, if any, was heard
     pub last_so : (last : Option Stamp) → ForSome last (λ heard. HasEightCounts heard.clock) → HeardSo home clock (clock_after_last home clock last)
     last_so None each = inr (refl, refl)
     last_so (Some stamp) each = heard_so stamp.clock (each stamp refl)
@@ -50,6 +52,7 @@ module _ (laws : ClockLaws) where
   abbrev pub TickedSo : ℕ → Clock → Stamp → Type 0
   TickedSo home clock stamp = (stamp.home ≡ home) × (((clock.epoch < stamp.clock.epoch) × (count_of home stamp.clock ≡ 1)) ⊎ ((stamp.clock.epoch ≡ clock.epoch) × (count_of home stamp.clock ≡ count_of home clock + 1)))
 
+  -- a begun stamp is the gatekeeper's own, in a later epoch with own count 1 or in the same one with one more
   pub ticked_so : (home : ℕ) (clock : Clock) (stamp : Stamp) → home < 8 → HasEightCounts clock → IsBegunAt home clock stamp → TickedSo home clock stamp
   ticked_so home clock stamp below eight begun =
       let heard : Clock = clock_after_last home clock begun.last in
@@ -73,6 +76,7 @@ module _ (laws : ClockLaws) where
   abbrev pub NoLater : ℕ → Clock → Stamp → Type 0
   NoLater home clock stamp = (stamp.clock.epoch < clock.epoch) ⊎ ((stamp.clock.epoch ≡ clock.epoch) × (count_of home stamp.clock ≤ count_of home clock))
 
+  -- a stamp at most the clock is of an earlier epoch, or of the same one with an own count at most the clock's
   pub no_later : (home : ℕ) (clock : Clock) (stamp : Stamp) → IsTrue (is_at_most stamp.clock clock) → NoLater home clock stamp
   no_later home clock stamp at_most =
       elim (laws.at_most_each stamp.clock clock at_most) [
@@ -158,7 +162,7 @@ module _ (laws : ClockLaws) where
         hears_on home clock (first_clock epoch) stamps each (inl (less, own-first laws home epoch)) so_far
     step (Finished request) clock stamps eight is each fits so_far = hears_on home clock clock stamps each (inr (refl, refl)) so_far
 
-  -- this holds at the end of a gatekeeper's log
+  -- a log's stamps are its gatekeeper's, their ids rise, and the own count is the number of those in the clock's epoch
   pub ticks_rise_to : (home shards : ℕ) → home < 8 → (log : List GateEntry) → IsGateLog home shards log → TicksTo home (clock_of home log) (stamps_of log)
   ticks_rise_to home shards below =
       by_entries home shards (λ log. TicksTo home (clock_of home log) (stamps_of log))

@@ -59,48 +59,49 @@ ticks_of epoch log = count_by (λ (stamp : Stamp). stamp.clock.epoch == epoch) (
 -- The requests
 
 -- who began which request, and its stamp
-pub record Begun : Type 0 where
+pub record BegunRequest : Type 0 where
   pub author : ℕ
   pub request : ℕ
   pub stamp : Stamp
 
 -- whether it is what this author began under this number
-abbrev pub is_begun : ℕ → ℕ → Begun → Bool
+abbrev pub is_begun : ℕ → ℕ → BegunRequest → Bool
 is_begun author request begun = (begun.author == author) && (begun.request == request)
 
 -- the transaction that a deed began
-abbrev pub tx_by : ℕ → GateDeed → List Begun
+abbrev pub tx_by : ℕ → GateDeed → List BegunRequest
 tx_by author (BeganTx request stamp) = record { author = author; request = request; stamp = stamp } ∷ []
 tx_by author _ = []
 
 -- the program that a deed began
-abbrev pub program_by : ℕ → GateDeed → List Begun
+abbrev pub program_by : ℕ → GateDeed → List BegunRequest
 program_by author (BeganProgram request stamp) = record { author = author; request = request; stamp = stamp } ∷ []
 program_by author _ = []
 
 -- the transactions that were begun, in order
-abbrev pub txs_of : List GateEntry → List Begun
+abbrev pub txs_of : List GateEntry → List BegunRequest
 txs_of log = flat_map (λ (entry : GateEntry). tx_by entry.author entry.deed) log
 
 -- the programs that were begun, in order
-abbrev pub programs_of : List GateEntry → List Begun
+abbrev pub programs_of : List GateEntry → List BegunRequest
 programs_of log = flat_map (λ (entry : GateEntry). program_by entry.author entry.deed) log
 
 -- what a deed began: a transaction or a program
-abbrev pub begun_by : ℕ → GateDeed → List Begun
+abbrev pub begun_by : ℕ → GateDeed → List BegunRequest
 begun_by author deed = tx_by author deed ++ program_by author deed
 
 -- the transactions and programs that were begun, in order
-abbrev pub begun_in : List GateEntry → List Begun
+abbrev pub begun_in : List GateEntry → List BegunRequest
 begun_in log = flat_map (λ (entry : GateEntry). begun_by entry.author entry.deed) log
 
 -- the program of this number, if it was begun
-abbrev pub program_begun : ℕ → List GateEntry → Option Begun
-program_begun request log = find (λ (begun : Begun). begun.request == request) (programs_of log)
+abbrev pub program_begun : ℕ → List GateEntry → Option BegunRequest
+program_begun request log = find (λ (begun : BegunRequest). begun.request == request) (programs_of log)
 
 -- the numbers of all requests that were begun, in order
 abbrev pub requests_of : List GateEntry → List ℕ
-requests_of log = flat_map (λ (entry : GateEntry). map (λ (begun : Begun). begun.request) (tx_by entry.author entry.deed
+requests_of log =
+    flat_map (λ (entry : GateEntry). map (λ (begun : BegunRequest). begun.request) (tx_by entry.author entry.deed
     ++ program_by entry.author entry.deed)) log
 
 -- the request that a deed sent or finished
@@ -118,24 +119,24 @@ abbrev pub has_ended_in : ℕ → List GateEntry → Bool
 has_ended_in request log = list_any (λ ended. ended == request) (ended_in log)
 
 -- a transaction is in flight from its begin to its sending
-abbrev pub flight_after : Option Begun → ℕ → GateDeed → Option Begun
+abbrev pub flight_after : Option BegunRequest → ℕ → GateDeed → Option BegunRequest
 flight_after flight author (BeganTx request stamp) = Some (record { author = author; request = request; stamp = stamp })
 flight_after flight author (Sent request messages) = None
 flight_after flight author _ = flight
 
 -- the transaction in flight at the end of the log
-abbrev pub flight_of : List GateEntry → Option Begun
+abbrev pub flight_of : List GateEntry → Option BegunRequest
 flight_of log = fold (λ flight (entry : GateEntry). flight_after flight entry.author entry.deed) None log
 
 -- a program is running from its begin until its author finishes it
-abbrev pub running_after : List Begun → ℕ → GateDeed → List Begun
+abbrev pub running_after : List BegunRequest → ℕ → GateDeed → List BegunRequest
 running_after running author (BeganProgram request stamp) =
     running ++ record { author = author; request = request; stamp = stamp } ∷ []
 running_after running author (Finished request) = filter (λ begun. not (is_begun author request begun)) running
 running_after running author _ = running
 
 -- the programs that are running at the end of the log, in the order of their begins
-abbrev pub running_of : List GateEntry → List Begun
+abbrev pub running_of : List GateEntry → List BegunRequest
 running_of log = fold (λ running (entry : GateEntry). running_after running entry.author entry.deed) [] log
 
 -- The channels
@@ -167,13 +168,13 @@ channel_of shard log = map (λ (addressed : Addressed). addressed.message) (addr
 abbrev pub next_number : ℕ → List GateEntry → ℕ
 next_number shard log = length (channel_of shard log) + 1
 
--- all messages that were sent, in order
+-- all messages that were sent, in order. No public contract cites this.
 abbrev pub sent_in : List GateEntry → List Addressed
 sent_in log = flat_map (λ (entry : GateEntry). messages_by entry.deed) log
 
 -- the low mark of a message: the meet of its stamp and the stamps of the programs then running
-abbrev pub low_mark : Stamp → List Begun → Clock
-low_mark stamp running = fold (λ low (begun : Begun). meet_of low begun.stamp.clock) stamp.clock running
+abbrev pub low_mark : Stamp → List BegunRequest → Clock
+low_mark stamp running = fold (λ low (begun : BegunRequest). meet_of low begun.stamp.clock) stamp.clock running
 
 -- All clocks
 

@@ -11,26 +11,26 @@ use Rattle.weave_entries.specs.declared.verdict.Counted.{Counted}
 use Rattle.weave_entries.specs.declared.verdict.Verdict.{Verdict}
 use Rattle.weave_entries.specs.declared.verdict.Verdict.TheVariants.{Committed, Conflict, Refused}
 use Rattle.weave_entries.specs.declared.gate_log.GateEntry.{GateEntry}
-use Rattle.weave_entries.specs.GateReplay.{Begun, next_number, running_of, low_mark}
+use Rattle.weave_entries.specs.GateReplay.{BegunRequest, next_number, running_of, low_mark}
 
 -- the part for a vertex: its operations, and how many commits named it before
 abbrev pub part_for : List Op → Counted → Part
 part_for ops counted = record { vertex = counted.vertex; before = counted.before; ops = ops_on counted.vertex ops }
 
 -- whether a shard, of this many, keeps the vertex
-abbrev pub keeps : ℕ → ℕ → Counted → Bool
-keeps shards shard counted = shard_of counted.vertex shards == shard
+abbrev pub is_kept_at : ℕ → ℕ → Counted → Bool
+is_kept_at shards shard counted = shard_of counted.vertex shards == shard
 
 -- the parts for the vertices of a shard, in order of naming
 abbrev pub parts_for : ℕ → ℕ → List Op → List Counted → List Part
-parts_for shards shard ops counts = map (part_for ops) (filter (keeps shards shard) counts)
+parts_for shards shard ops counts = map (part_for ops) (filter (is_kept_at shards shard) counts)
 
 -- the shards that keep a named vertex, in rising order
 abbrev pub shards_named : ℕ → List Counted → List ℕ
-shards_named shards counts = filter (λ shard. list_any (keeps shards shard) counts) (range_with_len 0 shards)
+shards_named shards counts = filter (λ shard. list_any (is_kept_at shards shard) counts) (range_with_len 0 shards)
 
 -- the message of a transaction to a shard, with the channel's next number, at the end of the log
-abbrev pub message_to : ℕ → List GateEntry → Begun → List Op → List Counted → ℕ → Addressed
+abbrev pub message_to : ℕ → List GateEntry → BegunRequest → List Op → List Counted → ℕ → Addressed
 message_to shards log begun ops counts shard = record {
   shard = shard;
   number = next_number shard log;
@@ -44,7 +44,7 @@ message_to shards log begun ops counts shard = record {
 
 -- a transaction's messages by its verdict: of a commit one to each shard that keeps a named vertex, in rising order of
 -- shards; otherwise none
-abbrev pub messages_of : ℕ → List GateEntry → Begun → List Op → Verdict → List Addressed
+abbrev pub messages_of : ℕ → List GateEntry → BegunRequest → List Op → Verdict → List Addressed
 messages_of shards log begun ops (Committed number answers counts) =
     map (message_to shards log begun ops counts) (shards_named shards counts)
 messages_of shards log begun ops (Conflict vertex newer) = []

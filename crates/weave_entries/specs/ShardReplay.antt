@@ -8,7 +8,7 @@ use Rattle.weave_data.specs.Names.{same_name}
 use Rattle.graph_ops.specs.declared.op.Op.{Op}
 use Rattle.graph_ops.specs.declared.part.Part.{Part}
 use Rattle.graph_ops.specs.Operations.{State}
-use Rattle.graph_ops.specs.VertexOps.{state_after}
+use Rattle.graph_ops.specs.VertexOps.{state_after_ops}
 use Rattle.vector_stamp.specs.declared.clock.Clock.{Clock}
 use Rattle.vector_stamp.specs.declared.clock.Stamp.{Stamp}
 use Rattle.vector_stamp.specs.Clocks.{meet_of}
@@ -96,7 +96,7 @@ waits_at message log =
 
 -- a vertex's state after these updates, from absence
 abbrev pub state_of_updates : List Update → State
-state_of_updates updates = fold (λ state (update : Update). state_after update.ops state) None updates
+state_of_updates updates = fold (λ state (update : Update). state_after_ops update.ops state) None updates
 
 -- The visits
 

@@ -8,7 +8,7 @@ use Rattle.graph_ops.specs.declared.part.Part.{Part}
 use Rattle.graph_ops.specs.VertexOps.{none_refused}
 use Rattle.vector_stamp.specs.declared.clock.Stamp.{Stamp}
 use Rattle.vector_stamp.specs.Order.{stamp_before, unordered}
-use Rattle.vector_stamp.specs.Precedence.{Given, precedes}
+use Rattle.vector_stamp.specs.Precedence.{GivenPair, precedes}
 use Rattle.vector_stamp.specs.Seeing.{seen_of, last_seen}
 use Rattle.vector_stamp.specs.Settling.{SettledEntry, additions_from, places_of, pairs_of, entries_of_call}
 use Rattle.weave_entries.specs.declared.message.Message.{Message}
@@ -33,32 +33,32 @@ abbrev pub kept_stamps : Name → List ShardEntry → List Stamp
 kept_stamps v log = drop (dropped_of v log) (update_stamps v log)
 
 -- after how many updates of a vertex a program reads it, by these pairs of a judge
-abbrev pub updates_read : List Given → Stamp → Name → List ShardEntry → ℕ
+abbrev pub updates_read : List GivenPair → Stamp → Name → List ShardEntry → ℕ
 updates_read pairs program v log = dropped_of v log + seen_of pairs program (kept_stamps v log)
 
 -- the stamp of the last of these updates, as a list of one; none if it reads none of those that are kept
-abbrev pub last_read : List Given → Stamp → Name → List ShardEntry → List Stamp
+abbrev pub last_read : List GivenPair → Stamp → Name → List ShardEntry → List Stamp
 last_read pairs program v log = last_seen (seen_of pairs program (kept_stamps v log)) (kept_stamps v log)
 
 -- whether the judge has to put that update before the program
-abbrev pub is_settled_by : List Given → Stamp → Name → List ShardEntry → Bool
+abbrev pub is_settled_by : List GivenPair → Stamp → Name → List ShardEntry → Bool
 is_settled_by pairs program v log =
     list_any (λ update. not (precedes pairs update program)) (last_read pairs program v log)
 
 -- the judge's pairs after the visit: the last of these updates was put before the program, if it did not precede it
-abbrev pub pairs_after_visit : List Given → Stamp → Name → List ShardEntry → List Given
+abbrev pub pairs_after_visit : List GivenPair → Stamp → Name → List ShardEntry → List GivenPair
 pairs_after_visit pairs program v log =
     pairs ++ pairs_of (additions_from 0 pairs (last_read pairs program v log) program) program
 
 -- what the judge's log gains by the visit: an entry of this author if a pair was added
-abbrev pub entries_of_visit : List Given → ℕ → Stamp → Name → List ShardEntry → List SettledEntry
+abbrev pub entries_of_visit : List GivenPair → ℕ → Stamp → Name → List ShardEntry → List SettledEntry
 entries_of_visit pairs author program v log =
     entries_of_call author (last_read pairs program v log) program
     (places_of (additions_from 0 pairs (last_read pairs program v log) program))
 
 -- one of the kept updates is unordered with the program: only then is the judge asked
-abbrev pub is_judge_asked : Stamp → Name → List ShardEntry → Bool
-is_judge_asked program v log = list_any (λ update. unordered update program) (kept_stamps v log)
+abbrev pub is_judge_asked_by_visit : Stamp → Name → List ShardEntry → Bool
+is_judge_asked_by_visit program v log = list_any (λ update. unordered update program) (kept_stamps v log)
 
 -- what is kept reaches back far enough: if versions were dropped, the oldest kept one is before the program
 abbrev pub IsKeptFor : Stamp → Name → List ShardEntry → Type 0
@@ -104,7 +104,7 @@ pub record IsReadRightly (gates : ℕ) (before : List ShardEntry) (program : Sta
   pub ready : first_unready gates program before ≡ None
   pub base : IsKeptFor program v before
   pub applied : updates ≤ length (updates_of v before)
-  pub pairs : List Given
+  pub pairs : List GivenPair
   pub updates_are : updates ≡ updates_read pairs program v before
   pub settled_is : settled ≡ is_settled_by pairs program v before
 

@@ -9,7 +9,7 @@ use Rattle.graph_ops.specs.Mentions.{named_by}
 use Rattle.graph_ops.specs.PlainGraph.{TxOutcome, transaction}
 use Rattle.vector_stamp.specs.declared.clock.Stamp.{Stamp}
 use Rattle.vector_stamp.specs.Order.{id_of, stamp_before, unordered}
-use Rattle.vector_stamp.specs.Precedence.{Given, precedes}
+use Rattle.vector_stamp.specs.Precedence.{GivenPair, precedes}
 use Rattle.vector_stamp.specs.Settling.{additions_from, places_of, entries_of_call}
 use Rattle.weave_entries.specs.declared.verdict.Counted.{Counted}
 use Rattle.weave_entries.specs.declared.verdict.Verdict.{Verdict}
@@ -19,7 +19,7 @@ use Rattle.weave_entries.specs.declared.store_log.StoreEntry.{StoreEntry}
 use Rattle.weave_entries.specs.declared.store_log.StoreDeed.{StoreDeed}
 use Rattle.weave_entries.specs.declared.store_log.StoreDeed.TheVariants.{Judged}
 use Rattle.weave_entries.specs.Logs.{AtEachEntry}
-use Rattle.weave_entries.specs.OracleReplay.{oracle_entry}
+use Rattle.weave_entries.specs.OracleReplay.{oracle_entry_of}
 use Rattle.weave_entries.specs.StoreReplay.{Judgement, Commit, judgements_of, commits_of, count_naming, last_naming, graph_committed}
 
 -- a named vertex with the last commit that names it
@@ -62,7 +62,7 @@ verdict_by ops commits (Err stopped) = Refused stopped.op stopped.reason (length
 
 -- The verdict. First a conflict at the first named vertex whose last stamp the new one is before; then one at the first
 -- of those asked that it precedes; then the outcome of the operations on the graph that the commits leave.
-abbrev pub verdict_on : List Given → List Commit → Stamp → List Op → Verdict
+abbrev pub verdict_on : List GivenPair → List Commit → Stamp → List Op → Verdict
 verdict_on pairs commits stamp ops =
     conflict_or (find (λ (last : LastCommit). stamp_before stamp last.commit.stamp) (lasts_of ops commits)) (
     conflict_or (find (λ (last : LastCommit). precedes pairs stamp last.commit.stamp)
@@ -73,9 +73,9 @@ verdict_on pairs commits stamp ops =
 
 -- the oracle's entries when it puts each of the earlier events before the later one that doesn't yet precede it: one
 -- entry, or none if it adds no pair
-abbrev pub entries_of_settling : ℕ → List Given → List Stamp → Stamp → List OracleEntry
+abbrev pub entries_of_settling : ℕ → List GivenPair → List Stamp → Stamp → List OracleEntry
 entries_of_settling author pairs earlier later =
-    map oracle_entry (entries_of_call author earlier later (places_of (additions_from 0 pairs earlier later)))
+    map oracle_entry_of (entries_of_call author earlier later (places_of (additions_from 0 pairs earlier later)))
 
 -- only a commit's pairs are kept
 abbrev pub settled_if : Verdict → List OracleEntry → List OracleEntry
@@ -95,7 +95,7 @@ pub record IsJudged (before : List StoreEntry) (stamp : Stamp) (ops : List Op) (
     Type 0 where
   pub new : All (λ (judged : Stamp). id_of judged ≢ id_of stamp) (stamps_judged before)
   pub asked_are : asked ≡ asked_vertices stamp (lasts_of ops (commits_of before))
-  pub pairs : List Given
+  pub pairs : List GivenPair
   pub verdict_is : verdict ≡ verdict_on pairs (commits_of before) stamp ops
 
 -- a deed is right after these entries

@@ -1,6 +1,7 @@
 //! What follows for each log that keeps the rules, as contracts over the logs alone.
 ghost use Rattle.std.specs.Prelude.{◌≡◌, ◌≢◌, ◌↔◌, ℕ, ◌+◌, ◌<◌, ◌≤◌, ◌==◌, true, cond, List, [], ◌∷◌, ◌++◌, map, take, length, Contains, IsTrue, Option, None, Some, is_some, Ok, Err};
 ghost use Rattle.weave_data.specs.declared.name.Name.{Name};
+ghost use Rattle.weave_data.specs.Limits.{most_gates};
 ghost use Rattle.graph_ops.specs.declared.op.Op.{Op};
 ghost use Rattle.graph_ops.specs.declared.op.Reason.{Reason};
 ghost use Rattle.graph_ops.specs.declared.tx.Got.{Got};
@@ -9,7 +10,7 @@ ghost use Rattle.vector_stamp.specs.declared.clock.Clock.{Clock};
 ghost use Rattle.vector_stamp.specs.declared.clock.Stamp.{Stamp};
 ghost use Rattle.vector_stamp.specs.Order.{count_of, id_of, HasEightCounts, CountsNonePast, StampsRise, is_at_most, stamp_before, unordered};
 ghost use Rattle.vector_stamp.specs.Coherence.{AreCoherent};
-ghost use Rattle.vector_stamp.specs.Precedence.{Given, IsAcyclic, precedes};
+ghost use Rattle.vector_stamp.specs.Precedence.{GivenPair, IsAcyclic, precedes};
 ghost use Rattle.vector_stamp.specs.Seeing.{seen_of, last_seen};
 ghost use Rattle.vector_stamp.specs.Settling.{additions_from, pairs_of, SettledEntry};
 ghost use Rattle.weave_entries.specs.declared.message.Addressed.{Addressed};
@@ -17,9 +18,9 @@ ghost use Rattle.weave_entries.specs.declared.message.Message.{Message};
 ghost use Rattle.weave_entries.specs.declared.gate_log.GateEntry.{GateEntry};
 ghost use Rattle.weave_entries.specs.declared.oracle_log.OracleEntry.{OracleEntry};
 ghost use Rattle.weave_entries.specs.declared.session_log.SessionEntry.{SessionEntry};
-ghost use Rattle.weave_entries.specs.GateReplay.{Begun, next_stamp, clock_after, clock_of, stamps_by, stamps_of, begun_by, begun_in, txs_of, programs_of, ended_by, ended_in, flight_after, flight_of, running_after, running_of, messages_by, to_shard, addressed_to, channel_of, sent_in, clocks_in};
+ghost use Rattle.weave_entries.specs.GateReplay.{BegunRequest, next_stamp, clock_after, clock_of, stamps_by, stamps_of, begun_by, begun_in, txs_of, programs_of, ended_by, ended_in, flight_after, flight_of, running_after, running_of, messages_by, to_shard, addressed_to, channel_of, sent_in, clocks_in};
 ghost use Rattle.weave_entries.specs.GateRules.{FitsAs, IsGateLog, HearsAs, HearsNoMore, HearsNonePast, BeginsEachOnce, CountsItsTicks, IsChannel, EndsEachOnce, EndsWhatItBegan};
-ghost use Rattle.weave_entries.specs.OracleReplay.{oracle_entry, settled_entry, pairs_of_entry, pairs_of_log};
+ghost use Rattle.weave_entries.specs.OracleReplay.{oracle_entry_of, settled_entry, pairs_of_entry, pairs_of_log};
 ghost use Rattle.weave_entries.specs.OracleRules.{IsRightEntry, IsOracleLog};
 ghost use Rattle.weave_entries.specs.Sending.{IsCountsOf};
 ghost use Rattle.weave_entries.specs.SessionReplay.{session_of, replied_count, begins_in, replied_in, has_begun_in, has_reply_in, IsSessionLog};
@@ -75,19 +76,19 @@ pub fn the_replay_goes_on()
 /// The clock never goes back. The stamps rise, are coherent and have their home. The own count is the number of the
 /// gatekeeper's ticks in its epoch.
 pub fn stamps_rise()
-    ensures rise { (home shards : ℕ) (log : List GateEntry) → home < 8 → IsGateLog home shards log
+    ensures rise { (home shards : ℕ) (log : List GateEntry) → home < most_gates → IsGateLog home shards log
         → StampsRise (stamps_of log) }
-    ensures under { (home shards : ℕ) (log : List GateEntry) → home < 8 → IsGateLog home shards log
+    ensures under { (home shards : ℕ) (log : List GateEntry) → home < most_gates → IsGateLog home shards log
         → (stamp : Stamp) → Contains (stamps_of log) stamp → IsTrue (is_at_most stamp.clock (clock_of home log)) }
-    ensures homes { (home shards : ℕ) (log : List GateEntry) → home < 8 → IsGateLog home shards log
+    ensures homes { (home shards : ℕ) (log : List GateEntry) → home < most_gates → IsGateLog home shards log
         → (stamp : Stamp) → Contains (stamps_of log) stamp → stamp.home ≡ home }
-    ensures coherent { (home shards : ℕ) (log : List GateEntry) → home < 8 → IsGateLog home shards log
+    ensures coherent { (home shards : ℕ) (log : List GateEntry) → home < most_gates → IsGateLog home shards log
         → AreCoherent (stamps_of log) }
-    ensures ticks { (home shards : ℕ) (log : List GateEntry) → home < 8 → IsGateLog home shards log
+    ensures ticks { (home shards : ℕ) (log : List GateEntry) → home < most_gates → IsGateLog home shards log
         → CountsItsTicks home log }
-    ensures eight { (home shards : ℕ) (log : List GateEntry) → home < 8 → IsGateLog home shards log
+    ensures eight { (home shards : ℕ) (log : List GateEntry) → home < most_gates → IsGateLog home shards log
         → HasEightCounts (clock_of home log) }
-    ensures eight_each { (home shards : ℕ) (log : List GateEntry) → home < 8 → IsGateLog home shards log
+    ensures eight_each { (home shards : ℕ) (log : List GateEntry) → home < most_gates → IsGateLog home shards log
         → (stamp : Stamp) → Contains (stamps_of log) stamp → HasEightCounts stamp.clock }
 {
     clocks_keep_the_laws();
@@ -95,7 +96,7 @@ pub fn stamps_rise()
 
 /// The own count, and how many messages were sent to a shard, are at most the number of entries.
 pub fn counts_are_few()
-    ensures own { (home shards : ℕ) (log : List GateEntry) → home < 8 → IsGateLog home shards log
+    ensures own { (home shards : ℕ) (log : List GateEntry) → home < most_gates → IsGateLog home shards log
         → count_of home (clock_of home log) ≤ length log }
     ensures sent { (home shards shard : ℕ) (log : List GateEntry) → IsGateLog home shards log
         → length (channel_of shard log) ≤ length log }
@@ -105,7 +106,7 @@ pub fn counts_are_few()
 
 /// Each channel's numbers run from 1, and its stamps rise. Nothing is sent to a shard that isn't there.
 pub fn channels_rise()
-    ensures channel { (home shards shard : ℕ) (log : List GateEntry) → home < 8 → IsGateLog home shards log
+    ensures channel { (home shards shard : ℕ) (log : List GateEntry) → home < most_gates → IsGateLog home shards log
         → IsChannel shard log }
     ensures beyond { (home shards shard : ℕ) (log : List GateEntry) → IsGateLog home shards log → shards ≤ shard
         → channel_of shard log ≡ [] }
@@ -116,11 +117,11 @@ pub fn channels_rise()
 /// The stamp of each message on each channel is before that of the transaction in flight, and before the gatekeeper's
 /// next stamp.
 pub fn messages_come_before()
-    ensures flight { (home shards shard : ℕ) (log : List GateEntry) → home < 8 → IsGateLog home shards log
-        → (flight : Begun) → flight_of log ≡ Some flight
+    ensures flight { (home shards shard : ℕ) (log : List GateEntry) → home < most_gates → IsGateLog home shards log
+        → (flight : BegunRequest) → flight_of log ≡ Some flight
         → (message : Message) → Contains (channel_of shard log) message
         → IsTrue (stamp_before message.stamp flight.stamp) }
-    ensures next { (home shards shard : ℕ) (log : List GateEntry) → home < 8 → IsGateLog home shards log
+    ensures next { (home shards shard : ℕ) (log : List GateEntry) → home < most_gates → IsGateLog home shards log
         → (message : Message) → Contains (channel_of shard log) message
         → IsTrue (stamp_before message.stamp (next_stamp home (clock_of home log))) }
 {
@@ -130,11 +131,11 @@ pub fn messages_come_before()
 /// What was begun, the transaction in flight, the programs that are running and the messages that were sent have stamps
 /// that the gatekeeper made.
 pub fn stamps_are_its_own()
-    ensures begun { (log : List GateEntry) (begun : Begun) → Contains (begun_in log) begun
+    ensures begun { (log : List GateEntry) (begun : BegunRequest) → Contains (begun_in log) begun
         → Contains (stamps_of log) begun.stamp }
-    ensures flight { (log : List GateEntry) (flight : Begun) → flight_of log ≡ Some flight
+    ensures flight { (log : List GateEntry) (flight : BegunRequest) → flight_of log ≡ Some flight
         → Contains (stamps_of log) flight.stamp }
-    ensures running { (log : List GateEntry) (program : Begun) → Contains (running_of log) program
+    ensures running { (log : List GateEntry) (program : BegunRequest) → Contains (running_of log) program
         → Contains (stamps_of log) program.stamp }
     ensures sent { (home shards shard : ℕ) (log : List GateEntry) → IsGateLog home shards log
         → (message : Message) → Contains (channel_of shard log) message → Contains (stamps_of log) message.stamp }
@@ -152,23 +153,24 @@ pub fn requests_end()
 /// begun and not finished.
 pub fn what_has_not_ended_goes_on()
     ensures flight { (home shards : ℕ) (log : List GateEntry) → IsGateLog home shards log → BeginsEachOnce log
-        → (tx : Begun) → (flight_of log ≡ Some tx) ↔ (Contains (txs_of log) tx × ¬ Contains (ended_in log) tx.request) }
+        → (tx : BegunRequest)
+        → (flight_of log ≡ Some tx) ↔ (Contains (txs_of log) tx × ¬ Contains (ended_in log) tx.request) }
     ensures running { (home shards : ℕ) (log : List GateEntry) → IsGateLog home shards log → BeginsEachOnce log
-        → (program : Begun) → Contains (running_of log) program
+        → (program : BegunRequest) → Contains (running_of log) program
         ↔ (Contains (programs_of log) program × ¬ Contains (ended_in log) program.request) }
 {}
 
 /// The low mark of each message has eight counts. It is at most the message's stamp, and at most the stamp of each
 /// program that is running at the end of the log.
 pub fn low_marks_are_below()
-    ensures eight { (home shards shard : ℕ) (log : List GateEntry) → home < 8 → IsGateLog home shards log
+    ensures eight { (home shards shard : ℕ) (log : List GateEntry) → home < most_gates → IsGateLog home shards log
         → (message : Message) → Contains (channel_of shard log) message → HasEightCounts message.low }
-    ensures its_stamp { (home shards shard : ℕ) (log : List GateEntry) → home < 8 → IsGateLog home shards log
+    ensures its_stamp { (home shards shard : ℕ) (log : List GateEntry) → home < most_gates → IsGateLog home shards log
         → (message : Message) → Contains (channel_of shard log) message
         → IsTrue (is_at_most message.low message.stamp.clock) }
-    ensures running { (home shards shard : ℕ) (log : List GateEntry) → home < 8 → IsGateLog home shards log
+    ensures running { (home shards shard : ℕ) (log : List GateEntry) → home < most_gates → IsGateLog home shards log
         → (message : Message) → Contains (channel_of shard log) message
-        → (program : Begun) → Contains (running_of log) program
+        → (program : BegunRequest) → Contains (running_of log) program
         → IsTrue (is_at_most message.low program.stamp.clock) }
 {
     clocks_keep_the_laws();
@@ -212,7 +214,7 @@ pub fn begun_and_replied_are_decided()
 
 /// A verdict counts the named vertices, in order of naming.
 pub fn verdicts_count_what_is_named()
-    ensures { (pairs : List Given) (commits : List Commit) (stamp : Stamp) (ops : List Op)
+    ensures { (pairs : List GivenPair) (commits : List Commit) (stamp : Stamp) (ops : List Op)
         → IsCountsOf ops (verdict_on pairs commits stamp ops) }
 {}
 
@@ -244,22 +246,22 @@ pub fn the_store_replay_goes_on()
 /// commits before it leave. A conflict is with the last commit at a named vertex, which the transaction precedes. A
 /// refusal is that of the operations, and has the number of commits before it.
 pub fn verdicts_say_what_was_judged()
-    ensures number { (pairs : List Given) (commits : List Commit) (stamp : Stamp) (ops : List Op)
+    ensures number { (pairs : List GivenPair) (commits : List Commit) (stamp : Stamp) (ops : List Op)
         → (number : ℕ) (answers : List Got) (counts : List Counted)
         → verdict_on pairs commits stamp ops ≡ Committed number answers counts → number ≡ length commits + 1 }
-    ensures counts { (pairs : List Given) (commits : List Commit) (stamp : Stamp) (ops : List Op)
+    ensures counts { (pairs : List GivenPair) (commits : List Commit) (stamp : Stamp) (ops : List Op)
         → (number : ℕ) (answers : List Got) (counts : List Counted)
         → verdict_on pairs commits stamp ops ≡ Committed number answers counts → counts ≡ counts_of ops commits }
-    ensures conflict { (pairs : List Given) (commits : List Commit) (stamp : Stamp) (ops : List Op)
+    ensures conflict { (pairs : List GivenPair) (commits : List Commit) (stamp : Stamp) (ops : List Op)
         → (vertex : Name) (newer : ℕ) → verdict_on pairs commits stamp ops ≡ Conflict vertex newer
         → (last : LastCommit) × (last.vertex ≡ vertex) × (last.commit.request ≡ newer)
         × Contains (lasts_of ops commits) last × IsTrue (precedes pairs stamp last.commit.stamp) }
-    ensures passes { (pairs : List Given) (commits : List Commit) (stamp : Stamp) (ops : List Op)
+    ensures passes { (pairs : List GivenPair) (commits : List Commit) (stamp : Stamp) (ops : List Op)
         → (number : ℕ) (answers : List Got) (counts : List Counted)
         → verdict_on pairs commits stamp ops ≡ Committed number answers counts
         → (graph : PlainGraph)
         × (transaction ops (graph_committed commits) ≡ Ok (record { graph = graph; gots = answers })) }
-    ensures refused { (pairs : List Given) (commits : List Commit) (stamp : Stamp) (ops : List Op)
+    ensures refused { (pairs : List GivenPair) (commits : List Commit) (stamp : Stamp) (ops : List Op)
         → (op : ℕ) (reason : Reason) (at : ℕ) → verdict_on pairs commits stamp ops ≡ Refused op reason at
         → (at ≡ length commits)
         × (transaction ops (graph_committed commits) ≡ Err (record { op = op; reason = reason })) }
@@ -293,9 +295,9 @@ pub fn the_shard_replay_goes_on()
 
 /// If enough is kept, a program sees the same number of updates of a vertex, and the same last one, as if all were.
 pub fn kept_updates_are_read_like_all()
-    ensures updates { (pairs : List Given) (program : Stamp) (v : Name) (log : List ShardEntry)
+    ensures updates { (pairs : List GivenPair) (program : Stamp) (v : Name) (log : List ShardEntry)
         → IsKeptFor program v log → updates_read pairs program v log ≡ seen_of pairs program (update_stamps v log) }
-    ensures last { (pairs : List Given) (program : Stamp) (v : Name) (log : List ShardEntry)
+    ensures last { (pairs : List GivenPair) (program : Stamp) (v : Name) (log : List ShardEntry)
         → IsKeptFor program v log → last_read pairs program v log
         ≡ last_seen (seen_of pairs program (update_stamps v log)) (update_stamps v log) }
 {}
@@ -341,8 +343,8 @@ pub fn updates_go_on()
 
 /// The oracle's entries are those of a judge's log.
 pub fn oracle_entries_are_a_judges()
-    ensures there { (entry : SettledEntry) → settled_entry (oracle_entry entry) ≡ entry }
-    ensures back { (entry : OracleEntry) → oracle_entry (settled_entry entry) ≡ entry }
+    ensures there { (entry : SettledEntry) → settled_entry (oracle_entry_of entry) ≡ entry }
+    ensures back { (entry : OracleEntry) → oracle_entry_of (settled_entry entry) ≡ entry }
 {}
 
 /// An oracle's log goes on with each right entry, which adds the pairs of the oracle's rule; its beginnings are logs of
@@ -354,7 +356,7 @@ pub fn an_oracle_log_goes_on()
     ensures right_before { (log rest : List OracleEntry) → IsOracleLog (log ++ rest) → IsOracleLog log }
     ensures pairs { (log : List OracleEntry) (entry : OracleEntry)
         → pairs_of_log (log ++ entry ∷ []) ≡ pairs_of_log log ++ pairs_of_entry (settled_entry entry) }
-    ensures added { (pairs : List Given) (entry : SettledEntry) → IsRightEntry pairs entry
+    ensures added { (pairs : List GivenPair) (entry : SettledEntry) → IsRightEntry pairs entry
         → pairs_of_entry entry ≡ pairs_of (additions_from 0 pairs entry.earlier entry.later) entry.later }
 {
     settling_puts_all_before();

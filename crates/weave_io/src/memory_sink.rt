@@ -1,6 +1,6 @@
 //! A sink into memory.
 ghost use Rattle.std.specs.Prelude.{◌≡◌, ◌≤◌, ◌+◌, [], Some, Ok, length, take, min, is_ok, IsErr, IfOk, OnErr, Contains, if◌then◌else◌};
-ghost use Rattle.weave_io.specs.Counts.{Rose, one_more};
+ghost use Rattle.weave_io.specs.Counts.{HasRisen, one_more};
 ghost use Rattle.weave_io.specs.Stall.{IsStall};
 ghost use Rattle.weave_io.specs.Told.{Appends};
 
@@ -82,9 +82,9 @@ impl Sink for MemorySink {
         ensures within { IfOk result (λ n. n ≤ length piece.now) }
         ensures appended { IfOk result (λ n.
             Appends (Some self.old.written) (Some self.new.written) (take n piece.now)) }
-        ensures failed { OnErr result (Rose self.old.faults self.new.faults) }
+        ensures failed { OnErr result (HasRisen self.old.faults self.new.faults) }
         ensures unchanged { OnErr result (self.new.written ≡ self.old.written) }
-        ensures stalled { IsStall result piece.now → Rose self.old.stalls self.new.stalls }
+        ensures stalled { IsStall result piece.now → HasRisen self.old.stalls self.new.stalls }
         ensures went_on { ¬ IsStall result piece.now → self.new.stalls ≡ self.old.stalls }
         ensures faults_never_fall { self.old.faults ≤ self.new.faults }
         ensures stalls_never_fall { self.old.stalls ≤ self.new.stalls }

@@ -1,6 +1,6 @@
 //! A source over bytes in memory.
 ghost use Rattle.std.specs.Prelude.{◌≡◌, ◌<◌, ◌≤◌, ◌+◌, ◌↔◌, [], Some, Ok, length, take, min, is_ok, IsErr, IfOk, OnErr, Contains, if◌then◌else◌};
-ghost use Rattle.weave_io.specs.Counts.{Rose, one_more};
+ghost use Rattle.weave_io.specs.Counts.{HasRisen, one_more};
 ghost use Rattle.weave_io.specs.Told.{Takes, Tells};
 
 use crate::faults::Failed;
@@ -73,7 +73,7 @@ impl Source for MemorySource {
         ensures within { IfOk result (λ n. n ≤ length buf.new) }
         ensures taken { IfOk result (λ n. Takes (Some self.old.left) (Some self.new.left) (take n buf.new)) }
         ensures end { result ≡ Ok 0 → 0 < length buf.new → Tells (Some self.new.left) [] }
-        ensures failed { OnErr result (Rose self.old.faults self.new.faults) }
+        ensures failed { OnErr result (HasRisen self.old.faults self.new.faults) }
         ensures unchanged { OnErr result (self.new.left ≡ self.old.left) }
         ensures never_falls { self.old.faults ≤ self.new.faults }
 

@@ -1,6 +1,6 @@
 //! Reading an input whole.
 ghost use Rattle.std.specs.Prelude.{◌≡◌, ◌+◌, ◌≤◌, [], length, vec_len, IfOk, OnOk, IsErrOf};
-ghost use Rattle.weave_io.specs.Counts.{Rose};
+ghost use Rattle.weave_io.specs.Counts.{HasRisen};
 ghost use Rattle.weave_io.specs.Told.{Tells, TakesCount, TakesAtMost};
 
 use crate::faults::ReadFault;
@@ -8,7 +8,7 @@ use crate::source::Source;
 use std::alloc::{AllocError, Global};
 
 /// The most bytes that an input may have.
-pub const MOST_BYTES: usize = 4_194_304;
+pub const MOST_BYTES: usize = weave_data::MOST_BYTES;
 
 /// How many bytes a call of the source may give.
 const PIECE: usize = 65_536;
@@ -21,7 +21,7 @@ pub fn read_all<S: Source>(alloc: Global, source: &mut S) -> Result<Vec<u8>, Rea
     ensures too_long { IsErrOf result ReadFault.TooLong →
         TakesCount (S.left source.old) (S.left source.new) (MOST_BYTES + 1) }
     ensures read { IsErrOf result ReadFault.Read →
-        Rose (S.faults source.old) (S.faults source.new) }
+        HasRisen (S.faults source.old) (S.faults source.new) }
     ensures read_in_time { IsErrOf result ReadFault.Read →
         TakesAtMost (S.left source.old) (S.left source.new) MOST_BYTES }
     ensures stops { TakesAtMost (S.left source.old) (S.left source.new) (MOST_BYTES + 1) }

@@ -1,6 +1,6 @@
 //! Where bytes go.
 ghost use Rattle.std.specs.Prelude.{◌≡◌, ◌≤◌, ℕ, List, Option, length, take, IfOk, OnErr};
-ghost use Rattle.weave_io.specs.Counts.{Rose};
+ghost use Rattle.weave_io.specs.Counts.{HasRisen};
 ghost use Rattle.weave_io.specs.Stall.{IsStall};
 ghost use Rattle.weave_io.specs.Told.{Appends};
 
@@ -22,9 +22,9 @@ pub trait Sink {
         ensures within { IfOk result (λ n. n ≤ length piece.now) }
         ensures appended { IfOk result (λ n.
             Appends (written self.old) (written self.new) (take n piece.now)) }
-        ensures failed { OnErr result (Rose (faults self.old) (faults self.new)) }
+        ensures failed { OnErr result (HasRisen (faults self.old) (faults self.new)) }
         ensures unchanged { OnErr result (written self.new ≡ written self.old) }
-        ensures stalled { IsStall result piece.now → Rose (stalls self.old) (stalls self.new) }
+        ensures stalled { IsStall result piece.now → HasRisen (stalls self.old) (stalls self.new) }
         ensures went_on { ¬ IsStall result piece.now → stalls self.new ≡ stalls self.old }
         ensures faults_never_fall { faults self.old ≤ faults self.new }
         ensures stalls_never_fall { stalls self.old ≤ stalls self.new };

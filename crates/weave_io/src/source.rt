@@ -1,6 +1,6 @@
 //! Where bytes come from.
 ghost use Rattle.std.specs.Prelude.{◌≡◌, ◌<◌, ◌≤◌, ℕ, List, [], Option, Ok, length, take, IfOk, OnErr};
-ghost use Rattle.weave_io.specs.Counts.{Rose};
+ghost use Rattle.weave_io.specs.Counts.{HasRisen};
 ghost use Rattle.weave_io.specs.Told.{Takes, Tells};
 
 use crate::faults::Failed;
@@ -19,7 +19,7 @@ pub trait Source {
         ensures within { IfOk result (λ n. n ≤ length buf.new) }
         ensures taken { IfOk result (λ n. Takes (left self.old) (left self.new) (take n buf.new)) }
         ensures end { result ≡ Ok 0 → 0 < length buf.new → Tells (left self.new) [] }
-        ensures failed { OnErr result (Rose (faults self.old) (faults self.new)) }
+        ensures failed { OnErr result (HasRisen (faults self.old) (faults self.new)) }
         ensures unchanged { OnErr result (left self.new ≡ left self.old) }
         ensures never_falls { faults self.old ≤ faults self.new };
 }

@@ -1,6 +1,6 @@
 //! Writing a text whole.
 ghost use Rattle.std.specs.Prelude.{◌≡◌, ◌≤◌, ◌⊎◌, OnOk, OnErr};
-ghost use Rattle.weave_io.specs.Counts.{Rose};
+ghost use Rattle.weave_io.specs.Counts.{HasRisen};
 ghost use Rattle.weave_io.specs.Told.{Appends, AppendsPrefix};
 
 use crate::faults::WriteFault;
@@ -11,7 +11,7 @@ pub fn write_all<K: Sink>(sink: &mut K, text: &[u8]) -> Result<(), WriteFault>
     ensures ok { OnOk result (Appends (K.written sink.old) (K.written sink.new) text.now) }
     ensures without_stall { OnOk result (K.stalls sink.new ≡ K.stalls sink.old) }
     ensures fault { OnErr result
-        (Rose (K.faults sink.old) (K.faults sink.new) ⊎ Rose (K.stalls sink.old) (K.stalls sink.new)) }
+        (HasRisen (K.faults sink.old) (K.faults sink.new) ⊎ HasRisen (K.stalls sink.old) (K.stalls sink.new)) }
     ensures prefix { AppendsPrefix (K.written sink.old) (K.written sink.new) text.now }
     ensures faults_never_fall { K.faults sink.old ≤ K.faults sink.new }
     ensures stalls_never_fall { K.stalls sink.old ≤ K.stalls sink.new }

@@ -15,5 +15,6 @@ worker_send_within = enum_send (choice.shape worker.the_type) (
   ((hand_send_within, (search sendable, tt)), ((hand_send_within, (search sendable, tt)), tt)),
 )
 
+-- a seat may be sent to another thread
 pub seat_send : IsSend seat.the_row
 seat_send = recorded_send seat.the_field.row _ _ seat.the_type.to_one (struct_send (shape seat.the_type) (worker_send_within, (search sendable, tt)))

@@ -15,7 +15,7 @@ use Rattle.weave_account.specs.Sessions.{requests_of_session}
 use Rattle.seen_logs.specs.Closed.{AreOfHands}
 use Rattle.seen_logs.specs.Seen.{AreLegal, IsWithin, VisitsOwnPrograms, without_sessions}
 use Rattle.weaver_core.specs.declared.split.Split.{Split}
-use Rattle.weaver_core.specs.Clients.{log_of, requests_in}
+use Rattle.weaver_core.specs.Sessions.{log_of_client, requests_in}
 use Rattle.weaver_core.specs.Splitting.{account_of, CanBeJoined, IsClientByLog}
 use Rattle.weaver_locks.specs.declared.hand.Hand.{Hand}
 use Rattle.weaver_locks.specs.declared.shared.Shared.{Shared}
@@ -107,7 +107,7 @@ module _ (laws : StartLaws) (phase : ℕ) (split : Split) (parts : AreReadyParts
         };
         core = record {
           account = subst (λ (x : Script). IsAccount x closed) (sym script_is) ends.is_account;
-          sessions = length-map new.clients.items log_of ∙ run.many;
+          sessions = length-map new.clients.items log_of_client ∙ run.many;
           notices = λ clock h. laws.clocks script start closed ends.goes_on clock
               (parts.joined.core.notices clock (subst (λ (l : List Clock). Contains l clock) notices_are h));
         };
@@ -115,6 +115,7 @@ module _ (laws : StartLaws) (phase : ℕ) (split : Split) (parts : AreReadyParts
         landed = ends.landed;
       }
 
+  -- what came out of the locks can be joined; its logs went on, and no request of a later phase was begun
   pub parts-go-on : PartsGoOn phase split new
   parts-go-on = record {
     joined = can-join;

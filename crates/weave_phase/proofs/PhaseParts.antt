@@ -13,7 +13,7 @@ use Rattle.weave_account.specs.declared.account.Account.{Account}
 use Rattle.weave_account.specs.Sessions.{requests_of_session}
 use Rattle.weaver_core.specs.declared.client.Client.{Client}
 use Rattle.weaver_core.specs.declared.split.Split.{Split}
-use Rattle.weaver_core.specs.Clients.{requests_in}
+use Rattle.weaver_core.specs.Sessions.{requests_in}
 use Rattle.weaver_core.specs.Splitting.{account_of}
 use Rattle.weaver_locks.specs.declared.hand.Hand.{Hand}
 use Rattle.weaver_locks.specs.declared.shared.Shared.{Shared}
@@ -30,8 +30,8 @@ use Rattle.workers_account.specs.Phase.{HasDone, IsPhaseRun, IsPhaseStart}
 use Rattle.workers_account.proofs.GoneOn.{keeps-at-end}
 use Rattle.weave_phase.specs.declared.seats.Seat.{Seat}
 use Rattle.weave_phase.specs.Parts.{AreReadyParts}
-use Rattle.weave_phase.specs.Ran.{AreOpened, AreSeated, HaveRunPhase, IsHandAtStart}
-use Rattle.weave_phase.specs.Seats.{client_in, hand_in, AreDealt, ArePutBack, AreTaken, HaveRun}
+use Rattle.weave_phase.specs.Ran.{PartsAreOpened, AreSeated, HaveRunPhase, IsHandAtStart}
+use Rattle.weave_phase.specs.Seats.{client_in, hand_in, SeatsAreDealt, ArePutBack, AreTaken, HaveRun}
 use Rattle.weave_phase.specs.StartLaws.{StartLaws}
 use Rattle.weave_phase.proofs.RanSeats.{hands-after, in-or-not, phase-run}
 use Rattle.weave_phase.proofs.ReadySeats.{something-at}
@@ -67,20 +67,24 @@ module _ (laws : StartLaws) (phase : ℕ) (split : Split) (parts : AreReadyParts
 
   -- Behind locks
 
+  -- the machines of parts that are ready may be put behind locks
   pub machines-start : MayStart split.gates.items split.store split.oracle split.shards.items
   machines-start =
       let counts = laws.counts split parts.joined in
       laws.may_start script start split.gates.items split.store split.oracle split.shards.items parts.joined.limits parts.joined.core.account
       (laws.logs split parts.joined) counts.0 counts.1 (laws.order split parts.joined) parts.store (laws.shards split parts.joined parts.shards)
 
+  -- and there are 64 clients
   pub many-clients : length split.clients.items ≡ 64
   many-clients = sym (length-map split.clients.items requests_in) ∙ ap length parts.joined.parts.requests
       ∙ length-map (range_with_len 0 64) (requests_of_session script) ∙ length-range_with_len 0 64
 
-  module _ (shared : Shared) (hands : List Hand) (sessions : List ℕ) (opened : AreOpened split shared hands sessions) where
+  module _ (shared : Shared) (hands : List Hand) (sessions : List ℕ) (opened : PartsAreOpened split shared hands sessions) where
+    -- the locks are those of the script's gatekeepers and shards
     pub locks : AreLocksOf script shared
     locks = record { gates = opened.gates ∙ (laws.counts split parts.joined).0; shards = opened.shards ∙ (laws.counts split parts.joined).1 }
 
+    -- the parts are those of a core at the start of a phase, and the locks began with their logs
     pub phase-start-is : IsPhaseStart script start shared split.clients.items
     phase-start-is = record {
       limits = parts.joined.limits;
@@ -104,7 +108,8 @@ module _ (laws : StartLaws) (phase : ℕ) (split : Split) (parts : AreReadyParts
     part-is-hand hand from (inr on) = (keeps-at-end shared script on.0 (phase_end script phase) on.2.path
         (record { hand = from; client = on.2.client }) (record { hand = hand; client = on.2.left }) on.2.keeps on.2.went).is_hand
 
-    module _ (seats : List Seat) (dealt : AreDealt sessions script.gates split.clients.items hands seats) where
+    module _ (seats : List Seat) (dealt : SeatsAreDealt sessions script.gates split.clients.items hands seats) where
+      -- once a seat is dealt to each hand, the workers are seated
       pub seated : AreSeated shared script phase start split.clients.items sessions hands seats
       seated = record {
         at_start = phase-start-is;
@@ -130,6 +135,7 @@ module _ (laws : StartLaws) (phase : ℕ) (split : Split) (parts : AreReadyParts
         works : (k : ℕ) (seat : Seat) (at : slice_get after k ≡ Some seat) → (ended : Ended) × Works shared script phase (was k seat at).0.worker seat.worker ended
         works k seat at = ran.each k (was k seat at).0 seat (was k seat at).1 at (done k seat at)
 
+        -- after they have run, the worker at the place of a session has a client
         pub client-there : (k : ℕ) (seat : Seat) → slice_get after k ≡ Some seat → k < length sessions → (client : Client) × (client_in seat.worker ≡ Some client)
         client-there k seat at low =
             let before = was k seat at in
@@ -138,6 +144,7 @@ module _ (laws : StartLaws) (phase : ℕ) (split : Split) (parts : AreReadyParts
             let did = works k seat at in
             client-kept shared script phase before.0.worker seat.worker did.0 of.client did.1 (ap client_in of.worker_is)
 
+        -- and one at a later place has none
         pub client-none : (k : ℕ) (seat : Seat) → slice_get after k ≡ Some seat → length sessions ≤ k → client_in seat.worker ≡ None
         client-none k seat at high =
             let before = was k seat at in
@@ -150,6 +157,7 @@ module _ (laws : StartLaws) (phase : ℕ) (split : Split) (parts : AreReadyParts
               | inr last ↦ ap client_in (of.shard last)
             ])
 
+        -- there are at least as many seats as sessions
         pub seats-enough : length sessions ≤ length after
         seats-enough = let many = ran.many in let all = dealt.many in let count = opened.count in omega (arith, many, all, count)
 
@@ -157,6 +165,7 @@ module _ (laws : StartLaws) (phase : ℕ) (split : Split) (parts : AreReadyParts
 
         module _ (between slots : List (Option Client)) (taken : AreTaken sessions (map Some split.clients.items) between)
             (back : ArePutBack sessions after between slots) where
+          -- once the clients are put back no place is without one
           pub all-back : (place : ℕ) (slot : Option Client) → slice_get slots place ≡ Some slot → (client : Client) × (slot ≡ Some client)
           all-back place slot at =
               elim (in-or-not sessions place) [
@@ -176,6 +185,7 @@ module _ (laws : StartLaws) (phase : ℕ) (split : Split) (parts : AreReadyParts
               by (Some client) is = (client, same_Some slot (Some client) is)
 
           module _ (left : List Client) (left_is : map Some left ≡ slots) where
+            -- the workers have run the phase, each is done, and the sessions' clients are back
             pub run-is : HaveRunPhase shared script phase sessions split.clients.items left seats after
             run-is = record {
               ran = ran;
@@ -185,10 +195,12 @@ module _ (laws : StartLaws) (phase : ℕ) (split : Split) (parts : AreReadyParts
               back = subst (ArePutBack sessions after between) (sym left_is) back;
             }
 
+            -- there are 64 clients after it
             pub many-left : length left ≡ 64
             many-left = sym (length-map left Some) ∙ ap length left_is ∙ back.many ∙ taken.many
                 ∙ length-map split.clients.items Some ∙ many-clients
 
+            -- the phase was run by these hands, and each session was left as it was or followed by one of them
             pub whole-run : IsPhaseRun shared script (phase_end script phase) start split.clients.items left (hands-after laws shared script phase start split.clients.items sessions hands seats seated left after many-left run-is)
             whole-run = phase-run laws shared script phase start split.clients.items sessions hands seats seated left after many-left run-is
 
@@ -202,5 +214,6 @@ module _ (laws : StartLaws) (phase : ℕ) (split : Split) (parts : AreReadyParts
                 is-hand : (hand : Hand) → Contains (hands-after laws shared script phase start split.clients.items sessions hands seats seated left after many-left run-is) hand → IsHand shared hand
                 is-hand hand h = part-is-hand hand (whole-run.parts hand h).from (whole-run.parts hand h).did
 
+            -- and there are as many as the locks have
             pub hands-count : length (hands-after laws shared script phase start split.clients.items sessions hands seats seated left after many-left run-is) ≡ hands_of shared
             hands-count = length-map after (λ (seat : Seat). hand_in seat.worker) ∙ ran.many ∙ dealt.many ∙ sym opened.of_locks

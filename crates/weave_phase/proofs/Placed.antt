@@ -8,7 +8,7 @@ use Rattle.weaver_core.specs.declared.client.Client.{Client}
 use Rattle.weaver_locks.specs.declared.hand.Hand.{Hand}
 use Rattle.weaver_workers.specs.declared.worker.Worker.{Worker}
 use Rattle.weaver_workers.specs.declared.worker.Worker.TheVariants.{ClientWork, GateWork, ShardWork}
-use Rattle.weave_phase.specs.Seating.{IsSeated, IsUnseated}
+use Rattle.weave_phase.specs.OneSeat.{IsSeated, IsUnseated}
 use Rattle.weave_phase.specs.Seats.{client_in}
 use mathlib.Core.List.{head-eq_of_cons-eq, tail-eq_of_cons-eq}
 
@@ -55,6 +55,7 @@ map_more f done all left x rest y so_far is new =
 
 -- A worker that is seated
 
+-- a hand whose number is the place of a session is seated for it, once its client is taken out of its place
 pub seated_client : (sessions : List ℕ) (gates k session : ℕ) (hand : Hand) (client : Client) (old new : List (Option Client))
     → slice_get sessions k ≡ Some session → slice_get old session ≡ Some (Some client) → new ≡ slice_set old session None
     → IsSeated sessions gates k hand old new (ClientWork hand client)
@@ -74,6 +75,7 @@ seated_client sessions gates k session hand client old new here is left =
       shard = λ far. absurd (omega arith);
     }
 
+-- after the hands of sessions come those of gatekeepers, each seated for the one of its number among them
 pub seated_gate : (sessions : List ℕ) (gates k : ℕ) (hand : Hand) (old : List (Option Client)) → length sessions ≤ k
     → k - length sessions < gates → IsSeated sessions gates k hand old old (GateWork hand (k - length sessions))
 seated_gate sessions gates k hand old over low = record {
@@ -83,6 +85,7 @@ seated_gate sessions gates k hand old over low = record {
   shard = λ far. absurd (omega arith);
 }
 
+-- and then those of shards, each seated for the one of its number among them
 pub seated_shard : (sessions : List ℕ) (gates k : ℕ) (hand : Hand) (old : List (Option Client)) → length sessions ≤ k
     → gates ≤ k - length sessions → IsSeated sessions gates k hand old old (ShardWork hand (k - length sessions - gates))
 seated_shard sessions gates k hand old over more = record {
@@ -102,6 +105,7 @@ has_session sessions k worker hand client is other = elim (cases_lt k (length se
   | inr far ↦ absurd (none-some client (sym (other far) ∙ ap client_in is))
 ]
 
+-- a session's worker is unseated when its client is put into the session's place
 pub unseated_client : (sessions : List ℕ) (k session : ℕ) (worker : Worker) (hand : Hand) (client : Client) (old : List (Option Client))
     → worker ≡ ClientWork hand client → slice_get sessions k ≡ Some session
     → IsUnseated sessions k worker old (slice_set old session (Some client))
@@ -112,6 +116,7 @@ unseated_client sessions k session worker hand client old is here =
       others = λ far. absurd (omega arith);
     }
 
+-- a worker that has no client, but would have one if it were a session's, is unseated with nothing put back
 pub unseated_other : (sessions : List ℕ) (k : ℕ) (worker : Worker) (old : List (Option Client)) → client_in worker ≡ None
     → (k < length sessions → (client : Client) × (client_in worker ≡ Some client)) → IsUnseated sessions k worker old old
 unseated_other sessions k worker old none has = record {

@@ -289,6 +289,7 @@ module _ (laws : StartLaws) (shared : Shared) (script : Script) (phase : ℕ) (s
             (sym (slice_get-map Some left session) ∙ ran.back.left session none ∙ ran.taken.left session none ∙ slice_get-map Some clients session))
       ]
 
+  -- the phase was run by these hands, which are all of the locks', and each session was left or followed by one
   pub phase-run : IsPhaseRun shared script upto start clients left hands-after
   phase-run = record {
     at_start = seated.at_start;

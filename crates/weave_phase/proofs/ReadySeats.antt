@@ -17,7 +17,7 @@ use Rattle.weave_account.specs.declared.account.Account.{Account}
 use Rattle.weave_account.specs.Account.{session_log}
 use Rattle.weave_account.specs.Sessions.{requests_of_session}
 use Rattle.weaver_core.specs.declared.client.Client.{Client}
-use Rattle.weaver_core.specs.Clients.{log_of, requests_in}
+use Rattle.weaver_core.specs.Sessions.{log_of_client, requests_in}
 use Rattle.weaver_locks.specs.declared.hand.Hand.{Hand}
 use Rattle.weaver_locks.specs.declared.shared.Shared.{Shared}
 use Rattle.weaver_workers.specs.declared.worker.Worker.{Worker}
@@ -48,6 +48,7 @@ none-within [] k low none = absurd (omega (arith, low))
 none-within (x ∷ xs) zero low none = none-some x (sym none)
 none-within (x ∷ xs) (suc k) low none = none-within xs k (omega (arith, low)) none
 
+-- the same, with the element that is there
 pub something-at : {A : Type 0} (xs : List A) (k : ℕ) → k < length xs → (x : A) × (slice_get xs k ≡ Some x)
 something-at {A} xs k low = by (slice_get xs k) refl
   where
@@ -61,7 +62,7 @@ module _ (laws : StartLaws) (shared : Shared) (script : Script) (phase : ℕ) (s
   at_start = seated.at_start
 
   module _ (session : ℕ) (client : Client) (at : slice_get clients session ≡ Some client) where
-    abbrev log-is : session_log start session ≡ log_of client
+    abbrev log-is : session_log start session ≡ log_of_client client
     log-is = log-at start clients at_start.logs session client at
 
     -- the client's requests are those of the session
@@ -81,7 +82,7 @@ module _ (laws : StartLaws) (shared : Shared) (script : Script) (phase : ℕ) (s
         ∙ slice_get-map (requests_of_session script) (range_with_len 0 64) session ∙ ap (option_map (requests_of_session script)) in-range)
 
     -- each request that it began has its reply
-    begun-replied : (r : ℕ) (stamp : Stamp) → Contains (begins_in (log_of client)) (r, stamp) → IsTrue (has_reply_in r (log_of client))
+    begun-replied : (r : ℕ) (stamp : Stamp) → Contains (begins_in (log_of_client client)) (r, stamp) → IsTrue (has_reply_in r (log_of_client client))
     begun-replied r stamp h =
         let log = session_log start session in
         let here = subst (λ (l : List SessionEntry). Contains (begins_in l) (r, stamp)) (sym log-is) h in
@@ -116,6 +117,7 @@ module _ (laws : StartLaws) (shared : Shared) (script : Script) (phase : ℕ) (s
         earlier = earlier-replied seat.session seat.client seat.client_is;
       } in ready)
 
+  -- each worker that is seated is ready for its part of the phase
   pub ready-seat : (k : ℕ) (seat : Seat) → slice_get seats k ≡ Some seat → IsReadyForPhase shared script phase seat.worker
   ready-seat k seat at =
       let dealt = seated.dealt in

@@ -11,10 +11,12 @@ use Rattle.hands_account.proofs.Places.{pairs-filter}
 use Rattle.weave_phase.specs.Sessions.{has_request, sessions_in}
 
 module _ (script : Script) (from upto : ℕ) (sessions : List ℕ) (are : sessions ≡ sessions_in script from upto) where
+  -- the sessions with requests in a phase rise
   pub sessions-rise : AllPairs (λ (a b : ℕ). a < b) sessions
   sessions-rise = subst (AllPairs (λ (a b : ℕ). a < b)) (sym are)
       (pairs-filter (λ (a b : ℕ). a < b) (has_request script from upto) (range_with_len 0 64) (range-pairs 0 64))
 
+  -- each of them is less than 64
   pub sessions-few : (session : ℕ) → Contains sessions session → session < 64
   sessions-few session h =
       let place = (filter_has (has_request script from upto) (range_with_len 0 64) session (subst (λ (l : List ℕ). Contains l session) are h)).0 in
@@ -26,6 +28,7 @@ module _ (script : Script) (from upto : ℕ) (sessions : List ℕ) (are : sessio
       let e : session ≡ 0 + place.0 = sym same ∙ is in
       omega (arith, e, low)
 
+  -- there are at most 64 of them
   pub sessions-count : length sessions ≤ 64
   sessions-count =
       let all = range_with_len 0 64 in

@@ -12,8 +12,8 @@ use Rattle.weaver_core.specs.declared.client.Client.{Client}
 use Rattle.weaver_locks.specs.declared.hand.Hand.{Hand}
 use Rattle.weaver_workers.specs.declared.worker.Worker.{Worker}
 use Rattle.weave_phase.specs.declared.seats.Seat.{Seat}
-use Rattle.weave_phase.specs.Seating.{IsSeated, IsUnseated}
-use Rattle.weave_phase.specs.Seats.{client_in, AreDealt, ArePutBack, AreTaken, IsDealt}
+use Rattle.weave_phase.specs.OneSeat.{IsSeated, IsUnseated}
+use Rattle.weave_phase.specs.Seats.{client_in, SeatsAreDealt, ArePutBack, AreTaken, IsDealt}
 use Rattle.weave_phase.proofs.Placed.{once, push_cases}
 
 -- the session is not one of the first k
@@ -104,6 +104,7 @@ module _ (sessions : List ℕ) (gates k : ℕ) (hands : List Hand) (old now next
         ap (λ l. slice_get l session) all ∙ sym (so_far.left session (not_before sessions k session rising at))) seated)
   ]
 
+  -- with the hand of number k seated, one more hand is seated so far
   pub seated_more : SeatedSoFar sessions gates (k + 1) hands old next (seats ++ seat ∷ [])
   seated_more = record {
     many = length_push seats seat ∙ ap (λ n. n + 1) so_far.many;
@@ -148,9 +149,11 @@ module _ (sessions : List ℕ) (gates k : ℕ) (hands : List Hand) (old now next
 
 module _ (sessions : List ℕ) (gates k : ℕ) (hands : List Hand) (old now : List (Option Client)) (seats : List Seat)
     (so_far : SeatedSoFar sessions gates k hands old now seats) (enough : length sessions ≤ k) where
-  pub all_dealt : k ≡ length hands → (clients : List Client) → map Some clients ≡ old → AreDealt sessions gates clients hands seats
+  -- when all hands are seated, each has its seat, which is for a session, a gatekeeper or a shard by its number
+  pub all_dealt : k ≡ length hands → (clients : List Client) → map Some clients ≡ old → SeatsAreDealt sessions gates clients hands seats
   all_dealt end clients all = record { many = so_far.many ∙ end; each = so_far.each clients all }
 
+  -- when the hands of all sessions are seated, their clients, and no others, are out of their places
   pub all_taken : AreTaken sessions old now
   all_taken = record {
     many = so_far.long;
@@ -168,6 +171,7 @@ module _ (sessions : List ℕ) (k : ℕ) (seats : List Seat) (old now next : Lis
       let low = there session (k, slice_get_within sessions k session at, get_or_from_slice_get sessions k session session at) in
       omega (arith, low, so_far.long)
 
+  -- with the worker of number k unseated, one more worker is unseated so far
   pub unseated_more : UnseatedSoFar sessions (k + 1) seats old next
   unseated_more = record {
     long = elim (cases_lt k (length sessions)) [
@@ -207,6 +211,7 @@ module _ (sessions : List ℕ) (k : ℕ) (seats : List Seat) (old now next : Lis
         ];
   }
 
+-- when the workers of all sessions are unseated, their clients are back in their places
 pub all_back : (sessions : List ℕ) (k : ℕ) (seats : List Seat) (old now : List (Option Client)) → UnseatedSoFar sessions k seats old now
     → length sessions ≤ k → ArePutBack sessions seats old now
 all_back sessions k seats old now so_far enough = record {

@@ -6,4 +6,4 @@ pub mod StartLaws
 pub mod Ran
 pub mod RunsPhase
 pub mod Parts
-pub mod Seating
+pub mod OneSeat

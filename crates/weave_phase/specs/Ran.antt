@@ -1,5 +1,6 @@
 -- What is known when the workers of a phase have run. No public contract cites this.
 use Rattle.std.specs.Prelude.{◌≡◌, ℕ, ◌+◌, ◌<◌, true, List, length, map, slice_get, slice_index_or, AllPairs, Contains, Option, Some}
+use Rattle.weave_data.specs.Limits.{most_sessions}
 use Rattle.program_defs.specs.declared.script.Script.{Script}
 use Rattle.weave_account.specs.declared.account.Account.{Account}
 use Rattle.weaver_core.specs.declared.client.Client.{Client}
@@ -13,7 +14,7 @@ use Rattle.workers_account.specs.Phase.{IsPhaseStart}
 use Rattle.workers_account.specs.Ready.{IsAnsweredUpTo}
 use Rattle.weaver_workers.specs.Phases.{phase_start}
 use Rattle.weave_phase.specs.declared.seats.Seat.{Seat}
-use Rattle.weave_phase.specs.Seats.{AreDealt, AreTaken, ArePutBack, HaveRun}
+use Rattle.weave_phase.specs.Seats.{SeatsAreDealt, AreTaken, ArePutBack, HaveRun}
 
 -- a hand that came with the locks, with this number, which has seen the start and no more
 pub record IsHandAtStart (shared : Shared) (number : ℕ) (hand : Hand) : Type 0 where
@@ -28,11 +29,11 @@ pub record AreSeated (shared : Shared) (script : Script) (phase : ℕ) (start : 
   pub at_start : IsPhaseStart script start shared clients
   pub answered : IsAnsweredUpTo script (phase_start script phase) start
   pub rising : AllPairs (λ (a b : ℕ). a < b) sessions
-  pub few : (session : ℕ) → Contains sessions session → session < 64
+  pub few : (session : ℕ) → Contains sessions session → session < most_sessions
   pub many : length hands ≡ length sessions + script.gates + script.shards
   pub of_locks : hands_of shared ≡ length hands
   pub new : (k : ℕ) (hand : Hand) → slice_get hands k ≡ Some hand → IsHandAtStart shared k hand
-  pub dealt : AreDealt sessions script.gates clients hands seats
+  pub dealt : SeatsAreDealt sessions script.gates clients hands seats
 
 -- They ran, and each is done. The sessions' clients were taken out of their places for it, and were put back.
 pub record HaveRunPhase (shared : Shared) (script : Script) (phase : ℕ) (sessions : List ℕ) (clients left : List Client)
@@ -45,9 +46,9 @@ pub record HaveRunPhase (shared : Shared) (script : Script) (phase : ℕ) (sessi
 
 -- The machines of these parts are behind locks, with a new hand for each of these sessions, which rise, each gatekeeper
 -- and each shard.
-pub record AreOpened (split : Split) (shared : Shared) (hands : List Hand) (sessions : List ℕ) : Type 0 where
+pub record PartsAreOpened (split : Split) (shared : Shared) (hands : List Hand) (sessions : List ℕ) : Type 0 where
   pub rising : AllPairs (λ (a b : ℕ). a < b) sessions
-  pub few : (session : ℕ) → Contains sessions session → session < 64
+  pub few : (session : ℕ) → Contains sessions session → session < most_sessions
   pub gates : gate_count shared ≡ length split.gates.items
   pub shards : shard_count shared ≡ length split.shards.items
   pub begins : start_of shared ≡ logs_of split.gates.items split.store split.oracle split.shards.items

@@ -1,5 +1,5 @@
 -- The workers of a phase, each with its hand, in the order of their hands' numbers: those of sessions, of gatekeepers
--- and of shards.
+-- and of shards. No public contract cites this.
 use Rattle.std.specs.Prelude.{◌≡◌, ℕ, ◌+◌, ◌-◌, ◌<◌, ◌≤◌, true, List, length, slice_get, Contains, Option, None, Some}
 use Rattle.program_defs.specs.declared.script.Script.{Script}
 use Rattle.weaver_core.specs.declared.client.Client.{Client}
@@ -42,7 +42,7 @@ pub record IsDealt (sessions : List ℕ) (gates : ℕ) (clients : List Client) (
   pub shard : length sessions + gates ≤ k → worker ≡ ShardWork hand (k - (length sessions + gates))
 
 -- each hand has its seat, which is not done
-pub record AreDealt (sessions : List ℕ) (gates : ℕ) (clients : List Client) (hands : List Hand) (seats : List Seat)
+pub record SeatsAreDealt (sessions : List ℕ) (gates : ℕ) (clients : List Client) (hands : List Hand) (seats : List Seat)
     : Type 0 where
   pub many : length seats ≡ length hands
   pub each : (k : ℕ) (hand : Hand) (seat : Seat) → slice_get hands k ≡ Some hand → slice_get seats k ≡ Some seat

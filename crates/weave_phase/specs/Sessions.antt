@@ -1,6 +1,7 @@
--- The sessions that have requests in a phase.
+-- The sessions that have requests in a phase. No public contract cites this.
 use Rattle.std.specs.Prelude.{ℕ, ◌-◌, ◌==◌, Bool, List, drop, filter, take}
 use Rattle.std.specs.List.{list_any, range_with_len}
+use Rattle.weave_data.specs.Limits.{most_sessions}
 use Rattle.program_defs.specs.declared.script.Request.{Request}
 use Rattle.program_defs.specs.declared.script.Script.{Script}
 
@@ -11,4 +12,4 @@ has_request script from upto session =
 
 -- the sessions of these requests, rising
 abbrev pub sessions_in : Script → ℕ → ℕ → List ℕ
-sessions_in script from upto = filter (has_request script from upto) (range_with_len 0 64)
+sessions_in script from upto = filter (has_request script from upto) (range_with_len 0 most_sessions)

@@ -6,7 +6,7 @@ use Rattle.weave_entries.specs.declared.session_log.SessionEntry.{SessionEntry}
 use Rattle.weave_entries.specs.SessionReplay.{IsSessionLog, begins_in, has_reply_in, session_of}
 use Rattle.weave_account.specs.declared.account.Account.{Account}
 use Rattle.weaver_core.specs.declared.client.Client.{Client}
-use Rattle.weaver_core.specs.Clients.{log_of}
+use Rattle.weaver_core.specs.Sessions.{log_of_client}
 use Rattle.weaver_locks.specs.declared.hand.Hand.{Hand}
 use Rattle.weaver_locks.specs.declared.shared.Shared.{Shared}
 use Rattle.weaver_locks.specs.Hands.{seen_by, IsHand}
@@ -37,8 +37,8 @@ pub record StartLaws : Type 0 where
   pub ready : (script : Script) (start : Account) (shared : Shared) (clients : List Client) (hand : Hand) (session : ℕ)
       (client : Client) → IsPhaseStart script start shared clients → IsHand shared hand
       → seen_by hand ≡ start_of shared → slice_get clients session ≡ Some client
-      → ((r : ℕ) (stamp : Stamp) → Contains (begins_in (log_of client)) (r, stamp)
-      → IsTrue (has_reply_in r (log_of client))) → KeepsClient shared script session hand client
+      → ((r : ℕ) (stamp : Stamp) → Contains (begins_in (log_of_client client)) (r, stamp)
+      → IsTrue (has_reply_in r (log_of_client client))) → KeepsClient shared script session hand client
   -- sessions_go_in_turn
   pub begun_first : (number : ℕ) (requests : List ℕ) (log : List SessionEntry) → IsSessionLog number requests log
       → map (λ (begun : ℕ × Stamp). begun.0) (begins_in log) ≡ take (session_of requests log).begun requests

@@ -1,5 +1,6 @@
 //! A phase of a script, run by workers on threads.
 ghost use Rattle.std.specs.Prelude.{ℕ, ◌<◌, ◌≤◌, AllPairs, Contains, IfOk, length};
+ghost use Rattle.weave_data.specs.Limits.{most_sessions};
 ghost use Rattle.weaver_core.specs.Splitting.{NoneInFlight};
 ghost use Rattle.weaver_workers.specs.Phases.{phase_end, phase_start};
 ghost use Rattle.weaver_workers.specs.Workers.{HasPhase};
@@ -62,8 +63,8 @@ fn run_parts<R: Threads + Wait + Sync, P: Pace>(
 ) -> Result<Split, AllocError>
     requires parts { AreReadyParts phase split }
     requires rising { AllPairs (λ (a b : ℕ). a < b) sessions.now }
-    requires few { (session : ℕ) → Contains sessions.now session → session < 64 }
-    requires count { length sessions.now ≤ 64 }
+    requires few { (session : ℕ) → Contains sessions.now session → session < most_sessions }
+    requires count { length sessions.now ≤ most_sessions }
     ensures { IfOk result (PartsGoOn phase split) }
 {
     phases_keep_their_laws();

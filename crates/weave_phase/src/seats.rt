@@ -1,8 +1,8 @@
 //! The workers of a phase, each with its hand: they are seated before they run, and unseated after.
 ghost use Rattle.std.specs.Prelude.{◌≡◌, ℕ, ◌<◌, ◌≤◌, ◌^◌, AllPairs, Contains, IfOk, IsTrue, List, None, OnOk, Some, false, length, map, slice_get, slice_set, true, vec_len};
 ghost use Rattle.weaver_core.specs.declared.client.Client.{Client};
-ghost use Rattle.weave_phase.specs.Seating.{IsSeated, IsUnseated};
-ghost use Rattle.weave_phase.specs.Seats.{client_in, hand_in, AreDealt, ArePutBack, AreTaken};
+ghost use Rattle.weave_phase.specs.OneSeat.{IsSeated, IsUnseated};
+ghost use Rattle.weave_phase.specs.Seats.{client_in, hand_in, SeatsAreDealt, ArePutBack, AreTaken};
 ghost use Rattle.weave_phase.specs.declared.seats.Seat.{Seat};
 
 use std::alloc::{AllocError, Global};
@@ -32,7 +32,7 @@ pub(crate) fn seat_all(
     requires there { (session : ℕ) → Contains sessions.now session
         → (client : Client) × (slice_get slots.old.items session ≡ Some (Some client)) }
     ensures dealt { IfOk result (λ seats. (clients : List Client) → map Some clients ≡ slots.old.items
-        → AreDealt sessions.now gates clients hands.items seats.items) }
+        → SeatsAreDealt sessions.now gates clients hands.items seats.items) }
     ensures taken { OnOk result (AreTaken sessions.now slots.old.items slots.new.items) }
     ensures undone { IfOk result (λ seats. (k : ℕ) (seat : Seat) → slice_get seats.items k ≡ Some seat
         → seat.done ≡ false) }

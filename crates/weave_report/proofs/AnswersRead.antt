@@ -18,8 +18,8 @@ use Rattle.weave_report.specs.declared.fault.ReportCause.TheVariants as cause
 use Rattle.report_rules.specs.declared.report.StepAnswer.{StepAnswer}
 use Rattle.report_rules.specs.declared.report.StepAnswer.TheVariants as step
 use Rattle.weave_data.specs.Steps.{◌>>=◌}
-use Rattle.weave_report.specs.ReadingFields.{name_in, names_in, small_number_in}
-use Rattle.weave_report.specs.ReadingStates.{is_state_form, state_in, is_reached_form, is_found_form, is_walk_form, is_answer_form, shown_in, reached_in, found_in, walk_in, answer_in, bare_answer, is_step_form, step_answer_in}
+use Rattle.weave_report.specs.ReadingFields.{name_in, read_names, small_number_in}
+use Rattle.weave_report.specs.ReadingStates.{is_state_form, read_state, is_reached_form, is_found_form, is_walk_form, is_answer_form, shown_in, reached_in, read_found, walk_in, answer_in, bare_answer, is_step_form, step_answer_in}
 use Rattle.report_rules.specs.ReportOf.{has_form_for}
 use Rattle.weave_report.specs.ReportText.{state_words, answer_words, step_answer_words}
 use Rattle.weave_report.specs.TextOf.{IsName, IsTypedAnswer, IsTypedStepAnswer}
@@ -40,7 +40,7 @@ module _ (laws : TextLaws) where
 
   shown_read : (program : Program) (words : List Word) (answer : Answer) → ((state : State) → has_form_for program (Shown state) ≡ true) → is_state_form words ≡ true → shown_in words ≡ Ok answer → IsAnswer program words answer
   shown_read program words answer form h e =
-      let one = bind_ok (state_in words) (λ state. Ok (Shown state)) answer e in
+      let one = bind_ok (read_state words) (λ state. Ok (Shown state)) answer e in
       let state = (state_read laws) words one.0 h one.1 in
       subst (IsAnswer program words) (ok_is (Shown one.0) answer one.2) (record { form = form one.0; typed = state.0; told = state.1 })
 
@@ -63,10 +63,10 @@ module _ (laws : TextLaws) where
       let told : word ∷ more ≡ answer_words (Reached b) = ap (λ more. word ∷ more) ((no_words laws) more parts.1) ∙ reached_word word b refl parts.0 in
       subst (IsAnswer program (word ∷ more)) (ok_is (Reached b) answer e) (record { form = form b; typed = tt; told = told })
 
-  found_read : (program : Program) (words : List Word) (answer : Answer) → ((names : List Name) → has_form_for program (Found names) ≡ true) → is_found_form words ≡ true → found_in words ≡ Ok answer → IsAnswer program words answer
+  found_read : (program : Program) (words : List Word) (answer : Answer) → ((names : List Name) → has_form_for program (Found names) ≡ true) → is_found_form words ≡ true → read_found words ≡ Ok answer → IsAnswer program words answer
   found_read program [] answer form h e = absurd cc
   found_read program (word ∷ words) answer form h e =
-      let one = bind_ok (names_in words) (λ names. Ok (Found names)) answer e in
+      let one = bind_ok (read_names words) (λ names. Ok (Found names)) answer e in
       let names = (names_read laws) [] words one.0 one.1 in
       subst (IsAnswer program (word ∷ words)) (ok_is (Found one.0) answer one.2) (record {
         form = form one.0;
@@ -77,9 +77,9 @@ module _ (laws : TextLaws) where
   walk_read : (program : Program) (words : List Word) (answer : Answer) → ((walk : Option (List Name)) → has_form_for program (Walk walk) ≡ true) → is_walk_form words ≡ true → walk_in words ≡ Ok answer → IsAnswer program words answer
   walk_read program [] answer form h e = absurd cc
   walk_read program (word ∷ words) answer form h e =
-      elim (chosen (bytes_eq word (codes "path")) (names_in words >>= λ names. Ok (Walk (Some names))) (Ok (Walk None)) (Ok answer) e) [
+      elim (chosen (bytes_eq word (codes "path")) (read_names words >>= λ names. Ok (Walk (Some names))) (Ok (Walk None)) (Ok answer) e) [
         | inl k ↦
-            let one = bind_ok (names_in words) (λ names. Ok (Walk (Some names))) answer k.1 in
+            let one = bind_ok (read_names words) (λ names. Ok (Walk (Some names))) answer k.1 in
             let names = (names_read laws) [] words one.0 one.1 in
             subst (IsAnswer program (word ∷ words)) (ok_is (Walk (Some one.0)) answer one.2) (record {
               form = form (Some one.0);
@@ -99,17 +99,19 @@ module _ (laws : TextLaws) where
       left_out true y e k = absurd cc
       left_out false y e k = e
 
+  -- words that are read as a program's answer are its words; it has the program's form, and its fields are valid
   pub answer_read : (program : Program) (words : List Word) (answer : Answer) → is_answer_form program words ≡ true → answer_in program words ≡ Ok answer → IsAnswer program words answer
   answer_read (Show v) words answer h e = shown_read (Show v) words answer (λ state. refl) h e
   answer_read (Reach from to pass) words answer h e = reached_read (Reach from to pass) words answer (λ b. refl) h e
   answer_read (Around from bound pass) words answer h e = found_read (Around from bound pass) words answer (λ names. refl) h e
   answer_read (Path from to bound pass) words answer h e = walk_read (Path from to bound pass) words answer (λ walk. refl) h e
 
+  -- the words of a valid answer of the program's form have that form and are read as the answer
   pub answer_again : (program : Program) (answer : Answer) → has_form_for program answer ≡ true → IsTypedAnswer answer
       → (is_answer_form program (answer_words answer) ≡ true) × (answer_in program (answer_words answer) ≡ Ok answer)
   answer_again (Show v) (Shown state) form h =
       let again = (state_again laws) state h in
-      (again.0, then_ok (state_in (state_words state)) (λ state. Ok (Shown state)) state _ again.1 refl)
+      (again.0, then_ok (read_state (state_words state)) (λ state. Ok (Shown state)) state _ again.1 refl)
   answer_again (Show v) (Reached b) form h = absurd cc
   answer_again (Show v) (Found names) form h = absurd cc
   answer_again (Show v) (Walk walk) form h = absurd cc
@@ -118,12 +120,12 @@ module _ (laws : TextLaws) where
   answer_again (Reach from to pass) (Shown state) form h = absurd cc
   answer_again (Reach from to pass) (Found names) form h = absurd cc
   answer_again (Reach from to pass) (Walk walk) form h = absurd cc
-  answer_again (Around from bound pass) (Found names) form h = (refl, then_ok (names_in names) (λ names. Ok (Found names)) names _ ((names_again laws) [] names h) refl)
+  answer_again (Around from bound pass) (Found names) form h = (refl, then_ok (read_names names) (λ names. Ok (Found names)) names _ ((names_again laws) [] names h) refl)
   answer_again (Around from bound pass) (Shown state) form h = absurd cc
   answer_again (Around from bound pass) (Reached b) form h = absurd cc
   answer_again (Around from bound pass) (Walk walk) form h = absurd cc
   answer_again (Path from to bound pass) (Walk None) form h = (refl, refl)
-  answer_again (Path from to bound pass) (Walk (Some names)) form h = (refl, then_ok (names_in names) (λ names. Ok (Walk (Some names))) names _ ((names_again laws) [] names h) refl)
+  answer_again (Path from to bound pass) (Walk (Some names)) form h = (refl, then_ok (read_names names) (λ names. Ok (Walk (Some names))) names _ ((names_again laws) [] names h) refl)
   answer_again (Path from to bound pass) (Shown state) form h = absurd cc
   answer_again (Path from to bound pass) (Reached b) form h = absurd cc
   answer_again (Path from to bound pass) (Found names) form h = absurd cc
@@ -158,6 +160,7 @@ module _ (laws : TextLaws) where
       none_is : ◌≡◌ {A = Option StepAnswer} None (Some answer) → ⊥
       none_is e = cc
 
+  -- words that are read as a step's answer are its words, and its fields are valid
   pub step_answer_read : (words : List Word) (answer : StepAnswer) → is_step_form words ≡ true → step_answer_in words ≡ Ok answer → IsStepAnswer words answer
   step_answer_read [] answer h e = absurd cc
   step_answer_read (word ∷ []) answer h e = bare_read word answer (or_cause_read cause.Line (bare_answer word) answer e)
@@ -173,6 +176,7 @@ module _ (laws : TextLaws) where
       subst (IsStepAnswer (word ∷ shard ∷ gate ∷ [])) (ok_is (step.Again one.0 two.0) answer two.2) (record { typed = (s.1, g.1); told = λ i. is_word word (codes "again") h i ∷ s.0 i ∷ g.0 i ∷ [] })
   step_answer_read (word ∷ a ∷ b ∷ c ∷ words) answer h e = absurd cc
 
+  -- the words of a valid answer of a step have the form of one and are read as it
   pub step_answer_again : (answer : StepAnswer) → IsTypedStepAnswer answer → (is_step_form (step_answer_words answer) ≡ true) × (step_answer_in (step_answer_words answer) ≡ Ok answer)
   step_answer_again step.Ok h = (refl, refl)
   step_answer_again step.Twice h = (refl, refl)

@@ -6,11 +6,11 @@ use Rattle.std.proofs.lemmas.Bool.{cond-true, cond-false, ltb-true, ltb-false}
 use Rattle.std.proofs.lemmas.List.{take_all, length-drop}
 use Rattle.std.proofs.lemmas.Option.{cond_some}
 use Rattle.weave_text.proofs.FirstPiece.{test_failed}
-use Rattle.weave_report.specs.ReadingStates.{Cut, cut_behind, cut_first}
+use Rattle.weave_report.specs.ReadingStates.{CutText, cut_behind, cut_first}
 
 module _ (is_mark : ℕ → Bool) where
   -- the cut at a place
-  abbrev cut_at : List ℕ → ℕ → Cut
+  abbrev cut_at : List ℕ → ℕ → CutText
   cut_at text at = (take at text, get_or text at 0, drop (suc at) text)
 
   -- the place of the first mark of a text with one more byte in front

@@ -13,9 +13,9 @@ use Rattle.weave_report.specs.declared.read.parts.Place.TheVariants.{Start, Repl
 use Rattle.weave_report.specs.declared.read.parts.Reading.{Reading}
 use Rattle.report_rules.specs.declared.report.Report.{Report}
 use Rattle.weave_data.specs.Steps.{◌>>=◌}
-use Rattle.weave_report.specs.ReadingFields.{Read}
-use Rattle.weave_report.specs.Reading.{Refusal, after_any_line, after_line, after_lines, behind_line, report_in, start, whole_report}
-use Rattle.weave_report.specs.FirstRefusal.{IsFirstRefusal, IsRefusedAt, is_ended, read_over}
+use Rattle.weave_report.specs.ReadingFields.{ReadResult}
+use Rattle.weave_report.specs.Reading.{Refusal, after_any_line, after_report_line, after_lines, behind_line, report_in, report_start, whole_report}
+use Rattle.weave_report.specs.FirstRefusal.{IsFirstRefusal, IsRefusedAt, is_at_end, read_over}
 use Rattle.weave_data.proofs.Steps.{bind_ok, ok_is}
 
 abbrev refused : Refusal → Result Report Refusal
@@ -30,7 +30,7 @@ told_at n why refusal e =
     (ap (λ (refusal : Refusal). refusal.0) same, ap (λ (refusal : Refusal). refusal.1) same)
 
 -- after the last line
-not_whole : (n : ℕ) (place : Place) (report : Report) (refusal : Refusal) → whole_report n place report ≡ refused refusal → (refusal.0 ≡ n) × (is_ended place ≡ false) × (refusal.1 ≡ cause.End)
+not_whole : (n : ℕ) (place : Place) (report : Report) (refusal : Refusal) → whole_report n place report ≡ refused refusal → (refusal.0 ≡ n) × (is_at_end place ≡ false) × (refusal.1 ≡ cause.End)
 not_whole n Ended report refusal e = absurd cc
 not_whole n Start report refusal e = let told = told_at n cause.End refusal e in (told.0, refl, told.1)
 not_whole n Replies report refusal e = let told = told_at n cause.End refusal e in (told.0, refl, told.1)
@@ -65,7 +65,7 @@ further script n from next line lines refusal step first = record {
 
 -- the line that was refused isn't skipped
 line_refused : (script : Script) (from : Reading) (line : Bytes) (why : ReportCause) (b : Bool) → is_skipped line ≡ b
-    → cond b (Ok from) (after_line script from (words_of line)) ≡ Err why → (is_skipped line ≡ false) × (after_line script from (words_of line) ≡ Err why)
+    → cond b (Ok from) (after_report_line script from (words_of line)) ≡ Err why → (is_skipped line ≡ false) × (after_report_line script from (words_of line) ≡ Err why)
 line_refused script from line why true skipped e = absurd cc
 line_refused script from line why false kept e = (kept, e)
 
@@ -74,7 +74,7 @@ pub first_refused : (script : Script) (n : ℕ) (from : Reading) (lines : List B
 first_refused script n from [] refusal e = let told = not_whole n from.place from.report refusal e in at_once script n from [] refusal told.0 (told.1, told.2)
 first_refused script n from (line ∷ lines) refusal e = go (λ next e. first_refused script (n + 1) next lines refusal e) (after_any_line script from line) refl e
   where
-    go : ((next : Reading) → after_lines script (n + 1) next lines ≡ Err refusal → IsFirstRefusal script (n + 1) next lines refusal) → (one : Read Reading) → after_any_line script from line ≡ one
+    go : ((next : Reading) → after_lines script (n + 1) next lines ≡ Err refusal → IsFirstRefusal script (n + 1) next lines refusal) → (one : ReadResult Reading) → after_any_line script from line ≡ one
         → behind_line n one (λ next. after_lines script (n + 1) next lines) ≡ Err refusal → IsFirstRefusal script n from (line ∷ lines) refusal
     go rest (Ok next) step e = further script n from next line lines refusal step (rest next e)
     go rest (Err why) step e =
@@ -82,13 +82,13 @@ first_refused script n from (line ∷ lines) refusal e = go (λ next e. first_re
         at_once script n from (line ∷ lines) refusal told.0 (line_refused script from line refusal.1 (is_skipped line) refl (step ∙ ap (λ why. Err why) (sym told.1)))
 
 -- of a whole text
-pub first_refused_of_text : (script : Script) (first_line : ℕ) (bytes : Bytes) (refusal : Refusal) → report_in script first_line bytes ≡ Err refusal → IsFirstRefusal script first_line start (lines_of bytes) refusal
+pub first_refused_of_text : (script : Script) (first_line : ℕ) (bytes : Bytes) (refusal : Refusal) → report_in script first_line bytes ≡ Err refusal → IsFirstRefusal script first_line report_start (lines_of bytes) refusal
 unfolding report_in
-first_refused_of_text script first_line bytes refusal e = first_refused script first_line start (lines_of bytes) refusal e
+first_refused_of_text script first_line bytes refusal e = first_refused script first_line report_start (lines_of bytes) refusal e
 
 -- ---- a first refusal is reported
 
-whole_or_told : (n : ℕ) (place : Place) (report : Report) → is_ended place ≡ false → whole_report n place report ≡ refused (n, cause.End)
+whole_or_told : (n : ℕ) (place : Place) (report : Report) → is_at_end place ≡ false → whole_report n place report ≡ refused (n, cause.End)
 whole_or_told n Ended report h = absurd cc
 whole_or_told n Start report h = refl
 whole_or_told n Replies report h = refl
@@ -102,7 +102,7 @@ refused_as n why refusal number same = λ i. Err (sym number i, sym same i)
 told_there : (script : Script) (n : ℕ) (from : Reading) (lines : List Bytes) (refusal : Refusal) → refusal.0 ≡ n → IsRefusedAt script from lines refusal.1 → after_lines script n from lines ≡ Err refusal
 told_there script n from [] refusal number h = whole_or_told n from.place from.report h.0 ∙ refused_as n cause.End refusal number h.1
 told_there script n from (line ∷ lines) refusal number h =
-    ap (λ one. behind_line n one (λ next. after_lines script (n + 1) next lines)) (cond-false (is_skipped line) (Ok from) (after_line script from (words_of line)) h.0 ∙ h.1)
+    ap (λ one. behind_line n one (λ next. after_lines script (n + 1) next lines)) (cond-false (is_skipped line) (Ok from) (after_report_line script from (words_of line)) h.0 ∙ h.1)
     ∙ refused_as n refusal.1 refusal number refl
 
 told_behind : (script : Script) (n : ℕ) (from : Reading) (before rest : List Bytes) (reading : Reading) (refusal : Refusal) → refusal.0 ≡ n + length before → read_over script from before ≡ Ok reading

@@ -7,12 +7,12 @@ use Rattle.vector_stamp.specs.declared.clock.Stamp.{Stamp}
 use Rattle.weave_data.specs.Names.{is_name}
 use Rattle.weave_data.specs.declared.name.Name.{Name}
 use Rattle.weave_text.specs.Lines.{Word}
-use Rattle.weave_text.specs.Numbers.{number_of}
+use Rattle.weave_text.specs.Numbers.{number_of_word}
 use Rattle.program_defs.specs.declared.script.Script.{Script}
 use Rattle.weave_report.specs.declared.fault.ReportCause.TheVariants as cause
 use Rattle.weave_report.specs.Reading.{order_in}
 use Rattle.weave_data.specs.Steps.{◌>>=◌}
-use Rattle.weave_report.specs.ReadingFields.{Read, counts_from, names_from, or_cause, stamp_of}
+use Rattle.weave_report.specs.ReadingFields.{ReadResult, counts_from, names_from, or_cause, stamp_with_counts}
 use Rattle.weave_report.specs.ReadingLists.{few_counts, order_from, with_named}
 use Rattle.weave_report.specs.ReadingReplies.{named_from, request_named}
 
@@ -20,21 +20,21 @@ use Rattle.weave_report.specs.ReadingReplies.{named_from, request_named}
 
 module _ (gates epoch home : ℕ) where
   -- the stamp of these counts
-  abbrev stamp : List ℕ → Read Stamp
-  stamp counts = stamp_of gates epoch home counts
+  abbrev stamp : List ℕ → ReadResult Stamp
+  stamp counts = stamp_with_counts gates epoch home counts
 
-  unequal : (below same : Bool) (value : Read Stamp) → same ≡ false → cond (below && same) value (Err cause.Stamp) ≡ Err cause.Stamp
+  unequal : (below same : Bool) (value : ReadResult Stamp) → same ≡ false → cond (below && same) value (Err cause.Stamp) ≡ Err cause.Stamp
   unequal true false value e = refl
   unequal false false value e = refl
   unequal below true value e = absurd cc
 
-  further : (counts words : List ℕ → Read (List ℕ)) (count : Option ℕ) (before : List ℕ)
+  further : (counts words : List ℕ → ReadResult (List ℕ)) (count : Option ℕ) (before : List ℕ)
       → ((count : ℕ) → (counts (before ++ count ∷ []) >>= stamp) ≡ (words (before ++ count ∷ []) >>= stamp))
       → ((or_cause cause.Stamp count >>= λ count. counts (before ++ count ∷ [])) >>= stamp) ≡ ((or_cause cause.Stamp count >>= λ count. words (before ++ count ∷ [])) >>= stamp)
   further counts words None before same = refl
   further counts words (Some count) before same = same count
 
-  refused : (words : List ℕ → Read (List ℕ)) (count : Option ℕ) (before : List ℕ) → ((count : ℕ) → (words (before ++ count ∷ []) >>= stamp) ≡ Err cause.Stamp)
+  refused : (words : List ℕ → ReadResult (List ℕ)) (count : Option ℕ) (before : List ℕ) → ((count : ℕ) → (words (before ++ count ∷ []) >>= stamp) ≡ Err cause.Stamp)
       → ((or_cause cause.Stamp count >>= λ count. words (before ++ count ∷ [])) >>= stamp) ≡ Err cause.Stamp
   refused words None before none = refl
   refused words (Some count) before none = none count
@@ -44,9 +44,9 @@ module _ (gates epoch home : ℕ) where
   too_many before [] n =
       unequal (nat_lt home gates) (length before == min gates 8) _ (false_from_ne_true _ (λ e. absurd (omega (arith, eqb-true _ _ e))))
   too_many before (word ∷ words) n =
-      refused (λ before. counts_from before words) (number_of word) before (λ count. too_many (before ++ count ∷ []) words (omega (arith, n, length-append before (count ∷ []))))
+      refused (λ before. counts_from before words) (number_of_word word) before (λ count. too_many (before ++ count ∷ []) words (omega (arith, n, length-append before (count ∷ []))))
 
-  another : (full : Bool) (few all : Read (List ℕ)) → (full ≡ true → (all >>= stamp) ≡ Err cause.Stamp) → (full ≡ false → (few >>= stamp) ≡ (all >>= stamp))
+  another : (full : Bool) (few all : ReadResult (List ℕ)) → (full ≡ true → (all >>= stamp) ≡ Err cause.Stamp) → (full ≡ false → (few >>= stamp) ≡ (all >>= stamp))
       → (cond full (Err cause.Stamp) few >>= stamp) ≡ (all >>= stamp)
   another true few all none same = sym (none refl)
   another false few all none same = same refl
@@ -56,8 +56,8 @@ module _ (gates epoch home : ℕ) where
   few_are_all before [] n = refl
   few_are_all before (word ∷ words) n =
       another (length before == 8) _ _
-      (λ full. refused (λ before. counts_from before words) (number_of word) before (λ count. too_many (before ++ count ∷ []) words (omega (arith, eqb-true _ _ full, length-append before (count ∷ [])))))
-      (λ room. further (λ before. few_counts before words) (λ before. counts_from before words) (number_of word) before
+      (λ full. refused (λ before. counts_from before words) (number_of_word word) before (λ count. too_many (before ++ count ∷ []) words (omega (arith, eqb-true _ _ full, length-append before (count ∷ [])))))
+      (λ room. further (λ before. few_counts before words) (λ before. counts_from before words) (number_of_word word) before
       (λ count. few_are_all (before ++ count ∷ []) words (omega (arith, n, eqb-false _ _ room, length-append before (count ∷ [])))))
 
 -- ---- the order
@@ -86,7 +86,7 @@ module _ (script : Script) where
   each_named order [] = refl
   each_named order (name ∷ names) = looked_up (request_named script name) order names (λ r. each_named (order ++ r ∷ []) names)
 
-  one : (is : Bool) (word : Word) (left : Word → Read (List ℕ)) (all : Word → Read (List Name)) → left word ≡ (all word >>= named_from script [])
+  one : (is : Bool) (word : Word) (left : Word → ReadResult (List ℕ)) (all : Word → ReadResult (List Name)) → left word ≡ (all word >>= named_from script [])
       → (cond is (Ok word) (Err cause.Name) >>= left) ≡ ((cond is (Ok word) (Err cause.Name) >>= all) >>= named_from script [])
   one true word left all same = same
   one false word left all same = refl

@@ -8,20 +8,20 @@ use Rattle.weave_data.proofs.Steps.{ok_is}
 use Rattle.weave_text.specs.Lines.{Word}
 use Rattle.weave_report.specs.declared.fault.ReportCause.{ReportCause}
 use Rattle.weave_data.specs.Steps.{◌>>=◌}
-use Rattle.weave_report.specs.ReadingFields.{Read, or_cause}
+use Rattle.weave_report.specs.ReadingFields.{ReadResult, or_cause}
 
 module _ {A : Type 0} where
   -- what is refused is not read
-  pub err_is_not : (why : ReportCause) (y : A) → ◌≡◌ {A = Read A} (Err why) (Ok y) → ⊥
+  pub err_is_not : (why : ReportCause) (y : A) → ◌≡◌ {A = ReadResult A} (Err why) (Ok y) → ⊥
   err_is_not why y e = cc
 
   -- a test that was passed
-  pub passed : (b : Bool) (one : Read A) (why : ReportCause) (y : A) → cond b one (Err why) ≡ Ok y → (b ≡ true) × (one ≡ Ok y)
+  pub passed : (b : Bool) (one : ReadResult A) (why : ReportCause) (y : A) → cond b one (Err why) ≡ Ok y → (b ≡ true) × (one ≡ Ok y)
   passed true one why y e = (refl, e)
   passed false one why y e = absurd (err_is_not why y e)
 
   -- which way a test went
-  pub chosen : (b : Bool) (x y z : Read A) → cond b x y ≡ z → ((b ≡ true) × (x ≡ z)) ⊎ ((b ≡ false) × (y ≡ z))
+  pub chosen : (b : Bool) (x y z : ReadResult A) → cond b x y ≡ z → ((b ≡ true) × (x ≡ z)) ⊎ ((b ≡ false) × (y ≡ z))
   chosen true x y z e = inl (refl, e)
   chosen false x y z e = inr (refl, e)
 
@@ -36,7 +36,7 @@ module _ {A : Type 0} where
 
   module _ {B : Type 0} where
     -- a step that gives something leaves the next
-    pub then_ok : (one : Read A) (next : A → Read B) (x : A) (y : Read B) → one ≡ Ok x → next x ≡ y → (one >>= next) ≡ y
+    pub then_ok : (one : ReadResult A) (next : A → ReadResult B) (x : A) (y : ReadResult B) → one ≡ Ok x → next x ≡ y → (one >>= next) ≡ y
     then_ok one next x y e k = ap (λ one. one >>= next) e ∙ k
 
 -- the word is this text

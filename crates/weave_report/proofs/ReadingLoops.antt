@@ -8,7 +8,7 @@ use Rattle.weave_report.specs.declared.fault.LineFault.{LineFault}
 use Rattle.weave_report.specs.declared.fault.LineFault.TheVariants.{Refused, Memory}
 use Rattle.weave_report.specs.ReadAnswers.{Gives, Changes}
 use Rattle.weave_data.specs.Steps.{◌>>=◌}
-use Rattle.weave_report.specs.ReadingFields.{Read}
+use Rattle.weave_report.specs.ReadingFields.{ReadResult}
 
 -- the words that are left begin with the one at this place
 pub word_at : (words : List (Bor (List ℕ))) (i : ℕ) (d : Bor (List ℕ)) → i < length words
@@ -20,15 +20,15 @@ word_at words i d h =
 
 module _ {A B : Type 0} where
   -- a step that fails fails the whole
-  pub fails : (fault : LineFault) (one : Read A) (next : A → Read B) (whole : Read B) → (one >>= next) ≡ whole → Gives {A = A} (Err fault) one → Gives {A = B} (Err fault) whole
+  pub fails : (fault : LineFault) (one : ReadResult A) (next : A → ReadResult B) (whole : ReadResult B) → (one >>= next) ≡ whole → Gives {A = A} (Err fault) one → Gives {A = B} (Err fault) whole
   fails (Refused why) one next whole all h = sym all ∙ ap (λ one. one >>= next) h
   fails Memory one next whole all h = tt
 
   -- a step that is done leaves the rest
-  pub done : (value : A) (one : Read A) (next : A → Read B) (whole : Read B) → (one >>= next) ≡ whole → one ≡ Ok value → next value ≡ whole
+  pub done : (value : A) (one : ReadResult A) (next : A → ReadResult B) (whole : ReadResult B) → (one >>= next) ≡ whole → one ≡ Ok value → next value ≡ whole
   done value one next whole all h = sym (ap (λ one. one >>= next) h) ∙ all
 
   -- the same of a step that changes a value in its place
-  pub changing_fails : (fault : LineFault) (new : A) (one : Read A) (next : A → Read B) (whole : Read B) → (one >>= next) ≡ whole → Changes {A = A} (Err fault) new one → Gives {A = B} (Err fault) whole
+  pub changing_fails : (fault : LineFault) (new : A) (one : ReadResult A) (next : A → ReadResult B) (whole : ReadResult B) → (one >>= next) ≡ whole → Changes {A = A} (Err fault) new one → Gives {A = B} (Err fault) whole
   changing_fails (Refused why) new one next whole all h = sym all ∙ ap (λ one. one >>= next) h
   changing_fails Memory new one next whole all h = tt

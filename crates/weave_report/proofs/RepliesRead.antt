@@ -23,12 +23,13 @@ use Rattle.report_rules.specs.declared.report.Reply.{Reply}
 use Rattle.report_rules.specs.declared.report.ReplyState.{ReplyState}
 use Rattle.report_rules.specs.declared.report.ReplyState.TheVariants as told
 use Rattle.weave_data.specs.Steps.{◌>>=◌}
-use Rattle.weave_report.specs.ReadingFields.{name_in, number_in, small_number_in, this_number_in, reason_in, stamp_in}
-use Rattle.weave_report.specs.ReadingStates.{is_state_form, state_in, is_answer_form, answer_in}
-use Rattle.weave_report.specs.ReadingReplies.{any_named, kind_named, program_named, gets_of, unbegun_in, begun_in, committed_in, conflict_in, refused_in, transaction_in, finished_by, finished_in, program_in, got_in}
+use Rattle.weave_report.specs.ReadingFields.{name_in, read_number, small_number_in, this_number_in, reason_in, read_stamp}
+use Rattle.weave_report.specs.ReadingStates.{is_state_form, read_state, is_answer_form, answer_in}
+use Rattle.weave_report.specs.ReadingReplies.{any_named, kind_named, program_named, get_numbers, unbegun_in, read_begun, committed_in, conflict_in, refused_in, transaction_in, finished_by, finished_in, program_in, got_in}
 use Rattle.program_defs.specs.Works.{is_look}
 use Rattle.report_rules.specs.ReportOf.{MatchesWork, IsReplyOf, is_stamp_of}
-use Rattle.weave_report.specs.ReportText.{begun_text, got_line, got_lines, is_program, kind_text, name_at, reply_line, stamp_text, state_words}
+use Rattle.weave_report.specs.ReportText.{begun_text, got_line, got_lines, kind_text, name_at, reply_line, stamp_text, state_words}
+use Rattle.report_rules.specs.Lookups.{is_program}
 use Rattle.weave_report.specs.TextOf.{IsTypedGot, IsTypedReplyState}
 use Rattle.weave_data.proofs.Steps.{bind_ok, ok_is}
 use Rattle.weave_report.proofs.ReadSteps.{err_is_not, passed, chosen, then_ok, is_word}
@@ -60,7 +61,7 @@ module _ (laws : TextLaws) where
     pub kind : is_program script commit.request ≡ false
     pub stamp : IsTrue (is_stamp_of script commit.stamp)
     pub number : commit.number < 2 ^ 64
-    pub gets : commit.gets ≡ gets_of script commit.request
+    pub gets : commit.gets ≡ get_numbers script commit.request
 
   -- the words are the first line of this commit's reply
   pub record IsOpened (script : Script) (words : Line) (commit : Commit) : Type 0 where
@@ -97,10 +98,10 @@ module _ (laws : TextLaws) where
       by_work script (Change ops) = tt
       by_work script (Look program) = tt
 
-  begun_read : (program : Bool) (script : Script) (name stamp : Word) (line : ReplyLine) → begun_in program script name stamp ≡ Ok line → IsReplyLine script (kind_text program ∷ name ∷ stamp ∷ begun_text program ∷ []) line
+  begun_read : (program : Bool) (script : Script) (name stamp : Word) (line : ReplyLine) → read_begun program script name stamp ≡ Ok line → IsReplyLine script (kind_text program ∷ name ∷ stamp ∷ begun_text program ∷ []) line
   begun_read program script name stamp line e =
-      let one = bind_ok (name_in name) (λ name. stamp_in script.gates stamp >>= λ stamp. kind_named program script name >>= λ r. Ok (Whole (record { request = r; stamp = Some stamp; state = told.Begun }))) line e in
-      let two = bind_ok (stamp_in script.gates stamp) (λ stamp. kind_named program script one.0 >>= λ r. Ok (Whole (record { request = r; stamp = Some stamp; state = told.Begun }))) line one.2 in
+      let one = bind_ok (name_in name) (λ name. read_stamp script.gates stamp >>= λ stamp. kind_named program script name >>= λ r. Ok (Whole (record { request = r; stamp = Some stamp; state = told.Begun }))) line e in
+      let two = bind_ok (read_stamp script.gates stamp) (λ stamp. kind_named program script one.0 >>= λ r. Ok (Whole (record { request = r; stamp = Some stamp; state = told.Begun }))) line one.2 in
       let three = bind_ok (kind_named program script one.0) (λ r. Ok (Whole (record { request = r; stamp = Some two.0; state = told.Begun }))) line two.2 in
       let kind = kind_read program script one.0 three.0 three.1 in
       let text : name ≡ name_at script three.0 = ((name_read laws) name one.0 one.1).1 ∙ kind.named in
@@ -120,23 +121,23 @@ module _ (laws : TextLaws) where
 
   committed_read : (script : Script) (name stamp number : Word) (line : ReplyLine) → committed_in script name stamp number ≡ Ok line → IsReplyLine script (codes "tx" ∷ name ∷ stamp ∷ codes "committed" ∷ number ∷ []) line
   committed_read script name stamp number line e =
-      let one = bind_ok (name_in name) (λ name. stamp_in script.gates stamp >>= λ stamp. number_in number >>= λ number. kind_named false script name >>= λ r. Ok (Committed (record { request = r; stamp = stamp; number = number; gets = gets_of script r }))) line e in
-      let two = bind_ok (stamp_in script.gates stamp) (λ stamp. number_in number >>= λ number. kind_named false script one.0 >>= λ r. Ok (Committed (record { request = r; stamp = stamp; number = number; gets = gets_of script r }))) line one.2 in
-      let three = bind_ok (number_in number) (λ number. kind_named false script one.0 >>= λ r. Ok (Committed (record { request = r; stamp = two.0; number = number; gets = gets_of script r }))) line two.2 in
-      let four = bind_ok (kind_named false script one.0) (λ r. Ok (Committed (record { request = r; stamp = two.0; number = three.0; gets = gets_of script r }))) line three.2 in
+      let one = bind_ok (name_in name) (λ name. read_stamp script.gates stamp >>= λ stamp. read_number number >>= λ number. kind_named false script name >>= λ r. Ok (Committed (record { request = r; stamp = stamp; number = number; gets = get_numbers script r }))) line e in
+      let two = bind_ok (read_stamp script.gates stamp) (λ stamp. read_number number >>= λ number. kind_named false script one.0 >>= λ r. Ok (Committed (record { request = r; stamp = stamp; number = number; gets = get_numbers script r }))) line one.2 in
+      let three = bind_ok (read_number number) (λ number. kind_named false script one.0 >>= λ r. Ok (Committed (record { request = r; stamp = two.0; number = number; gets = get_numbers script r }))) line two.2 in
+      let four = bind_ok (kind_named false script one.0) (λ r. Ok (Committed (record { request = r; stamp = two.0; number = three.0; gets = get_numbers script r }))) line three.2 in
       let kind = kind_read false script one.0 four.0 four.1 in
       let text : name ≡ name_at script four.0 = ((name_read laws) name one.0 one.1).1 ∙ kind.named in
       let stamp_is = (stamp_read laws) script stamp two.0 two.1 in
       let number_is = (number_read laws) number three.0 three.1 in
-      subst (IsReplyLine script (codes "tx" ∷ name ∷ stamp ∷ codes "committed" ∷ number ∷ [])) (ok_is (Committed (record { request = four.0; stamp = two.0; number = three.0; gets = gets_of script four.0 })) line four.2) (record {
+      subst (IsReplyLine script (codes "tx" ∷ name ∷ stamp ∷ codes "committed" ∷ number ∷ [])) (ok_is (Committed (record { request = four.0; stamp = two.0; number = three.0; gets = get_numbers script four.0 })) line four.2) (record {
         text = λ i. codes "tx" ∷ text i ∷ stamp_is.0 i ∷ codes "committed" ∷ number_is.0 i ∷ [];
         of = record { within = kind.within; kind = kind.kind; stamp = stamp_is.1; number = number_is.1; gets = refl };
       })
 
   conflict_read : (script : Script) (name stamp vertex newer : Word) (line : ReplyLine) → conflict_in script name stamp vertex newer ≡ Ok line → IsReplyLine script (codes "tx" ∷ name ∷ stamp ∷ codes "conflict" ∷ vertex ∷ newer ∷ []) line
   conflict_read script name stamp vertex newer line e =
-      let one = bind_ok (name_in name) (λ name. stamp_in script.gates stamp >>= λ stamp. name_in vertex >>= λ vertex. name_in newer >>= λ newer. kind_named false script name >>= λ r. any_named script newer >>= λ newer. Ok (Whole (record { request = r; stamp = Some stamp; state = told.Conflict vertex newer }))) line e in
-      let two = bind_ok (stamp_in script.gates stamp) (λ stamp. name_in vertex >>= λ vertex. name_in newer >>= λ newer. kind_named false script one.0 >>= λ r. any_named script newer >>= λ newer. Ok (Whole (record { request = r; stamp = Some stamp; state = told.Conflict vertex newer }))) line one.2 in
+      let one = bind_ok (name_in name) (λ name. read_stamp script.gates stamp >>= λ stamp. name_in vertex >>= λ vertex. name_in newer >>= λ newer. kind_named false script name >>= λ r. any_named script newer >>= λ newer. Ok (Whole (record { request = r; stamp = Some stamp; state = told.Conflict vertex newer }))) line e in
+      let two = bind_ok (read_stamp script.gates stamp) (λ stamp. name_in vertex >>= λ vertex. name_in newer >>= λ newer. kind_named false script one.0 >>= λ r. any_named script newer >>= λ newer. Ok (Whole (record { request = r; stamp = Some stamp; state = told.Conflict vertex newer }))) line one.2 in
       let three = bind_ok (name_in vertex) (λ vertex. name_in newer >>= λ newer. kind_named false script one.0 >>= λ r. any_named script newer >>= λ newer. Ok (Whole (record { request = r; stamp = Some two.0; state = told.Conflict vertex newer }))) line two.2 in
       let four = bind_ok (name_in newer) (λ newer. kind_named false script one.0 >>= λ r. any_named script newer >>= λ newer. Ok (Whole (record { request = r; stamp = Some two.0; state = told.Conflict three.0 newer }))) line three.2 in
       let five = bind_ok (kind_named false script one.0) (λ r. any_named script four.0 >>= λ newer. Ok (Whole (record { request = r; stamp = Some two.0; state = told.Conflict three.0 newer }))) line four.2 in
@@ -157,11 +158,11 @@ module _ (laws : TextLaws) where
   refused_read : (script : Script) (name stamp op reason at : Word) (line : ReplyLine) → refused_in script name stamp op reason at ≡ Ok line
       → IsReplyLine script (codes "tx" ∷ name ∷ stamp ∷ codes "refused" ∷ op ∷ reason ∷ codes "at" ∷ at ∷ []) line
   refused_read script name stamp op reason at line e =
-      let one = bind_ok (name_in name) (λ name. stamp_in script.gates stamp >>= λ stamp. small_number_in op >>= λ op. reason_in reason >>= λ reason. number_in at >>= λ at. kind_named false script name >>= λ r. Ok (Whole (record { request = r; stamp = Some stamp; state = told.Refused op reason at }))) line e in
-      let two = bind_ok (stamp_in script.gates stamp) (λ stamp. small_number_in op >>= λ op. reason_in reason >>= λ reason. number_in at >>= λ at. kind_named false script one.0 >>= λ r. Ok (Whole (record { request = r; stamp = Some stamp; state = told.Refused op reason at }))) line one.2 in
-      let three = bind_ok (small_number_in op) (λ op. reason_in reason >>= λ reason. number_in at >>= λ at. kind_named false script one.0 >>= λ r. Ok (Whole (record { request = r; stamp = Some two.0; state = told.Refused op reason at }))) line two.2 in
-      let four = bind_ok (reason_in reason) (λ reason. number_in at >>= λ at. kind_named false script one.0 >>= λ r. Ok (Whole (record { request = r; stamp = Some two.0; state = told.Refused three.0 reason at }))) line three.2 in
-      let five = bind_ok (number_in at) (λ at. kind_named false script one.0 >>= λ r. Ok (Whole (record { request = r; stamp = Some two.0; state = told.Refused three.0 four.0 at }))) line four.2 in
+      let one = bind_ok (name_in name) (λ name. read_stamp script.gates stamp >>= λ stamp. small_number_in op >>= λ op. reason_in reason >>= λ reason. read_number at >>= λ at. kind_named false script name >>= λ r. Ok (Whole (record { request = r; stamp = Some stamp; state = told.Refused op reason at }))) line e in
+      let two = bind_ok (read_stamp script.gates stamp) (λ stamp. small_number_in op >>= λ op. reason_in reason >>= λ reason. read_number at >>= λ at. kind_named false script one.0 >>= λ r. Ok (Whole (record { request = r; stamp = Some stamp; state = told.Refused op reason at }))) line one.2 in
+      let three = bind_ok (small_number_in op) (λ op. reason_in reason >>= λ reason. read_number at >>= λ at. kind_named false script one.0 >>= λ r. Ok (Whole (record { request = r; stamp = Some two.0; state = told.Refused op reason at }))) line two.2 in
+      let four = bind_ok (reason_in reason) (λ reason. read_number at >>= λ at. kind_named false script one.0 >>= λ r. Ok (Whole (record { request = r; stamp = Some two.0; state = told.Refused three.0 reason at }))) line three.2 in
+      let five = bind_ok (read_number at) (λ at. kind_named false script one.0 >>= λ r. Ok (Whole (record { request = r; stamp = Some two.0; state = told.Refused three.0 four.0 at }))) line four.2 in
       let six = bind_ok (kind_named false script one.0) (λ r. Ok (Whole (record { request = r; stamp = Some two.0; state = told.Refused three.0 four.0 five.0 }))) line five.2 in
       let kind = kind_read false script one.0 six.0 six.1 in
       let text : name ≡ name_at script six.0 = ((name_read laws) name one.0 one.1).1 ∙ kind.named in
@@ -176,6 +177,7 @@ module _ (laws : TextLaws) where
         alone = refl;
       })
 
+  -- words after `tx` that are read as a reply make its line, and what it says is valid in the script
   pub transaction_read : (script : Script) (words : List Word) (line : ReplyLine) → transaction_in script words ≡ Ok line → IsReplyLine script (codes "tx" ∷ words) line
   transaction_read script [] line e = absurd (err_is_not cause.Line line e)
   transaction_read script (name ∷ []) line e = absurd (err_is_not cause.Line line e)
@@ -183,7 +185,7 @@ module _ (laws : TextLaws) where
       let test = passed (bytes_eq state (codes "unbegun")) (unbegun_in false script name) cause.Line line e in
       subst (λ (state : Word). IsReplyLine script (codes "tx" ∷ name ∷ state ∷ []) line) (sym (is_word state (codes "unbegun") test.0)) (unbegun_read false script name line test.1)
   transaction_read script (name ∷ stamp ∷ state ∷ []) line e =
-      let test = passed (bytes_eq state (codes "begun")) (begun_in false script name stamp) cause.Line line e in
+      let test = passed (bytes_eq state (codes "begun")) (read_begun false script name stamp) cause.Line line e in
       subst (λ (state : Word). IsReplyLine script (codes "tx" ∷ name ∷ stamp ∷ state ∷ []) line) (sym (is_word state (codes "begun") test.0)) (begun_read false script name stamp line test.1)
   transaction_read script (name ∷ stamp ∷ state ∷ number ∷ []) line e =
       let test = passed (bytes_eq state (codes "committed")) (committed_in script name stamp number) cause.Line line e in
@@ -204,11 +206,11 @@ module _ (laws : TextLaws) where
   finished_told : (script : Script) (name stamp : Word) (answer : List Word) (o : Option (ℕ × Program)) (line : ReplyLine) → program_named script name ≡ o → finished_by o script stamp answer ≡ Ok line
       → IsReplyLine script (codes "prog" ∷ name ∷ stamp ∷ codes "done" ∷ answer) line
   finished_told script name stamp answer None line h e =
-      let one = bind_ok (stamp_in script.gates stamp) (λ stamp. Err cause.Request) line e in
+      let one = bind_ok (read_stamp script.gates stamp) (λ stamp. Err cause.Request) line e in
       absurd (err_is_not cause.Request line one.2)
   finished_told script name stamp answer (Some (r, program)) line h e =
-      let test = passed (is_answer_form program answer) (stamp_in script.gates stamp >>= λ stamp. answer_in program answer >>= λ answer. Ok (Whole (record { request = r; stamp = Some stamp; state = told.Finished answer }))) cause.Line line e in
-      let one = bind_ok (stamp_in script.gates stamp) (λ stamp. answer_in program answer >>= λ answer. Ok (Whole (record { request = r; stamp = Some stamp; state = told.Finished answer }))) line test.1 in
+      let test = passed (is_answer_form program answer) (read_stamp script.gates stamp >>= λ stamp. answer_in program answer >>= λ answer. Ok (Whole (record { request = r; stamp = Some stamp; state = told.Finished answer }))) cause.Line line e in
+      let one = bind_ok (read_stamp script.gates stamp) (λ stamp. answer_in program answer >>= λ answer. Ok (Whole (record { request = r; stamp = Some stamp; state = told.Finished answer }))) line test.1 in
       let two = bind_ok (answer_in program answer) (λ answer. Ok (Whole (record { request = r; stamp = Some one.0; state = told.Finished answer }))) line one.2 in
       let at = program_read script name r program h in
       let stamp_is = (stamp_read laws) script stamp one.0 one.1 in
@@ -228,6 +230,7 @@ module _ (laws : TextLaws) where
       let same = ((name_read laws) name one.0 one.1).1 in
       subst (λ (name : Word). IsReplyLine script (codes "prog" ∷ name ∷ stamp ∷ codes "done" ∷ answer) line) (sym same) (finished_told script one.0 stamp answer (program_named script one.0) line refl one.2)
 
+  -- words after `prog` that are read as a reply make its line, and what it says is valid in the script
   pub program_line_read : (script : Script) (words : List Word) (line : ReplyLine) → program_in script words ≡ Ok line → IsReplyLine script (codes "prog" ∷ words) line
   program_line_read script [] line e = absurd (err_is_not cause.Line line e)
   program_line_read script (name ∷ []) line e = absurd (err_is_not cause.Line line e)
@@ -235,10 +238,10 @@ module _ (laws : TextLaws) where
       let test = passed (bytes_eq state (codes "unbegun")) (unbegun_in true script name) cause.Line line e in
       subst (λ (state : Word). IsReplyLine script (codes "prog" ∷ name ∷ state ∷ []) line) (sym (is_word state (codes "unbegun") test.0)) (unbegun_read true script name line test.1)
   program_line_read script (name ∷ stamp ∷ state ∷ answer) line e =
-      elim (chosen (bytes_eq state (codes "done")) (finished_in script name stamp answer) (cond (bytes_eq state (codes "running") && is_empty answer) (begun_in true script name stamp) (Err cause.Line)) (Ok line) e) [
+      elim (chosen (bytes_eq state (codes "done")) (finished_in script name stamp answer) (cond (bytes_eq state (codes "running") && is_empty answer) (read_begun true script name stamp) (Err cause.Line)) (Ok line) e) [
         | inl h ↦ subst (λ (state : Word). IsReplyLine script (codes "prog" ∷ name ∷ stamp ∷ state ∷ answer) line) (sym (is_word state (codes "done") h.0)) (finished_read script name stamp answer line h.1)
         | inr h ↦
-            let test = passed (bytes_eq state (codes "running") && is_empty answer) (begun_in true script name stamp) cause.Line line h.1 in
+            let test = passed (bytes_eq state (codes "running") && is_empty answer) (read_begun true script name stamp) cause.Line line h.1 in
             let words = and_parts (bytes_eq state (codes "running")) (is_empty answer) test.0 in
             subst (λ (state : Word). IsReplyLine script (codes "prog" ∷ name ∷ stamp ∷ state ∷ answer) line) (sym (is_word state (codes "running") words.0))
             (subst (λ (answer : List Word). IsReplyLine script (codes "prog" ∷ name ∷ stamp ∷ codes "running" ∷ answer) line) (sym ((no_words laws) answer words.1)) (begun_read true script name stamp line test.1))
@@ -252,14 +255,15 @@ module _ (laws : TextLaws) where
     pub text : words ≡ got_line got
     pub typed : op < 2 ^ 32 → IsTypedGot got
 
+  -- words that are read as what this `get` read are its line; it is valid if the operation's number has 32 bits
   pub got_read : (op : ℕ) (words : Line) (got : Got) → got_in op words ≡ Ok got → IsGot op words got
   got_read op [] got e = absurd (err_is_not cause.Line got e)
   got_read op (word ∷ []) got e = absurd (err_is_not cause.Line got e)
   got_read op (word ∷ number ∷ state) got e =
-      let test = passed (bytes_eq word (codes "got") && is_state_form state) (this_number_in op number >>= λ op. state_in state >>= λ state. Ok (record { op = op; state = state })) cause.Line got e in
+      let test = passed (bytes_eq word (codes "got") && is_state_form state) (this_number_in op number >>= λ op. read_state state >>= λ state. Ok (record { op = op; state = state })) cause.Line got e in
       let forms = and_parts (bytes_eq word (codes "got")) (is_state_form state) test.0 in
-      let one = bind_ok (this_number_in op number) (λ op. state_in state >>= λ state. Ok (record { op = op; state = state })) got test.1 in
-      let two = bind_ok (state_in state) (λ state. Ok (record { op = one.0; state = state })) got one.2 in
+      let one = bind_ok (this_number_in op number) (λ op. read_state state >>= λ state. Ok (record { op = op; state = state })) got test.1 in
+      let two = bind_ok (read_state state) (λ state. Ok (record { op = one.0; state = state })) got one.2 in
       let number_is = (this_number_read laws) op number one.0 one.1 in
       let state_is = (state_read laws) state two.0 forms.1 two.1 in
       subst (IsGot op (word ∷ number ∷ state)) (ok_is (record { op = one.0; state = two.0 }) got two.2) (record {
@@ -268,9 +272,10 @@ module _ (laws : TextLaws) where
         typed = λ small. record { op = subst (λ n. n < 2 ^ 32) number_is.1 small; state = state_is.0 };
       })
 
+  -- the line of what a `get` read is read as it, if it is valid
   pub got_again : (got : Got) → IsTypedGot got → got_in got.op (got_line got) ≡ Ok got
   got_again got h =
       let state = (state_again laws) got.state h.state in
       cond-true (is_state_form (state_words got.state)) _ _ state.0
-      ∙ then_ok (this_number_in got.op (decimal got.op)) (λ op. state_in (state_words got.state) >>= λ state. Ok (record { op = op; state = state })) got.op _ ((this_number_again laws) got.op (omega (arith, h.op)))
-      (then_ok (state_in (state_words got.state)) (λ state. Ok (record { op = got.op; state = state })) got.state _ state.1 refl)
+      ∙ then_ok (this_number_in got.op (decimal got.op)) (λ op. read_state (state_words got.state) >>= λ state. Ok (record { op = op; state = state })) got.op _ ((this_number_again laws) got.op (omega (arith, h.op)))
+      (then_ok (read_state (state_words got.state)) (λ state. Ok (record { op = got.op; state = state })) got.state _ state.1 refl)

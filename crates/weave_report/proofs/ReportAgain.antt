@@ -31,14 +31,14 @@ use Rattle.report_rules.specs.declared.report.Report.{Report}
 use Rattle.report_rules.specs.declared.report.StepAnswer.{StepAnswer}
 use Rattle.program_defs.specs.Works.{is_look, ops_of}
 use Rattle.weave_data.specs.Steps.{◌>>=◌}
-use Rattle.weave_report.specs.ReadingFields.{Read, name_in, names_in, number_in, reason_in, small_number_in, stamp_in, this_number_in}
+use Rattle.weave_report.specs.ReadingFields.{ReadResult, name_in, read_names, read_number, reason_in, small_number_in, read_stamp, this_number_in}
 use Rattle.weave_report.specs.ReadingStates.{answer_in, is_answer_form, is_step_form, step_answer_in}
-use Rattle.weave_report.specs.ReadingReplies.{any_named, begun_in, committed_in, conflict_in, finished_by, finished_in, gets_of, kind_named, named_from, program_named, refused_in, unbegun_in}
-use Rattle.weave_report.specs.Reading.{reading, with_reply, behind_commit, behind_reply, commit_reply, pair_in, order_in, did_in, next_get, after_got, after_line, start}
+use Rattle.weave_report.specs.ReadingReplies.{any_named, read_begun, committed_in, conflict_in, finished_by, finished_in, get_numbers, kind_named, named_from, program_named, refused_in, unbegun_in}
+use Rattle.weave_report.specs.Reading.{reading, with_reply_read, behind_commit, behind_reply, commit_reply, pair_in, order_in, did_in, next_get, after_got, after_report_line, report_start}
 use Rattle.report_rules.specs.ReportOf.{MatchesWork, IsReplyOf, IsPairOf, IsReportOf, is_request_of, is_stamp_of, has_form_for, numbers_of_gets}
-use Rattle.weave_report.specs.ReportText.{answer_words, begun_text, did_line, got_line, is_program, kind_text, name_at, order_line, pair_line, reason_text, reply_lines, report_lines, stamp_text, step_answer_words}
+use Rattle.weave_report.specs.ReportText.{answer_words, begun_text, did_line, got_line, kind_text, name_at, order_line, pair_line, reason_text, reply_lines, report_lines, stamp_text, step_answer_words}
 use Rattle.weave_report.specs.TextOf.{IsName, IsTypedGot, IsTypedReplyState, IsTypedReport, IsTypedScript, IsTypedStepAnswer, HasDistinctNames, IsTypedAnswer}
-use Rattle.report_rules.specs.Lookups.{is_none_or, request_at}
+use Rattle.report_rules.specs.Lookups.{is_program, is_none_or, request_at}
 use Rattle.weave_report.proofs.ReadSteps.{then_ok}
 use Rattle.weave_report.proofs.FieldsRead.{name_again, names_again, number_again, small_number_again, this_number_again, reason_again}
 use Rattle.weave_report.proofs.StampsRead.{stamp_again}
@@ -63,25 +63,25 @@ module _ (laws : TextLaws) where
       (then_ok (kind_named program script (name_at script r)) (λ r. Ok (Whole (record { request = r; stamp = None; state = told.Unbegun }))) r _ (kind_again program script r h.tells within kind) refl)
 
   begun_again : (program : Bool) (script : Script) (r : ℕ) (stamp : Stamp) → IsReadable script → r < length script.requests → is_program script r ≡ program → IsTrue (is_stamp_of script stamp)
-      → begun_in program script (name_at script r) (stamp_text script.gates stamp) ≡ Ok (Whole (record { request = r; stamp = Some stamp; state = told.Begun }))
+      → read_begun program script (name_at script r) (stamp_text script.gates stamp) ≡ Ok (Whole (record { request = r; stamp = Some stamp; state = told.Begun }))
   begun_again program script r stamp h within kind k =
-      then_ok (name_in (name_at script r)) (λ name. stamp_in script.gates (stamp_text script.gates stamp) >>= λ stamp. kind_named program script name >>= λ r. Ok (Whole (record { request = r; stamp = Some stamp; state = told.Begun }))) (name_at script r) _ ((name_again laws) (name_at script r) (name_is_name script r h.typed within))
-      (then_ok (stamp_in script.gates (stamp_text script.gates stamp)) (λ stamp. kind_named program script (name_at script r) >>= λ r. Ok (Whole (record { request = r; stamp = Some stamp; state = told.Begun }))) stamp _ ((stamp_again laws) script stamp h.typed.gates k)
+      then_ok (name_in (name_at script r)) (λ name. read_stamp script.gates (stamp_text script.gates stamp) >>= λ stamp. kind_named program script name >>= λ r. Ok (Whole (record { request = r; stamp = Some stamp; state = told.Begun }))) (name_at script r) _ ((name_again laws) (name_at script r) (name_is_name script r h.typed within))
+      (then_ok (read_stamp script.gates (stamp_text script.gates stamp)) (λ stamp. kind_named program script (name_at script r) >>= λ r. Ok (Whole (record { request = r; stamp = Some stamp; state = told.Begun }))) stamp _ ((stamp_again laws) script stamp h.typed.gates k)
       (then_ok (kind_named program script (name_at script r)) (λ r. Ok (Whole (record { request = r; stamp = Some stamp; state = told.Begun }))) r _ (kind_again program script r h.tells within kind) refl))
 
   committed_again : (script : Script) (r : ℕ) (stamp : Stamp) (number : ℕ) → IsReadable script → r < length script.requests → is_program script r ≡ false → IsTrue (is_stamp_of script stamp) → number < 2 ^ 64
-      → committed_in script (name_at script r) (stamp_text script.gates stamp) (decimal number) ≡ Ok (Committed (record { request = r; stamp = stamp; number = number; gets = gets_of script r }))
+      → committed_in script (name_at script r) (stamp_text script.gates stamp) (decimal number) ≡ Ok (Committed (record { request = r; stamp = stamp; number = number; gets = get_numbers script r }))
   committed_again script r stamp number h within kind k small =
-      then_ok (name_in (name_at script r)) (λ name. stamp_in script.gates (stamp_text script.gates stamp) >>= λ stamp. number_in (decimal number) >>= λ number. kind_named false script name >>= λ r. Ok (Committed (record { request = r; stamp = stamp; number = number; gets = gets_of script r }))) (name_at script r) _ ((name_again laws) (name_at script r) (name_is_name script r h.typed within))
-      (then_ok (stamp_in script.gates (stamp_text script.gates stamp)) (λ stamp. number_in (decimal number) >>= λ number. kind_named false script (name_at script r) >>= λ r. Ok (Committed (record { request = r; stamp = stamp; number = number; gets = gets_of script r }))) stamp _ ((stamp_again laws) script stamp h.typed.gates k)
-      (then_ok (number_in (decimal number)) (λ number. kind_named false script (name_at script r) >>= λ r. Ok (Committed (record { request = r; stamp = stamp; number = number; gets = gets_of script r }))) number _ ((number_again laws) number small)
-      (then_ok (kind_named false script (name_at script r)) (λ r. Ok (Committed (record { request = r; stamp = stamp; number = number; gets = gets_of script r }))) r _ (kind_again false script r h.tells within kind) refl)))
+      then_ok (name_in (name_at script r)) (λ name. read_stamp script.gates (stamp_text script.gates stamp) >>= λ stamp. read_number (decimal number) >>= λ number. kind_named false script name >>= λ r. Ok (Committed (record { request = r; stamp = stamp; number = number; gets = get_numbers script r }))) (name_at script r) _ ((name_again laws) (name_at script r) (name_is_name script r h.typed within))
+      (then_ok (read_stamp script.gates (stamp_text script.gates stamp)) (λ stamp. read_number (decimal number) >>= λ number. kind_named false script (name_at script r) >>= λ r. Ok (Committed (record { request = r; stamp = stamp; number = number; gets = get_numbers script r }))) stamp _ ((stamp_again laws) script stamp h.typed.gates k)
+      (then_ok (read_number (decimal number)) (λ number. kind_named false script (name_at script r) >>= λ r. Ok (Committed (record { request = r; stamp = stamp; number = number; gets = get_numbers script r }))) number _ ((number_again laws) number small)
+      (then_ok (kind_named false script (name_at script r)) (λ r. Ok (Committed (record { request = r; stamp = stamp; number = number; gets = get_numbers script r }))) r _ (kind_again false script r h.tells within kind) refl)))
 
   conflict_again : (script : Script) (r : ℕ) (stamp : Stamp) (vertex : Name) (newer : ℕ) → IsReadable script → r < length script.requests → is_program script r ≡ false → IsTrue (is_stamp_of script stamp) → IsName vertex → newer < length script.requests
       → conflict_in script (name_at script r) (stamp_text script.gates stamp) vertex (name_at script newer) ≡ Ok (Whole (record { request = r; stamp = Some stamp; state = told.Conflict vertex newer }))
   conflict_again script r stamp vertex newer h within kind k named there =
-      then_ok (name_in (name_at script r)) (λ name. stamp_in script.gates (stamp_text script.gates stamp) >>= λ stamp. name_in vertex >>= λ vertex. name_in (name_at script newer) >>= λ newer. kind_named false script name >>= λ r. any_named script newer >>= λ newer. Ok (Whole (record { request = r; stamp = Some stamp; state = told.Conflict vertex newer }))) (name_at script r) _ ((name_again laws) (name_at script r) (name_is_name script r h.typed within))
-      (then_ok (stamp_in script.gates (stamp_text script.gates stamp)) (λ stamp. name_in vertex >>= λ vertex. name_in (name_at script newer) >>= λ newer. kind_named false script (name_at script r) >>= λ r. any_named script newer >>= λ newer. Ok (Whole (record { request = r; stamp = Some stamp; state = told.Conflict vertex newer }))) stamp _ ((stamp_again laws) script stamp h.typed.gates k)
+      then_ok (name_in (name_at script r)) (λ name. read_stamp script.gates (stamp_text script.gates stamp) >>= λ stamp. name_in vertex >>= λ vertex. name_in (name_at script newer) >>= λ newer. kind_named false script name >>= λ r. any_named script newer >>= λ newer. Ok (Whole (record { request = r; stamp = Some stamp; state = told.Conflict vertex newer }))) (name_at script r) _ ((name_again laws) (name_at script r) (name_is_name script r h.typed within))
+      (then_ok (read_stamp script.gates (stamp_text script.gates stamp)) (λ stamp. name_in vertex >>= λ vertex. name_in (name_at script newer) >>= λ newer. kind_named false script (name_at script r) >>= λ r. any_named script newer >>= λ newer. Ok (Whole (record { request = r; stamp = Some stamp; state = told.Conflict vertex newer }))) stamp _ ((stamp_again laws) script stamp h.typed.gates k)
       (then_ok (name_in vertex) (λ vertex. name_in (name_at script newer) >>= λ newer. kind_named false script (name_at script r) >>= λ r. any_named script newer >>= λ newer. Ok (Whole (record { request = r; stamp = Some stamp; state = told.Conflict vertex newer }))) vertex _ ((name_again laws) vertex named)
       (then_ok (name_in (name_at script newer)) (λ newer. kind_named false script (name_at script r) >>= λ r. any_named script newer >>= λ newer. Ok (Whole (record { request = r; stamp = Some stamp; state = told.Conflict vertex newer }))) (name_at script newer) _ ((name_again laws) (name_at script newer) (name_is_name script newer h.typed there))
       (then_ok (kind_named false script (name_at script r)) (λ r. any_named script (name_at script newer) >>= λ newer. Ok (Whole (record { request = r; stamp = Some stamp; state = told.Conflict vertex newer }))) r _ (kind_again false script r h.tells within kind)
@@ -90,11 +90,11 @@ module _ (laws : TextLaws) where
   refused_again : (script : Script) (r : ℕ) (stamp : Stamp) (op : ℕ) (reason : Reason) (at : ℕ) → IsReadable script → r < length script.requests → is_program script r ≡ false → IsTrue (is_stamp_of script stamp) → op < 2 ^ 32 → at < 2 ^ 64
       → refused_in script (name_at script r) (stamp_text script.gates stamp) (decimal op) (reason_text reason) (decimal at) ≡ Ok (Whole (record { request = r; stamp = Some stamp; state = told.Refused op reason at }))
   refused_again script r stamp op reason at h within kind k small fits =
-      then_ok (name_in (name_at script r)) (λ name. stamp_in script.gates (stamp_text script.gates stamp) >>= λ stamp. small_number_in (decimal op) >>= λ op. reason_in (reason_text reason) >>= λ reason. number_in (decimal at) >>= λ at. kind_named false script name >>= λ r. Ok (Whole (record { request = r; stamp = Some stamp; state = told.Refused op reason at }))) (name_at script r) _ ((name_again laws) (name_at script r) (name_is_name script r h.typed within))
-      (then_ok (stamp_in script.gates (stamp_text script.gates stamp)) (λ stamp. small_number_in (decimal op) >>= λ op. reason_in (reason_text reason) >>= λ reason. number_in (decimal at) >>= λ at. kind_named false script (name_at script r) >>= λ r. Ok (Whole (record { request = r; stamp = Some stamp; state = told.Refused op reason at }))) stamp _ ((stamp_again laws) script stamp h.typed.gates k)
-      (then_ok (small_number_in (decimal op)) (λ op. reason_in (reason_text reason) >>= λ reason. number_in (decimal at) >>= λ at. kind_named false script (name_at script r) >>= λ r. Ok (Whole (record { request = r; stamp = Some stamp; state = told.Refused op reason at }))) op _ ((small_number_again laws) op small)
-      (then_ok (reason_in (reason_text reason)) (λ reason. number_in (decimal at) >>= λ at. kind_named false script (name_at script r) >>= λ r. Ok (Whole (record { request = r; stamp = Some stamp; state = told.Refused op reason at }))) reason _ ((reason_again laws) reason)
-      (then_ok (number_in (decimal at)) (λ at. kind_named false script (name_at script r) >>= λ r. Ok (Whole (record { request = r; stamp = Some stamp; state = told.Refused op reason at }))) at _ ((number_again laws) at fits)
+      then_ok (name_in (name_at script r)) (λ name. read_stamp script.gates (stamp_text script.gates stamp) >>= λ stamp. small_number_in (decimal op) >>= λ op. reason_in (reason_text reason) >>= λ reason. read_number (decimal at) >>= λ at. kind_named false script name >>= λ r. Ok (Whole (record { request = r; stamp = Some stamp; state = told.Refused op reason at }))) (name_at script r) _ ((name_again laws) (name_at script r) (name_is_name script r h.typed within))
+      (then_ok (read_stamp script.gates (stamp_text script.gates stamp)) (λ stamp. small_number_in (decimal op) >>= λ op. reason_in (reason_text reason) >>= λ reason. read_number (decimal at) >>= λ at. kind_named false script (name_at script r) >>= λ r. Ok (Whole (record { request = r; stamp = Some stamp; state = told.Refused op reason at }))) stamp _ ((stamp_again laws) script stamp h.typed.gates k)
+      (then_ok (small_number_in (decimal op)) (λ op. reason_in (reason_text reason) >>= λ reason. read_number (decimal at) >>= λ at. kind_named false script (name_at script r) >>= λ r. Ok (Whole (record { request = r; stamp = Some stamp; state = told.Refused op reason at }))) op _ ((small_number_again laws) op small)
+      (then_ok (reason_in (reason_text reason)) (λ reason. read_number (decimal at) >>= λ at. kind_named false script (name_at script r) >>= λ r. Ok (Whole (record { request = r; stamp = Some stamp; state = told.Refused op reason at }))) reason _ ((reason_again laws) reason)
+      (then_ok (read_number (decimal at)) (λ at. kind_named false script (name_at script r) >>= λ r. Ok (Whole (record { request = r; stamp = Some stamp; state = told.Refused op reason at }))) at _ ((number_again laws) at fits)
       (then_ok (kind_named false script (name_at script r)) (λ r. Ok (Whole (record { request = r; stamp = Some stamp; state = told.Refused op reason at }))) r _ (kind_again false script r h.tells within kind) refl)))))
 
   finished_again : (script : Script) (r : ℕ) (request : Request) (program : Program) (stamp : Stamp) (answer : Answer) → IsReadable script → request_at script r ≡ Some request → request.work ≡ Look program → IsTrue (is_stamp_of script stamp)
@@ -106,17 +106,17 @@ module _ (laws : TextLaws) where
       then_ok (name_in (name_at script r)) (λ name. finished_by (program_named script name) script (stamp_text script.gates stamp) words) (name_at script r) _ ((name_again laws) (name_at script r) (name_is_name script r h.typed (within_place script.requests r request there)))
       (ap (λ o. finished_by o script (stamp_text script.gates stamp) words) (program_again script r request program h.tells there work)
       ∙ cond-true (is_answer_form program words) _ _ again.0
-      ∙ then_ok (stamp_in script.gates (stamp_text script.gates stamp)) (λ stamp. answer_in program words >>= λ answer. Ok (Whole (record { request = r; stamp = Some stamp; state = told.Finished answer }))) stamp _ ((stamp_again laws) script stamp h.typed.gates k)
+      ∙ then_ok (read_stamp script.gates (stamp_text script.gates stamp)) (λ stamp. answer_in program words >>= λ answer. Ok (Whole (record { request = r; stamp = Some stamp; state = told.Finished answer }))) stamp _ ((stamp_again laws) script stamp h.typed.gates k)
       (then_ok (answer_in program words) (λ answer. Ok (Whole (record { request = r; stamp = Some stamp; state = told.Finished answer }))) answer _ again.1 refl))
 
   -- ---- several lines
 
   -- lines after lines
-  pub kept_append : (script : Script) (before middle : Reading) (xs ys : List Line) (last : Read Reading) → (after_kept laws) script before xs ≡ Ok middle → (after_kept laws) script middle ys ≡ last → (after_kept laws) script before (xs ++ ys) ≡ last
+  pub kept_append : (script : Script) (before middle : Reading) (xs ys : List Line) (last : ReadResult Reading) → (after_kept laws) script before xs ≡ Ok middle → (after_kept laws) script middle ys ≡ last → (after_kept laws) script before (xs ++ ys) ≡ last
   kept_append script before middle [] ys last e k = ap (λ one. one >>= λ before. (after_kept laws) script before ys) e ∙ k
-  kept_append script before middle (x ∷ xs) ys last e k = through (after_line script before x) e (λ next e. kept_append script next middle xs ys last e k)
+  kept_append script before middle (x ∷ xs) ys last e k = through (after_report_line script before x) e (λ next e. kept_append script next middle xs ys last e k)
     where
-      through : (one : Read Reading) → (one >>= λ next. (after_kept laws) script next xs) ≡ Ok middle → ((next : Reading) → (after_kept laws) script next xs ≡ Ok middle → (after_kept laws) script next (xs ++ ys) ≡ last) → (one >>= λ next. (after_kept laws) script next (xs ++ ys)) ≡ last
+      through : (one : ReadResult Reading) → (one >>= λ next. (after_kept laws) script next xs) ≡ Ok middle → ((next : Reading) → (after_kept laws) script next xs ≡ Ok middle → (after_kept laws) script next (xs ++ ys) ≡ last) → (one >>= λ next. (after_kept laws) script next (xs ++ ys)) ≡ last
       through (Ok next) e each = each next e
       through (Err why) e each = absurd cc
 
@@ -126,11 +126,11 @@ module _ (laws : TextLaws) where
 
   -- the answers of a commit's `get`s
   gots_again : (script : Script) (report : Report) (commit : Commit) (before answers : List Got) → commit.gets ≡ map (λ (got : Got). got.op) before ++ map (λ (got : Got). got.op) answers → AllByRecursion IsTypedGot answers
-      → (after_kept laws) script (behind_commit report commit before) (map got_line answers) ≡ Ok (reading (with_reply report (commit_reply commit (before ++ answers))) Replies)
+      → (after_kept laws) script (behind_commit report commit before) (map got_line answers) ≡ Ok (reading (with_reply_read report (commit_reply commit (before ++ answers))) Replies)
   gots_again script report commit before [] gets h =
       let all : length commit.gets ≤ length before = omega (arith, ap length gets, length-append (map (λ (got : Got). got.op) before) [], length-map before (λ (got : Got). got.op)) in
       ap (λ (next : Reading). Ok next) (cond-false (nat_lt (length before) (length commit.gets)) _ _ (le-ltb (length before) (length commit.gets) all))
-      ∙ ap (λ answers. Ok (reading (with_reply report (commit_reply commit answers)) Replies)) (sym (append-nil before))
+      ∙ ap (λ answers. Ok (reading (with_reply_read report (commit_reply commit answers)) Replies)) (sym (append-nil before))
   gots_again script report commit before (got ∷ answers) gets h =
       let op_of : Got → ℕ = λ got. got.op in
       let fewer : length before < length commit.gets = omega (arith, ap length gets, length-append (map op_of before) (map op_of (got ∷ answers)), length-map before op_of, length-map answers op_of) in
@@ -141,13 +141,13 @@ module _ (laws : TextLaws) where
       ∙ ap (λ o. after_got o report commit before (got_line got) >>= λ next. (after_kept laws) script next (map got_line answers)) next
       ∙ ap (λ one. one >>= (λ got. Ok (behind_commit report commit (before ++ got ∷ []))) >>= λ next. (after_kept laws) script next (map got_line answers)) ((got_again laws) got h.0)
       ∙ gots_again script report commit (before ++ got ∷ []) answers regrouped h.1
-      ∙ ap (λ answers. Ok (reading (with_reply report (commit_reply commit answers)) Replies)) (append_assoc before (got ∷ []) answers)
+      ∙ ap (λ answers. Ok (reading (with_reply_read report (commit_reply commit answers)) Replies)) (append_assoc before (got ∷ []) answers)
 
   -- a reply's line, and those of its `get`s
   module _ (script : Script) (report : Report) (r : ℕ) (h : IsReadable script) where
     reply_cases : (stamp : Option Stamp) (state : ReplyState) (request : Request) (work : Work) → request_at script r ≡ Some request → request.work ≡ work
         → MatchesWork script work stamp state → IsTrue (is_none_or (is_stamp_of script) stamp) → IsTypedReplyState state
-        → (after_kept laws) script (reading report Replies) (reply_lines script (record { request = r; stamp = stamp; state = state })) ≡ Ok (reading (with_reply report (record { request = r; stamp = stamp; state = state })) Replies)
+        → (after_kept laws) script (reading report Replies) (reply_lines script (record { request = r; stamp = stamp; state = state })) ≡ Ok (reading (with_reply_read report (record { request = r; stamp = stamp; state = state })) Replies)
     reply_cases None told.Unbegun request (Change ops) there work can of typed =
         let within = within_place script.requests r request there in
         let kind : is_program script r ≡ false = ap (λ (o : Option Request). option_map_or (λ (request : Request). is_look request.work) o false) there ∙ ap is_look work in
@@ -171,8 +171,8 @@ module _ (laws : TextLaws) where
     reply_cases (Some stamp) (told.Committed number answers) request (Change ops) there work can of typed =
         let within = within_place script.requests r request there in
         let kind : is_program script r ≡ false = ap (λ (o : Option Request). option_map_or (λ (request : Request). is_look request.work) o false) there ∙ ap is_look work in
-        let commit : Commit = record { request = r; stamp = stamp; number = number; gets = gets_of script r } in
-        let ops_are : gets_of script r ≡ numbers_of_gets 1 ops = ap (λ (o : Option Request). numbers_of_gets 1 (option_map_or (λ (request : Request). ops_of request.work) o [])) there ∙ ap (λ work. numbers_of_gets 1 (ops_of work)) work in
+        let commit : Commit = record { request = r; stamp = stamp; number = number; gets = get_numbers script r } in
+        let ops_are : get_numbers script r ≡ numbers_of_gets 1 ops = ap (λ (o : Option Request). numbers_of_gets 1 (option_map_or (λ (request : Request). ops_of request.work) o [])) there ∙ ap (λ work. numbers_of_gets 1 (ops_of work)) work in
         ap (λ program. (after_kept laws) script (reading report Replies) ((kind_text program ∷ name_at script r ∷ stamp_text script.gates stamp ∷ codes "committed" ∷ decimal number ∷ []) ∷ map got_line answers)) kind
         ∙ ap (λ one. one >>= (λ line. Ok (behind_reply report line)) >>= λ next. (after_kept laws) script next (map got_line answers)) (committed_again script r stamp number h within kind of typed.0)
         ∙ gots_again script report commit [] answers (ops_are ∙ sym can) typed.1
@@ -202,7 +202,7 @@ module _ (laws : TextLaws) where
     reply_cases (Some stamp) (told.Finished answer) request (Change ops) there w can of typed = absurd can
 
   reply_again : (script : Script) (report : Report) (reply : Reply) → IsReadable script → IsReplyOf script reply → IsTypedReplyState reply.state
-      → (after_kept laws) script (reading report Replies) (reply_lines script reply) ≡ Ok (reading (with_reply report reply) Replies)
+      → (after_kept laws) script (reading report Replies) (reply_lines script reply) ≡ Ok (reading (with_reply_read report reply) Replies)
   reply_again script report reply h of typed =
       let at = work_is script reply.request reply.stamp reply.state of.1 in
       reply_cases script report reply.request h reply.stamp reply.state at.0 at.0.work at.1 refl at.2 of.0 typed
@@ -251,7 +251,7 @@ module _ (laws : TextLaws) where
 
   order_in_again : (script : Script) (order : List ℕ) → IsReadable script → AllByRecursion (λ r. IsTrue (is_request_of script r)) order → order_in script (map (name_at script) order) ≡ Ok order
   order_in_again script order h of =
-      then_ok (names_in (map (name_at script) order)) (λ names. named_from script [] names) (map (name_at script) order) _ ((names_again laws) [] (map (name_at script) order) (names_told script order h.typed of)) (all_again script [] order h.tells of)
+      then_ok (read_names (map (name_at script) order)) (λ names. named_from script [] names) (map (name_at script) order) _ ((names_again laws) [] (map (name_at script) order) (names_told script order h.typed of)) (all_again script [] order h.tells of)
 
   order_again : (script : Script) (replies : List Reply) (pairs : List Pair) (order : List ℕ) → IsReadable script → AllByRecursion (λ r. IsTrue (is_request_of script r)) order
       → (after_kept laws) script (built replies pairs [] [] (place_behind pairs)) (order_line script order ∷ []) ≡ Ok (built replies pairs order [] Answers)
@@ -276,7 +276,7 @@ module _ (laws : TextLaws) where
       ∙ ap (λ answers. Ok (built replies pairs order answers Answers)) (append_assoc before (answer ∷ []) answers)
 
   -- the lines of a report are read as it
-  pub report_again : (script : Script) (report : Report) → HasDistinctNames script → IsTypedScript script → IsReportOf script report → IsTypedReport report → (after_kept laws) script start (report_lines script report) ≡ Ok (reading report Ended)
+  pub report_again : (script : Script) (report : Report) → HasDistinctNames script → IsTypedScript script → IsReportOf script report → IsTypedReport report → (after_kept laws) script report_start (report_lines script report) ≡ Ok (reading report Ended)
   report_again script report tells typed_script of typed =
       let h : IsReadable script = record { tells = tells; typed = typed_script } in
       let first : List Line = (codes "report" ∷ codes "1" ∷ []) ∷ [] in
@@ -284,19 +284,19 @@ module _ (laws : TextLaws) where
       let pairs : List Line = map (pair_line script) report.pairs in
       let order : List Line = order_line script report.order ∷ [] in
       let answers : List Line = map did_line (enumerate_from 1 report.answers) in
-      let one : (after_kept laws) script start (first ++ replies) ≡ Ok (built report.replies [] [] [] Replies) = kept_append script start (built [] [] [] [] Replies) first replies _ refl (replies_again script [] report.replies h of.replies typed.replies) in
-      let two : (after_kept laws) script start (first ++ replies ++ pairs) ≡ Ok (built report.replies report.pairs [] [] (place_behind report.pairs)) =
-      kept_append script start (built report.replies [] [] [] Replies) (first ++ replies) pairs _ one (first_pairs_again script report.replies report.pairs h of.pairs typed.pairs) in
-      let three : (after_kept laws) script start (first ++ replies ++ pairs ++ order) ≡ Ok (built report.replies report.pairs report.order [] Answers) =
-      kept_append script start (built report.replies report.pairs [] [] (place_behind report.pairs)) (first ++ replies ++ pairs) order _ two (order_again script report.replies report.pairs report.order h of.order) in
-      let four : (after_kept laws) script start (first ++ replies ++ pairs ++ order ++ answers) ≡ Ok (built report.replies report.pairs report.order report.answers Answers) =
-      kept_append script start (built report.replies report.pairs report.order [] Answers) (first ++ replies ++ pairs ++ order) answers _ three (answers_again script report.replies report.pairs report.order [] report.answers typed.answers (omega (arith, typed.few_answers))) in
-      kept_append script start (built report.replies report.pairs report.order report.answers Answers) (first ++ replies ++ pairs ++ order ++ answers) ((codes "end" ∷ []) ∷ []) _ four refl
+      let one : (after_kept laws) script report_start (first ++ replies) ≡ Ok (built report.replies [] [] [] Replies) = kept_append script report_start (built [] [] [] [] Replies) first replies _ refl (replies_again script [] report.replies h of.replies typed.replies) in
+      let two : (after_kept laws) script report_start (first ++ replies ++ pairs) ≡ Ok (built report.replies report.pairs [] [] (place_behind report.pairs)) =
+      kept_append script report_start (built report.replies [] [] [] Replies) (first ++ replies) pairs _ one (first_pairs_again script report.replies report.pairs h of.pairs typed.pairs) in
+      let three : (after_kept laws) script report_start (first ++ replies ++ pairs ++ order) ≡ Ok (built report.replies report.pairs report.order [] Answers) =
+      kept_append script report_start (built report.replies report.pairs [] [] (place_behind report.pairs)) (first ++ replies ++ pairs) order _ two (order_again script report.replies report.pairs report.order h of.order) in
+      let four : (after_kept laws) script report_start (first ++ replies ++ pairs ++ order ++ answers) ≡ Ok (built report.replies report.pairs report.order report.answers Answers) =
+      kept_append script report_start (built report.replies report.pairs report.order [] Answers) (first ++ replies ++ pairs ++ order) answers _ three (answers_again script report.replies report.pairs report.order [] report.answers typed.answers (omega (arith, typed.few_answers))) in
+      kept_append script report_start (built report.replies report.pairs report.order report.answers Answers) (first ++ replies ++ pairs ++ order ++ answers) ((codes "end" ∷ []) ∷ []) _ four refl
 
   -- two readings that end alike are of one report
-  pub same_end : (a b : Report) → ◌≡◌ {A = Read Reading} (Ok (reading a Ended)) (Ok (reading b Ended)) → a ≡ b
-  same_end a b e = ap (λ (read : Read Reading). report_of read) e
+  pub same_end : (a b : Report) → ◌≡◌ {A = ReadResult Reading} (Ok (reading a Ended)) (Ok (reading b Ended)) → a ≡ b
+  same_end a b e = ap (λ (read : ReadResult Reading). report_of read) e
     where
-      report_of : Read Reading → Report
+      report_of : ReadResult Reading → Report
       report_of (Ok read) = read.report
       report_of (Err why) = a

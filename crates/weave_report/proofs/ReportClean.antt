@@ -6,6 +6,7 @@ use Rattle.std.specs.Fmt.{decimal}
 use Rattle.std.specs.List.{AllByRecursion, enumerate_from, flat_map, list_all}
 use Rattle.std.proofs.lemmas.Bool.{and_parts, and_from, ltb-true}
 use Rattle.vector_stamp.specs.declared.clock.Stamp.{Stamp}
+use Rattle.vector_stamp.specs.Order.{has_64_bits}
 use Rattle.weave_data.specs.declared.name.Name.{Name}
 use Rattle.weave_text.specs.Cutting.{is_clean, is_clean_line, kept_lines, lines_of}
 use Rattle.weave_text.specs.Lines.{Word, joined_texts, marked_texts}
@@ -26,10 +27,10 @@ use Rattle.report_rules.specs.declared.report.ReplyState.TheVariants.{Unbegun, B
 use Rattle.report_rules.specs.declared.report.Report.{Report}
 use Rattle.report_rules.specs.declared.report.StepAnswer.{StepAnswer}
 use Rattle.report_rules.specs.declared.report.StepAnswer.TheVariants as step
-use Rattle.report_rules.specs.ReportOf.{MatchesWork, IsPairOf, IsReplyOf, IsReportOf, has_64_bits, is_request_of, is_stamp_of}
-use Rattle.weave_report.specs.ReportText.{answer_words, begun_text, content_words, did_line, edge_text, got_line, got_lines, is_program, kind_text, name_at, order_line, pair_line, property_text, reason_text, reply_line, reply_lines, report_lines, report_text, stamp_text, stamp_word, state_words, step_answer_words, verdict_words}
+use Rattle.report_rules.specs.ReportOf.{MatchesWork, IsPairOf, IsReplyOf, IsReportOf, is_request_of, is_stamp_of}
+use Rattle.weave_report.specs.ReportText.{answer_words, begun_text, content_words, did_line, edge_text, got_line, got_lines, kind_text, name_at, order_line, pair_line, property_text, reason_text, reply_line, reply_lines, report_lines, report_text, stamp_text, stamp_word, state_words, step_answer_words, verdict_words}
 use Rattle.weave_report.specs.TextOf.{IsName, IsTypedAnswer, IsTypedEdge, IsTypedGot, IsTypedReplyState, IsTypedReport, IsTypedScript, IsTypedState, IsTypedStepAnswer}
-use Rattle.report_rules.specs.Lookups.{is_none_or}
+use Rattle.report_rules.specs.Lookups.{is_program, is_none_or}
 use Rattle.weave_report.proofs.RequestsRead.{name_is_name, request_within, within_place, work_is}
 use Rattle.weave_report.specs.TextLaws.{TextLaws}
 

@@ -28,10 +28,10 @@ use Rattle.report_rules.specs.declared.report.ReplyState.TheVariants as told
 use Rattle.report_rules.specs.declared.report.Report.{Report}
 use Rattle.report_rules.specs.declared.report.StepAnswer.{StepAnswer}
 use Rattle.weave_data.specs.Steps.{◌>>=◌}
-use Rattle.weave_report.specs.ReadingFields.{Read, name_in, names_in, this_number_in}
+use Rattle.weave_report.specs.ReadingFields.{ReadResult, name_in, read_names, this_number_in}
 use Rattle.weave_report.specs.ReadingStates.{is_step_form, step_answer_in}
-use Rattle.weave_report.specs.ReadingReplies.{any_named, named_from, got_in, ops_at, program_in, transaction_in}
-use Rattle.weave_report.specs.Reading.{reading, with_reply, with_pair, with_order, with_answer, commit_reply, behind_commit, after_first, behind_reply, pair_in, order_in, after_pairs, after_replies, next_get, after_got, did_in, after_answers, after_line_at, after_line, after_any_line, behind_line, after_lines, whole_report, Refusal, start}
+use Rattle.weave_report.specs.ReadingReplies.{any_named, named_from, got_in, ops_of_request, program_in, transaction_in}
+use Rattle.weave_report.specs.Reading.{reading, with_reply_read, with_pair, with_order, with_answer, commit_reply, behind_commit, after_first, behind_reply, pair_in, order_in, after_pairs, after_replies, next_get, after_got, did_in, after_answers, after_report_line_at, after_report_line, after_any_line, behind_line, after_lines, whole_report, Refusal, report_start}
 use Rattle.report_rules.specs.ReportOf.{IsReportOf, IsReplyOf, IsPairOf, is_request_of, numbers_of_gets}
 use Rattle.weave_report.specs.ReportText.{did_line, got_line, kind_text, name_at, order_line, pair_line, reply_lines, report_lines, stamp_text}
 use Rattle.weave_report.specs.TextOf.{IsName, IsTypedGot, IsTypedReplyState, IsTypedReport, IsTypedStepAnswer, HasDistinctNames}
@@ -118,7 +118,7 @@ module _ (laws : TextLaws) where
 
   -- ---- one more
 
-  reply_added : (script : Script) (report : Report) (reply : Reply) → IsRead script report → IsReplyOf script reply → IsTypedReplyState reply.state → IsRead script (with_reply report reply)
+  reply_added : (script : Script) (report : Report) (reply : Reply) → IsRead script report → IsReplyOf script reply → IsTypedReplyState reply.state → IsRead script (with_reply_read report reply)
   reply_added script report reply h of typed = record {
     replies = all-push (IsReplyOf script) report.replies reply h.replies of;
     typed_replies = all-push (λ (reply : Reply). IsTypedReplyState reply.state) report.replies reply h.typed_replies typed;
@@ -129,14 +129,14 @@ module _ (laws : TextLaws) where
     few_answers = h.few_answers;
   }
 
-  reply_told : (script : Script) (report : Report) (reply : Reply) → reply_part script (with_reply report reply) ≡ reply_part script report ++ reply_lines script reply
+  reply_told : (script : Script) (report : Report) (reply : Reply) → reply_part script (with_reply_read report reply) ≡ reply_part script report ++ reply_lines script reply
   reply_told script report reply =
       ap (λ lines. first_line ∷ lines) (flat_map-append (reply_lines script) report.replies (reply ∷ []) ∙ ap (λ lines. flat_map (reply_lines script) report.replies ++ lines) (append-nil (reply_lines script reply)))
 
   -- ---- replies
 
   whole_leads : (script : Script) (report : Report) (line : Line) (reply : Reply) → IsRead script report → HasReplies report → (IsWhole laws) script line reply
-      → LeadsTo script (reply_part script report ++ line ∷ []) (reading (with_reply report reply) Replies)
+      → LeadsTo script (reply_part script report ++ line ∷ []) (reading (with_reply_read report reply) Replies)
   whole_leads script report line reply h place whole = record {
     read = reply_added script report reply h whole.of whole.typed;
     place = record { no_pairs = place.no_pairs; no_order = place.no_order; no_answers = place.no_answers };
@@ -163,7 +163,7 @@ module _ (laws : TextLaws) where
   commit_leads script report commit answers h place of numbers typed = by_test (nat_lt (length answers) (length commit.gets)) refl
     where
       by_test : (b : Bool) → nat_lt (length answers) (length commit.gets) ≡ b
-          → LeadsTo script (reply_part script report ++ (commit_line laws) script commit ∷ map got_line answers) (cond b (reading report (Gots commit answers)) (reading (with_reply report (commit_reply commit answers)) Replies))
+          → LeadsTo script (reply_part script report ++ (commit_line laws) script commit ∷ map got_line answers) (cond b (reading report (Gots commit answers)) (reading (with_reply_read report (commit_reply commit answers)) Replies))
       by_test true e = record { read = h; place = (place, record { of = of; numbers = numbers; fewer = ltb-true (length answers) (length commit.gets) e; typed = typed }); told = refl }
       by_test false e =
           let all = numbers ∙ take_all (length answers) commit.gets (ltb-false (length answers) (length commit.gets) e) in
@@ -230,7 +230,7 @@ module _ (laws : TextLaws) where
   order_leads : (script : Script) (report : Report) (words : List Word) (order : List ℕ) → IsRead script report → HasPairs report → order_in script words ≡ Ok order
       → LeadsTo script (pair_part script report ++ (codes "order" ∷ words) ∷ []) (reading (with_order report order) Answers)
   order_leads script report words order h place e =
-      let one = bind_ok (names_in words) (λ names. named_from script [] names) order e in
+      let one = bind_ok (read_names words) (λ names. named_from script [] names) order e in
       let names = (names_read laws) [] words one.0 one.1 in
       let all = all_read script [] one.0 order one.2 in
       let text : words ≡ map (name_at script) order = sym names.0 ∙ all.named ∙ ap (map (name_at script)) (sym all.behind) in
@@ -307,8 +307,8 @@ module _ (laws : TextLaws) where
 
   get_is_small : (script : Script) (commit : Commit) (answers : List Got) (op : ℕ) → HasDistinctNames script → (IsCommit laws) script commit → next_get commit answers ≡ Some op → op < 2 ^ 32
   get_is_small script commit answers op tells of e =
-      let at : slice_get (numbers_of_gets 1 (ops_at script commit.request)) (length answers) ≡ Some op = ap (λ gets. slice_get gets (length answers)) (sym of.gets) ∙ e in
-      omega (arith, numbers_small 1 (ops_at script commit.request) (length answers) op at, few_ops_at script commit.request tells)
+      let at : slice_get (numbers_of_gets 1 (ops_of_request script commit.request)) (length answers) ≡ Some op = ap (λ gets. slice_get gets (length answers)) (sym of.gets) ∙ e in
+      omega (arith, numbers_small 1 (ops_of_request script commit.request) (length answers) op at, few_ops_at script commit.request tells)
 
   take_next : {A : Type 0} (n : ℕ) (xs : List A) (x : A) → slice_get xs n ≡ Some x → take (suc n) xs ≡ take n xs ++ x ∷ []
   take_next n [] x e = absurd cc
@@ -414,7 +414,7 @@ module _ (laws : TextLaws) where
   first_leads script report (a ∷ b ∷ c ∷ words) next h none place e = absurd (err_is_not cause.Line next e)
 
   line_leads : (script : Script) (place : Place) (report : Report) (line : Line) (next : Reading) → HasDistinctNames script → IsRead script report → IsAtPlace script place report
-      → after_line_at script place report line ≡ Ok next → LeadsTo script (lines_so_far script place report ++ line ∷ []) next
+      → after_report_line_at script place report line ≡ Ok next → LeadsTo script (lines_so_far script place report ++ line ∷ []) next
   line_leads script Start report line next tells h at e = first_leads script report line next h at.0 at.1 e
   line_leads script Replies report line next tells h at e = replies_lead script report line next h at e
   line_leads script (Gots commit answers) report line next tells h at e = gots_lead script report commit answers line (next_get commit answers) next tells h at.0 at.1 refl e
@@ -425,19 +425,19 @@ module _ (laws : TextLaws) where
   -- ---- all lines
 
   -- the lines that aren't skipped, one after another
-  abbrev pub after_kept : Script → Reading → List Line → Read Reading
+  abbrev pub after_kept : Script → Reading → List Line → ReadResult Reading
   after_kept script before [] = Ok before
-  after_kept script before (line ∷ lines) = after_line script before line >>= λ next. after_kept script next lines
+  after_kept script before (line ∷ lines) = after_report_line script before line >>= λ next. after_kept script next lines
 
   lines_lead : (script : Script) (before : Reading) (so_far lines : List Line) (last : Reading) → HasDistinctNames script → LeadsTo script so_far before → after_kept script before lines ≡ Ok last → LeadsTo script (so_far ++ lines) last
   lines_lead script before so_far [] last tells h e = subst (λ lines. LeadsTo script lines last) (sym (append-nil so_far)) (subst (LeadsTo script so_far) (ok_is before last e) h)
   lines_lead script before so_far (line ∷ lines) last tells h e =
-      let one = bind_ok (after_line script before line) (λ next. after_kept script next lines) last e in
+      let one = bind_ok (after_report_line script before line) (λ next. after_kept script next lines) last e in
       let led = line_leads script before.place before.report line one.0 tells h.read h.place one.1 in
       let next : LeadsTo script (so_far ++ line ∷ []) one.0 = subst (λ (so_far : List Line). LeadsTo script (so_far ++ line ∷ []) one.0) h.told led in
       subst (λ lines. LeadsTo script lines last) (append_assoc so_far (line ∷ []) lines) (lines_lead script one.0 (so_far ++ line ∷ []) lines last tells next one.2)
 
-  start_leads : (script : Script) → LeadsTo script [] start
+  start_leads : (script : Script) → LeadsTo script [] report_start
   start_leads script = record {
     read = record { replies = tt; typed_replies = tt; pairs = tt; typed_pairs = tt; order = tt; typed_answers = tt; few_answers = lit< tt };
     place = (refl, record { no_pairs = refl; no_order = refl; no_answers = refl });
@@ -445,9 +445,9 @@ module _ (laws : TextLaws) where
   }
 
   -- what is read to its end has exactly these lines
-  pub all_read_is_told : (script : Script) (lines : List Line) (report : Report) → HasDistinctNames script → after_kept script start lines ≡ Ok (reading report Ended) → (lines ≡ report_lines script report) × IsReportOf script report × IsTypedReport report
+  pub all_read_is_told : (script : Script) (lines : List Line) (report : Report) → HasDistinctNames script → after_kept script report_start lines ≡ Ok (reading report Ended) → (lines ≡ report_lines script report) × IsReportOf script report × IsTypedReport report
   all_read_is_told script lines report tells e =
-      let led = lines_lead script start [] lines (reading report Ended) tells (start_leads script) e in (
+      let led = lines_lead script report_start [] lines (reading report Ended) tells (start_leads script) e in (
         sym led.told,
         record { replies = led.read.replies; pairs = led.read.pairs; order = led.read.order },
         record { replies = led.read.typed_replies; pairs = led.read.typed_pairs; answers = led.read.typed_answers; few_answers = led.read.few_answers },
@@ -466,16 +466,17 @@ module _ (laws : TextLaws) where
   ended script number Pairs report last e = absurd cc
   ended script number Answers report last e = absurd cc
 
-  behind_ok : (number : ℕ) (one : Read Reading) (rest : Reading → Result Report Refusal) (report : Report) → behind_line number one rest ≡ Ok report → (next : Reading) × (one ≡ Ok next) × (rest next ≡ Ok report)
+  behind_ok : (number : ℕ) (one : ReadResult Reading) (rest : Reading → Result Report Refusal) (report : Report) → behind_line number one rest ≡ Ok report → (next : Reading) × (one ≡ Ok next) × (rest next ≡ Ok report)
   behind_ok number (Ok next) rest report e = (next, refl, e)
   behind_ok number (Err why) rest report e = absurd cc
 
-  skip_or_read : (script : Script) (before : Reading) (line : Bytes) (lines : List Bytes) (b : Bool) (next : Reading) (goal : Read Reading) → is_skipped line ≡ b
-      → cond b (Ok before) (after_line script before (words_of line)) ≡ Ok next → after_kept script next (kept_lines lines) ≡ goal
+  skip_or_read : (script : Script) (before : Reading) (line : Bytes) (lines : List Bytes) (b : Bool) (next : Reading) (goal : ReadResult Reading) → is_skipped line ≡ b
+      → cond b (Ok before) (after_report_line script before (words_of line)) ≡ Ok next → after_kept script next (kept_lines lines) ≡ goal
       → after_kept script before (cond b (kept_lines lines) (words_of line ∷ kept_lines lines)) ≡ goal
   skip_or_read script before line lines true next goal h e k = ap (λ before. after_kept script before (kept_lines lines)) (ok_is before next e) ∙ k
   skip_or_read script before line lines false next goal h e k = ap (λ one. one >>= λ next. after_kept script next (kept_lines lines)) e ∙ k
 
+  -- if lines are read as a report, those of them that aren't skipped are read to its end
   pub kept_of_lines : (script : Script) (number : ℕ) (before : Reading) (lines : List Bytes) (report : Report) → after_lines script number before lines ≡ Ok report → after_kept script before (kept_lines lines) ≡ Ok (reading report Ended)
   kept_of_lines script number before [] report e = ap (λ (last : Reading). Ok last) (ended script number before.place before.report report e)
   kept_of_lines script number before (line ∷ lines) report e =
@@ -486,8 +487,9 @@ module _ (laws : TextLaws) where
           → after_kept script before (kept_lines (line ∷ lines)) ≡ Ok (reading report Ended)
       by_test b h next e k =
           ap (λ b. after_kept script before (cond b (kept_lines lines) (words_of line ∷ kept_lines lines))) h
-          ∙ skip_or_read script before line lines b next _ h (sym (ap (λ b. cond b (Ok before) (after_line script before (words_of line))) h) ∙ e) k
+          ∙ skip_or_read script before line lines b next _ h (sym (ap (λ b. cond b (Ok before) (after_report_line script before (words_of line))) h) ∙ e) k
 
+  -- and if those that aren't skipped are read to a report's end, the lines are read as this report
   pub lines_of_kept : (script : Script) (number : ℕ) (before : Reading) (lines : List Bytes) (report : Report) → after_kept script before (kept_lines lines) ≡ Ok (reading report Ended) → after_lines script number before lines ≡ Ok report
   lines_of_kept script number before [] report e =
       let same : before ≡ reading report Ended = ok_is before (reading report Ended) e in ap (λ (before : Reading). whole_report number before.place before.report) same
@@ -496,11 +498,11 @@ module _ (laws : TextLaws) where
       by_test : (b : Bool) → is_skipped line ≡ b → ((number : ℕ) (next : Reading) → after_kept script next (kept_lines lines) ≡ Ok (reading report Ended) → after_lines script number next lines ≡ Ok report)
           → after_lines script number before (line ∷ lines) ≡ Ok report
       by_test true h rest =
-          ap (λ b. behind_line number (cond b (Ok before) (after_line script before (words_of line))) (λ next. after_lines script (number + 1) next lines)) h
+          ap (λ b. behind_line number (cond b (Ok before) (after_report_line script before (words_of line))) (λ next. after_lines script (number + 1) next lines)) h
           ∙ rest (number + 1) before (sym (ap (λ b. after_kept script before (cond b (kept_lines lines) (words_of line ∷ kept_lines lines))) h) ∙ e)
       by_test false h rest =
           let left = sym (ap (λ b. after_kept script before (cond b (kept_lines lines) (words_of line ∷ kept_lines lines))) h) ∙ e in
-          let one = bind_ok (after_line script before (words_of line)) (λ next. after_kept script next (kept_lines lines)) (reading report Ended) left in
-          ap (λ b. behind_line number (cond b (Ok before) (after_line script before (words_of line))) (λ next. after_lines script (number + 1) next lines)) h
+          let one = bind_ok (after_report_line script before (words_of line)) (λ next. after_kept script next (kept_lines lines)) (reading report Ended) left in
+          ap (λ b. behind_line number (cond b (Ok before) (after_report_line script before (words_of line))) (λ next. after_lines script (number + 1) next lines)) h
           ∙ ap (λ one. behind_line number one (λ next. after_lines script (number + 1) next lines)) one.1
           ∙ rest (number + 1) one.0 one.2

@@ -21,11 +21,11 @@ use Rattle.program_defs.specs.declared.script.Work.TheVariants.{Change, Look}
 use Rattle.weave_report.specs.declared.fault.ReportCause.TheVariants as cause
 use Rattle.report_rules.specs.declared.report.ReplyState.{ReplyState}
 use Rattle.program_defs.specs.Works.{is_look, ops_of}
-use Rattle.weave_report.specs.ReadingReplies.{any_named, kind_named, named_from, of_kind, ops_at, program_named, program_of, request_from, request_named}
+use Rattle.weave_report.specs.ReadingReplies.{any_named, kind_named, named_from, of_kind, ops_of_request, program_named, look_of_work, request_from, request_named}
 use Rattle.report_rules.specs.ReportOf.{MatchesWork, is_request_of}
-use Rattle.weave_report.specs.ReportText.{is_program, name_at}
-use Rattle.weave_report.specs.TextOf.{IsName, IsTypedScript, HasDistinctNames, names_of}
-use Rattle.report_rules.specs.Lookups.{request_at}
+use Rattle.weave_report.specs.ReportText.{name_at}
+use Rattle.weave_report.specs.TextOf.{IsName, IsTypedScript, HasDistinctNames, request_names}
+use Rattle.report_rules.specs.Lookups.{is_program, request_at}
 use Rattle.weave_data.proofs.Steps.{bind_ok, ok_is}
 use Rattle.weave_report.proofs.ReadSteps.{then_ok, or_cause_read, or_cause_again}
 
@@ -63,26 +63,26 @@ named_read script name r e =
     let same : r ≡ found.place = omega (arith, found.number) in
     record { within = omega (arith, found.within, same); named = sym found.named ∙ ap (name_in_place script.requests) (sym same) }
 
-differs_at : (first : Name) (requests : List Request) (i : ℕ) → AllByRecursion (λ name. same_name first name ≡ false) (names_of requests) → i < length requests → same_name first (name_in_place requests i) ≡ false
+differs_at : (first : Name) (requests : List Request) (i : ℕ) → AllByRecursion (λ name. same_name first name ≡ false) (request_names requests) → i < length requests → same_name first (name_in_place requests i) ≡ false
 differs_at first [] i h k = absurd (omega arith)
 differs_at first (request ∷ requests) zero h k = h.0
 differs_at first (request ∷ requests) (suc i) h k = differs_at first requests i h.1 (omega arith)
 
-found_again : (n : ℕ) (requests : List Request) (i : ℕ) → IsDistinct same_name (names_of requests) → i < length requests → request_from n (name_in_place requests i) requests ≡ Some (n + i)
+found_again : (n : ℕ) (requests : List Request) (i : ℕ) → IsDistinct same_name (request_names requests) → i < length requests → request_from n (name_in_place requests i) requests ≡ Some (n + i)
 found_again n [] i h k = absurd (omega arith)
 found_again n (request ∷ requests) zero h k =
     let e : n ≡ n + 0 = omega arith in
     cond-true (same_name request.name request.name) _ _ ((eq_by_cmp_equiv nat_list_cmp_total).refl request.name) ∙ ap (λ (n : ℕ). Some n) e
 found_again n (request ∷ requests) (suc i) h k =
     let e : (n + 1) + i ≡ n + suc i = omega arith in
-    cond-false (same_name request.name (name_in_place requests i)) _ _ (differs_at request.name requests i (IsDistinct-head same_name request.name (names_of requests) h) (omega arith))
-    ∙ found_again (n + 1) requests i (IsDistinct-tail same_name request.name (names_of requests) h) (omega arith) ∙ ap (λ (n : ℕ). Some n) e
+    cond-false (same_name request.name (name_in_place requests i)) _ _ (differs_at request.name requests i (IsDistinct-head same_name request.name (request_names requests) h) (omega arith))
+    ∙ found_again (n + 1) requests i (IsDistinct-tail same_name request.name (request_names requests) h) (omega arith) ∙ ap (λ (n : ℕ). Some n) e
 
 -- a request is found by its name
 pub named_again : (script : Script) (r : ℕ) → HasDistinctNames script → r < length script.requests → request_named script (name_at script r) ≡ Some r
 named_again script r h k = let e : 0 + r ≡ r = omega arith in found_again 0 script.requests r h.distinct k ∙ ap (λ (n : ℕ). Some n) e
 
-named_in_place : (requests : List Request) (i : ℕ) → AllByRecursion IsName (names_of requests) → i < length requests → IsName (name_in_place requests i)
+named_in_place : (requests : List Request) (i : ℕ) → AllByRecursion IsName (request_names requests) → i < length requests → IsName (name_in_place requests i)
 named_in_place [] i h k = absurd (omega arith)
 named_in_place (request ∷ requests) zero h k = h.0
 named_in_place (request ∷ requests) (suc i) h k = named_in_place requests i h.1 (omega arith)
@@ -190,7 +190,7 @@ change_told : (script : Script) (work : Work) (stamp : Option Stamp) (state : Re
 change_told script (Change ops) stamp state h told = told ops refl
 change_told script (Look program) stamp state h told = absurd cc
 
-look_told : (script : Script) (work : Work) (stamp : Option Stamp) (state : ReplyState) → is_look work ≡ true → ((program : Program) → program_of work ≡ Some program → MatchesWork script (Look program) stamp state) → MatchesWork script work stamp state
+look_told : (script : Script) (work : Work) (stamp : Option Stamp) (state : ReplyState) → is_look work ≡ true → ((program : Program) → look_of_work work ≡ Some program → MatchesWork script (Look program) stamp state) → MatchesWork script work stamp state
 look_told script (Change ops) stamp state h told = absurd cc
 look_told script (Look program) stamp state h told = told program refl
 
@@ -200,7 +200,7 @@ MatchesWorkAt script r stamp state = IsSomeAnd (request_at script r) (λ (reques
 
 -- a state that fits a transaction's operations fits the request
 pub transaction_told : (script : Script) (r : ℕ) (stamp : Option Stamp) (state : ReplyState) → r < length script.requests → is_program script r ≡ false
-    → ((ops : List Op) → ops_at script r ≡ ops → MatchesWork script (Change ops) stamp state) → MatchesWorkAt script r stamp state
+    → ((ops : List Op) → ops_of_request script r ≡ ops → MatchesWork script (Change ops) stamp state) → MatchesWorkAt script r stamp state
 transaction_told script r stamp state h kind told =
     let at = in_place script.requests r h in
     let Told : Option Request → Type 0 = λ o. IsSomeAnd o (λ (request : Request). MatchesWork script request.work stamp state) in
@@ -231,7 +231,7 @@ pub record IsProgramAt (script : Script) (name : Name) (r : ℕ) (program : Prog
 
 -- the program of a request, with its number
 abbrev program_of_work : ℕ → Work → Option (ℕ × Program)
-program_of_work r work = option_and_then (λ (program : Program). Some (r, program)) (program_of work)
+program_of_work r work = option_and_then (λ (program : Program). Some (r, program)) (look_of_work work)
 
 abbrev program_at : Script → ℕ → Option (ℕ × Program)
 program_at script r = option_and_then (λ (request : Request). program_of_work r request.work) (request_at script r)

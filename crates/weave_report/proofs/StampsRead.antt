@@ -5,15 +5,16 @@ use Rattle.std.specs.Prelude.{IsTrue, Ok, codes, nat_lt, replicate}
 use Rattle.std.specs.Fmt.{decimal}
 use Rattle.std.specs.List.{list_all}
 use Rattle.std.proofs.lemmas.Bool.{cond-true, and_parts, and_from, lt-ltb, ltb-true, eqb-true, eq-eqb, cases_lt}
-use Rattle.weave_text.specs.Cutting.{lacks, pieces_of}
+use Rattle.weave_text.specs.Cutting.{is_absent_from, pieces_of}
 use Rattle.weave_text.specs.Lines.{Word, joined_texts, marked_texts}
-use Rattle.weave_text.specs.Numbers.{number_of}
+use Rattle.weave_text.specs.Numbers.{number_of_word}
 use Rattle.vector_stamp.specs.declared.clock.Stamp.{Stamp}
+use Rattle.vector_stamp.specs.Order.{has_64_bits}
 use Rattle.program_defs.specs.declared.script.Script.{Script}
 use Rattle.weave_report.specs.declared.fault.ReportCause.TheVariants as cause
 use Rattle.weave_data.specs.Steps.{◌>>=◌}
-use Rattle.weave_report.specs.ReadingFields.{count_in, counts_from, eight_counts, stamp_of, stamp_parts, stamp_in}
-use Rattle.report_rules.specs.ReportOf.{has_64_bits, is_stamp_of}
+use Rattle.weave_report.specs.ReadingFields.{count_in, counts_from, eight_counts, stamp_with_counts, stamp_parts, read_stamp}
+use Rattle.report_rules.specs.ReportOf.{is_stamp_of}
 use Rattle.weave_report.specs.ReportText.{stamp_text}
 use Rattle.weave_data.proofs.Steps.{bind_ok, ok_is}
 use Rattle.weave_report.proofs.ReadSteps.{err_is_not, passed, then_ok, or_cause_read, or_cause_again}
@@ -25,10 +26,10 @@ module _ (laws : TextLaws) where
   fits n = nat_lt n (2 ^ 64)
 
   count_read : (word : Word) (n : ℕ) → count_in word ≡ Ok n → (word ≡ decimal n) × (n < 2 ^ 64)
-  count_read word n e = laws.word_of-number word n (or_cause_read cause.Stamp (number_of word) n e)
+  count_read word n e = laws.word_of-number word n (or_cause_read cause.Stamp (number_of_word word) n e)
 
   count_again : (n : ℕ) → n < 2 ^ 64 → count_in (decimal n) ≡ Ok n
-  count_again n h = or_cause_again cause.Stamp (number_of (decimal n)) n (laws.number_of-decimal n h)
+  count_again n h = or_cause_again cause.Stamp (number_of_word (decimal n)) n (laws.number_of-decimal n h)
 
   -- the numbers of these words, and nothing more
   record AreCounts (before : List ℕ) (words : List Word) (counts : List ℕ) : Type 0 where
@@ -166,14 +167,15 @@ module _ (laws : TextLaws) where
   three_parts gates (a ∷ b ∷ c ∷ []) stamp e = (a, b, c, refl, e)
   three_parts gates (a ∷ b ∷ c ∷ d ∷ parts) stamp e = absurd (err_is_not cause.Stamp stamp e)
 
-  pub stamp_read : (script : Script) (word : Word) (stamp : Stamp) → stamp_in script.gates word ≡ Ok stamp → (word ≡ stamp_text script.gates stamp) × IsTrue (is_stamp_of script stamp)
+  -- a word that is read as a stamp is this stamp's text, and the stamp is one of the script's
+  pub stamp_read : (script : Script) (word : Word) (stamp : Stamp) → read_stamp script.gates word ≡ Ok stamp → (word ≡ stamp_text script.gates stamp) × IsTrue (is_stamp_of script stamp)
   stamp_read script word stamp e =
       let gates = script.gates in
       let parts = three_parts gates (pieces_of 58 word) stamp e in
       let a = parts.0 in let b = parts.1 in let c = parts.2 in
-      let one = bind_ok (count_in a) (λ epoch. count_in b >>= λ home. counts_from [] (pieces_of 44 c) >>= λ counts. stamp_of gates epoch home counts) stamp parts.4 in
-      let two = bind_ok (count_in b) (λ home. counts_from [] (pieces_of 44 c) >>= λ counts. stamp_of gates one.0 home counts) stamp one.2 in
-      let three = bind_ok (counts_from [] (pieces_of 44 c)) (λ counts. stamp_of gates one.0 two.0 counts) stamp two.2 in
+      let one = bind_ok (count_in a) (λ epoch. count_in b >>= λ home. counts_from [] (pieces_of 44 c) >>= λ counts. stamp_with_counts gates epoch home counts) stamp parts.4 in
+      let two = bind_ok (count_in b) (λ home. counts_from [] (pieces_of 44 c) >>= λ counts. stamp_with_counts gates one.0 home counts) stamp one.2 in
+      let three = bind_ok (counts_from [] (pieces_of 44 c)) (λ counts. stamp_with_counts gates one.0 two.0 counts) stamp two.2 in
       let epoch = count_read a one.0 one.1 in
       let home = count_read b two.0 two.1 in
       let counts = counts_read [] (pieces_of 44 c) three.0 three.1 in
@@ -194,18 +196,18 @@ module _ (laws : TextLaws) where
 
   -- ---- and again
 
-  counts_lack_colon : (first : ℕ) (more : List ℕ) → list_all fits (first ∷ more) ≡ true → lacks 58 (joined_texts (44 ∷ []) (map decimal (first ∷ more))) ≡ true
+  counts_lack_colon : (first : ℕ) (more : List ℕ) → list_all fits (first ∷ more) ≡ true → is_absent_from 58 (joined_texts (44 ∷ []) (map decimal (first ∷ more))) ≡ true
   counts_lack_colon first more h =
       let parts = and_parts (fits first) (list_all fits more) h in
       laws.lacks-append 58 (decimal first) (marked_texts (44 ∷ []) (map decimal more)) (laws.decimal_lacks 58 first refl (ltb-true first (2 ^ 64) parts.0)) (marked more parts.1)
     where
-      marked : (more : List ℕ) → list_all fits more ≡ true → lacks 58 (marked_texts (44 ∷ []) (map decimal more)) ≡ true
+      marked : (more : List ℕ) → list_all fits more ≡ true → is_absent_from 58 (marked_texts (44 ∷ []) (map decimal more)) ≡ true
       marked [] h = refl
       marked (count ∷ more) h =
           let parts = and_parts (fits count) (list_all fits more) h in
           laws.lacks-append 58 (44 ∷ decimal count) (marked_texts (44 ∷ []) (map decimal more)) (laws.decimal_lacks 58 count refl (ltb-true count (2 ^ 64) parts.0)) (marked more parts.1)
 
-  counts_lack_comma : (counts : List ℕ) → list_all fits counts ≡ true → list_all (lacks 44) (map decimal counts) ≡ true
+  counts_lack_comma : (counts : List ℕ) → list_all fits counts ≡ true → list_all (is_absent_from 44) (map decimal counts) ≡ true
   counts_lack_comma [] h = refl
   counts_lack_comma (count ∷ counts) h =
       let parts = and_parts (fits count) (list_all fits counts) h in
@@ -213,12 +215,13 @@ module _ (laws : TextLaws) where
 
   -- counts that are shown are cut again
   cut_again : (counts : List ℕ) → 0 < length counts → list_all fits counts ≡ true
-      → (lacks 58 (joined_texts (44 ∷ []) (map decimal counts)) ≡ true) × (pieces_of 44 (joined_texts (44 ∷ []) (map decimal counts)) ≡ map decimal counts)
+      → (is_absent_from 58 (joined_texts (44 ∷ []) (map decimal counts)) ≡ true) × (pieces_of 44 (joined_texts (44 ∷ []) (map decimal counts)) ≡ map decimal counts)
   cut_again [] some h = absurd (omega arith)
   cut_again (count ∷ counts) some h =
       (counts_lack_colon count counts h, laws.pieces_come_back 44 (decimal count) (map decimal counts) (counts_lack_comma (count ∷ counts) h))
 
-  pub stamp_again : (script : Script) (stamp : Stamp) → script.gates < 2 ^ 32 → IsTrue (is_stamp_of script stamp) → stamp_in script.gates (stamp_text script.gates stamp) ≡ Ok stamp
+  -- the text of a stamp of a script with fewer than 2^32 gatekeepers is read as this stamp
+  pub stamp_again : (script : Script) (stamp : Stamp) → script.gates < 2 ^ 32 → IsTrue (is_stamp_of script stamp) → read_stamp script.gates (stamp_text script.gates stamp) ≡ Ok stamp
   stamp_again script stamp gates_fit h =
       let gates = script.gates in
       let clock = stamp.clock in
@@ -235,13 +238,13 @@ module _ (laws : TextLaws) where
       let epoch : clock.epoch < 2 ^ 64 = ltb-true clock.epoch (2 ^ 64) small.0 in
       let home_fits : stamp.home < 2 ^ 64 = omega (arith, below, gates_fit) in
       let joined = joined_texts (44 ∷ []) (map decimal shown) in
-      let lack : list_all (lacks 58) (decimal clock.epoch ∷ decimal stamp.home ∷ joined ∷ []) ≡ true =
+      let lack : list_all (is_absent_from 58) (decimal clock.epoch ∷ decimal stamp.home ∷ joined ∷ []) ≡ true =
       and_from _ _ (laws.decimal_lacks 58 clock.epoch refl epoch) (and_from _ _ (laws.decimal_lacks 58 stamp.home refl home_fits) (and_from _ _ cut.0 refl)) in
       let parts : pieces_of 58 (stamp_text gates stamp) ≡ decimal clock.epoch ∷ decimal stamp.home ∷ joined ∷ [] =
       ap (pieces_of 58) (sym (three_joined (decimal clock.epoch) (decimal stamp.home) joined)) ∙ laws.pieces_come_back 58 (decimal clock.epoch) (decimal stamp.home ∷ joined ∷ []) lack in
       let tests : (nat_lt stamp.home gates && (length shown == min gates 8)) ≡ true = and_from _ _ home.0 (eq-eqb (length shown) (min gates 8) few) in
       ap (stamp_parts gates) parts
-      ∙ then_ok (count_in (decimal clock.epoch)) (λ epoch. count_in (decimal stamp.home) >>= λ home. counts_from [] (pieces_of 44 joined) >>= λ counts. stamp_of gates epoch home counts) clock.epoch _ (count_again clock.epoch epoch)
-      (then_ok (count_in (decimal stamp.home)) (λ home. counts_from [] (pieces_of 44 joined) >>= λ counts. stamp_of gates clock.epoch home counts) stamp.home _ (count_again stamp.home home_fits)
-      (then_ok (counts_from [] (pieces_of 44 joined)) (λ counts. stamp_of gates clock.epoch stamp.home counts) shown _ (ap (counts_from []) cut.1 ∙ counts_again [] shown fit)
+      ∙ then_ok (count_in (decimal clock.epoch)) (λ epoch. count_in (decimal stamp.home) >>= λ home. counts_from [] (pieces_of 44 joined) >>= λ counts. stamp_with_counts gates epoch home counts) clock.epoch _ (count_again clock.epoch epoch)
+      (then_ok (count_in (decimal stamp.home)) (λ home. counts_from [] (pieces_of 44 joined) >>= λ counts. stamp_with_counts gates clock.epoch home counts) stamp.home _ (count_again stamp.home home_fits)
+      (then_ok (counts_from [] (pieces_of 44 joined)) (λ counts. stamp_with_counts gates clock.epoch stamp.home counts) shown _ (ap (counts_from []) cut.1 ∙ counts_again [] shown fit)
       (cond-true _ _ _ tests ∙ ap (λ (counts : List ℕ). Ok (record { home = stamp.home; clock = record { epoch = clock.epoch; counts = counts } })) (again_eight gates clock.counts eight zeros.1))))

@@ -8,7 +8,7 @@ use Rattle.std.specs.Str.{bytes_eq}
 use Rattle.std.proofs.lemmas.Bool.{cond-true, cond-false, and_parts, and_from, or_cases, eqb-true}
 use Rattle.std.proofs.lemmas.List.{map-append}
 use Rattle.weave_data.specs.declared.name.Name.{Name}
-use Rattle.weave_text.specs.Cutting.{is_empty, lacks, pieces_of}
+use Rattle.weave_text.specs.Cutting.{is_empty, is_absent_from, pieces_of}
 use Rattle.weave_text.specs.Lines.{Bytes, Word, joined_texts, marked_texts}
 use Rattle.graph_ops.specs.Operations.{State}
 use Rattle.graph_ops.specs.declared.record.Edge.{Edge}
@@ -18,7 +18,7 @@ use Rattle.weave_report.specs.declared.read.parts.Item.{Item}
 use Rattle.weave_report.specs.declared.read.parts.Item.TheVariants.{Property, Link}
 use Rattle.weave_data.specs.Steps.{◌>>=◌}
 use Rattle.weave_report.specs.ReadingFields.{name_in}
-use Rattle.weave_report.specs.ReadingStates.{Cut, cut_behind, cut_first, is_equals, is_item_mark, pair_in, goes_last, with_last, tag_of, tag_in, tags_in, edge_of, item_of, item_in, with_property, with_item, items_in, empty_record, is_state_form, state_in}
+use Rattle.weave_report.specs.ReadingStates.{CutText, cut_behind, cut_first, is_equals, is_item_mark, key_and_value, goes_last, with_last, read_tag, tag_in, tags_in, edge_of, item_of, item_in, with_property, with_item_read, items_in, empty_record, is_state_form, read_state}
 use Rattle.weave_report.specs.ReportText.{property_text, edge_text, content_words, state_words}
 use Rattle.weave_report.specs.TextOf.{IsName, IsTypedMap, IsTypedEdge, IsTypedRecord, IsTypedState}
 use Rattle.weave_data.proofs.Steps.{bind_ok, ok_is}
@@ -32,6 +32,7 @@ module _ (laws : TextLaws) where
   unset true h = absurd cc
   unset false h = refl
 
+  -- words that are told to be empty are none
   pub no_words : (words : List Word) → is_empty words ≡ true → words ≡ []
   no_words [] h = refl
   no_words (word ∷ words) h = absurd cc
@@ -39,18 +40,18 @@ module _ (laws : TextLaws) where
   -- ---- cuts
 
   -- the parts of one cut
-  same_cut : (a : Bytes) (b : ℕ) (c : Bytes) (x : Bytes) (y : ℕ) (z : Bytes) → ◌≡◌ {A = Option Cut} (Some (a, b, c)) (Some (x, y, z)) → (a ≡ x) × (b ≡ y) × (c ≡ z)
+  same_cut : (a : Bytes) (b : ℕ) (c : Bytes) (x : Bytes) (y : ℕ) (z : Bytes) → ◌≡◌ {A = Option CutText} (Some (a, b, c)) (Some (x, y, z)) → (a ≡ x) × (b ≡ y) × (c ≡ z)
   same_cut a b c x y z e = (ap first e, ap second e, ap third e)
     where
-      first : Option Cut → Bytes
+      first : Option CutText → Bytes
       first None = []
       first (Some cut) = cut.0
 
-      second : Option Cut → ℕ
+      second : Option CutText → ℕ
       second None = 0
       second (Some cut) = cut.1
 
-      third : Option Cut → Bytes
+      third : Option CutText → Bytes
       third None = []
       third (Some cut) = cut.2
 
@@ -60,7 +61,7 @@ module _ (laws : TextLaws) where
       marked : is_mark mark ≡ true
       whole : text ≡ before ++ mark ∷ behind
 
-    cut_parts : (byte : ℕ) (text : Bytes) (o : Option Cut) (before : Bytes) (mark : ℕ) (behind : Bytes)
+    cut_parts : (byte : ℕ) (text : Bytes) (o : Option CutText) (before : Bytes) (mark : ℕ) (behind : Bytes)
         → ((b : Bytes) (m : ℕ) (t : Bytes) → o ≡ Some (b, m, t) → IsCut text b m t) → cut_behind byte o ≡ Some (before, mark, behind) → IsCut (byte ∷ text) before mark behind
     cut_parts byte text None before mark behind more e = absurd cc
     cut_parts byte text (Some (b, m, t)) before mark behind more e =
@@ -93,11 +94,11 @@ module _ (laws : TextLaws) where
   neither true y h k = absurd cc
   neither false y h k = k
 
-  unmarked : (name : Bytes) → lacks 61 name ≡ true → lacks 62 name ≡ true → list_all (λ b. not (is_item_mark b)) name ≡ true
+  unmarked : (name : Bytes) → is_absent_from 61 name ≡ true → is_absent_from 62 name ≡ true → list_all (λ b. not (is_item_mark b)) name ≡ true
   unmarked [] h k = refl
   unmarked (byte ∷ name) h k =
-      let one = and_parts (not (byte == 61)) (lacks 61 name) h in
-      let two = and_parts (not (byte == 62)) (lacks 62 name) k in
+      let one = and_parts (not (byte == 61)) (is_absent_from 61 name) h in
+      let two = and_parts (not (byte == 62)) (is_absent_from 62 name) k in
       and_from _ _ (neither (byte == 61) (byte == 62) one.0 two.0) (unmarked name one.1 two.1)
 
   name_unmarked : (name : Name) → IsName name → list_all (λ b. not (is_item_mark b)) name ≡ true
@@ -110,7 +111,7 @@ module _ (laws : TextLaws) where
     key_is : key ≡ pair.0
     value_is : value ≡ pair.1
 
-  pair_read : (key value : Bytes) (pair : Name × Name) → pair_in key value ≡ Ok pair → ArePair key value pair
+  pair_read : (key value : Bytes) (pair : Name × Name) → key_and_value key value ≡ Ok pair → ArePair key value pair
   pair_read key value pair e =
       let one = bind_ok (name_in key) (λ key. name_in value >>= λ value. Ok (key, value)) pair e in
       let two = bind_ok (name_in value) (λ value. Ok (one.0, value)) pair one.2 in
@@ -119,7 +120,7 @@ module _ (laws : TextLaws) where
       let same : (one.0, two.0) ≡ pair = ok_is (one.0, two.0) pair two.2 in
       subst (ArePair key value) same (record { key_is_name = k.0; value_is_name = v.0; key_is = k.1; value_is = v.1 })
 
-  pair_again : (key value : Name) → IsName key → IsName value → pair_in key value ≡ Ok (key, value)
+  pair_again : (key value : Name) → IsName key → IsName value → key_and_value key value ≡ Ok (key, value)
   pair_again key value h k =
       then_ok (name_in key) (λ key. name_in value >>= λ value. Ok (key, value)) key _ ((name_again laws) key h)
       (then_ok (name_in value) (λ value. Ok (key, value)) value _ ((name_again laws) value k) refl)
@@ -137,7 +138,7 @@ module _ (laws : TextLaws) where
     value : IsName tag.1
     text : word ≡ property_text tag
 
-  tag_from : (word : Word) (o : Option Cut) (tag : Name × Name) → cut_first is_equals word ≡ o → tag_of o ≡ Ok tag → IsTag word tag
+  tag_from : (word : Word) (o : Option CutText) (tag : Name × Name) → cut_first is_equals word ≡ o → read_tag o ≡ Ok tag → IsTag word tag
   tag_from word None tag e k = absurd (err_is_not cause.Line tag k)
   tag_from word (Some (before, mark, behind)) tag e k =
       let cut = cut_read is_equals word before mark behind e in
@@ -149,7 +150,7 @@ module _ (laws : TextLaws) where
 
   tag_again : (key value : Name) → IsName key → IsName value → tag_in (property_text (key, value)) ≡ Ok (key, value)
   tag_again key value h k =
-      ap (λ word. tag_of (cut_first is_equals word)) (property_joined key value) ∙ ap tag_of (cut_again is_equals key 61 value (laws.name_lacks 61 key refl h) refl) ∙ pair_again key value h k
+      ap (λ word. read_tag (cut_first is_equals word)) (property_joined key value) ∙ ap read_tag (cut_again is_equals key 61 value (laws.name_lacks 61 key refl h) refl) ∙ pair_again key value h k
 
   -- ---- maps
 
@@ -242,7 +243,7 @@ module _ (laws : TextLaws) where
       append_assoc (name ++ codes ">") edge.target (marked_texts (44 ∷ []) (map property_text edge.tags))
       ∙ append_assoc name (codes ">") (edge.target ++ marked_texts (44 ∷ []) (map property_text edge.tags))
 
-  properties_lack : (pairs : List (Name × Name)) → AllByRecursion (λ (pair : Name × Name). IsName pair.0 × IsName pair.1) pairs → list_all (lacks 44) (map property_text pairs) ≡ true
+  properties_lack : (pairs : List (Name × Name)) → AllByRecursion (λ (pair : Name × Name). IsName pair.0 × IsName pair.1) pairs → list_all (is_absent_from 44) (map property_text pairs) ≡ true
   properties_lack [] h = refl
   properties_lack ((key, value) ∷ pairs) h =
       and_from _ _ (laws.lacks-append 44 (key ++ codes "=") value (laws.lacks-append 44 key (codes "=") (laws.name_lacks 44 key refl h.0.0) refl) (laws.name_lacks 44 value refl h.0.1)) (properties_lack pairs h.1)
@@ -268,14 +269,14 @@ module _ (laws : TextLaws) where
       absurd_test : (b : Bool) → b ≡ true → b ≡ false → ⊥
       absurd_test b e k = cc
 
-  item_from : (word : Word) (o : Option Cut) (item : Item) → cut_first is_item_mark word ≡ o → item_of o ≡ Ok item → IsTypedItem item × (word ≡ item_text item)
+  item_from : (word : Word) (o : Option CutText) (item : Item) → cut_first is_item_mark word ≡ o → item_of o ≡ Ok item → IsTypedItem item × (word ≡ item_text item)
   unfolding IsTypedItem item_text edge_words
   item_from word None item e k = absurd (err_is_not cause.Line item k)
   item_from word (Some (before, mark, behind)) item e k =
       let cut = cut_read is_item_mark word before mark behind e in
-      elim (chosen (is_equals mark) (pair_in before behind >>= λ pair. Ok (Property pair.0 pair.1)) (name_in before >>= λ name. edge_of (pieces_of 44 behind) >>= λ edge. Ok (Link name edge)) (Ok item) k) [
+      elim (chosen (is_equals mark) (key_and_value before behind >>= λ pair. Ok (Property pair.0 pair.1)) (name_in before >>= λ name. edge_of (pieces_of 44 behind) >>= λ edge. Ok (Link name edge)) (Ok item) k) [
         | inl h ↦
-            let one = bind_ok (pair_in before behind) (λ pair. Ok (Property pair.0 pair.1)) item h.1 in
+            let one = bind_ok (key_and_value before behind) (λ pair. Ok (Property pair.0 pair.1)) item h.1 in
             let pair = pair_read before behind one.0 one.1 in
             let same = ok_is (Property one.0.0 one.0.1) item one.2 in
             (subst IsTypedItem same (pair.key_is_name, pair.value_is_name), property_is word before mark behind one.0 cut.whole h.0 pair ∙ ap item_text same)
@@ -297,7 +298,7 @@ module _ (laws : TextLaws) where
   property_item_again key value h k =
       ap (λ word. item_of (cut_first is_item_mark word)) (property_joined key value)
       ∙ ap item_of (cut_again is_item_mark key 61 value (name_unmarked key h) refl)
-      ∙ then_ok (pair_in key value) (λ pair. Ok (Property pair.0 pair.1)) (key, value) _ (pair_again key value h k) refl
+      ∙ then_ok (key_and_value key value) (λ pair. Ok (Property pair.0 pair.1)) (key, value) _ (pair_again key value h k) refl
 
   edge_item_again : (name : Name) (edge : Edge) → IsName name → IsTypedEdge edge → item_in (edge_text (name, edge)) ≡ Ok (Link name edge)
   edge_item_again name edge h k =
@@ -328,7 +329,7 @@ module _ (laws : TextLaws) where
       }
   property_put props (edge ∷ edges) key value next e h k v = absurd (err_is_not cause.Line next e)
 
-  item_put : (held : Record) (item : Item) (next : Record) → with_item held item ≡ Ok next → IsTypedRecord held → IsTypedItem item → HasItem held item next
+  item_put : (held : Record) (item : Item) (next : Record) → with_item_read held item ≡ Ok next → IsTypedRecord held → IsTypedItem item → HasItem held item next
   unfolding item_text IsTypedItem
   item_put held (Property key value) next e h k = property_put held.props held.edges key value next e h k.0 k.1
   item_put held (Link name edge) next e h k =
@@ -348,8 +349,8 @@ module _ (laws : TextLaws) where
       let same = ok_is held final e in
       (subst IsTypedRecord same h, sym (ap content_words same) ∙ sym (append-nil (content_words held)))
   items_read held (word ∷ words) final e h =
-      let one = bind_ok (item_in word) (λ item. with_item held item >>= λ held. items_in held words) final e in
-      let two = bind_ok (with_item held one.0) (λ held. items_in held words) final one.2 in
+      let one = bind_ok (item_in word) (λ item. with_item_read held item >>= λ held. items_in held words) final e in
+      let two = bind_ok (with_item_read held one.0) (λ held. items_in held words) final one.2 in
       let item = item_read word one.0 one.1 in
       let put = item_put held one.0 two.0 two.1 h item.0 in
       let rest = items_read two.0 words final two.2 put.typed in
@@ -362,8 +363,8 @@ module _ (laws : TextLaws) where
       let names = each_at IsName before props key value h.each in
       let rest = map property_text props ++ words in
       let held : Record = record { props = before; edges = [] } in
-      then_ok (item_in (property_text (key, value))) (λ item. with_item held item >>= λ held. items_in held rest) (Property key value) _ (property_item_again key value names.0 names.1)
-      (then_ok (with_item held (Property key value)) (λ held. items_in held rest) (record { props = before ++ (key, value) ∷ []; edges = [] }) _
+      then_ok (item_in (property_text (key, value))) (λ item. with_item_read held item >>= λ held. items_in held rest) (Property key value) _ (property_item_again key value names.0 names.1)
+      (then_ok (with_item_read held (Property key value)) (λ held. items_in held rest) (record { props = before ++ (key, value) ∷ []; edges = [] }) _
       (then_ok (with_last before key value) (λ (props : List (Name × Name)). Ok (record { props = props; edges = [] })) (before ++ (key, value) ∷ []) _ (last_again IsName before props key value h) refl)
       (props_again (before ++ (key, value) ∷ []) props words (regrouped IsName before props key value h)
       ∙ ap (λ (props : List (Name × Name)). items_in (record { props = props; edges = [] }) words) (append_assoc before ((key, value) ∷ []) props)))
@@ -375,8 +376,8 @@ module _ (laws : TextLaws) where
       let typed = each_at IsTypedEdge before edges name edge h.each in
       let rest = map edge_text edges in
       let held : Record = record { props = props; edges = before } in
-      then_ok (item_in (edge_text (name, edge))) (λ item. with_item held item >>= λ held. items_in held rest) (Link name edge) _ (edge_item_again name edge typed.0 typed.1)
-      (then_ok (with_item held (Link name edge)) (λ held. items_in held rest) (record { props = props; edges = before ++ (name, edge) ∷ [] }) _
+      then_ok (item_in (edge_text (name, edge))) (λ item. with_item_read held item >>= λ held. items_in held rest) (Link name edge) _ (edge_item_again name edge typed.0 typed.1)
+      (then_ok (with_item_read held (Link name edge)) (λ held. items_in held rest) (record { props = props; edges = before ++ (name, edge) ∷ [] }) _
       (then_ok (with_last before name edge) (λ (edges : List (Name × Edge)). Ok (record { props = props; edges = edges })) (before ++ (name, edge) ∷ []) _ (last_again IsTypedEdge before edges name edge h) refl)
       (edges_again props (before ++ (name, edge) ∷ []) edges (regrouped IsTypedEdge before edges name edge h)
       ∙ ap (λ (edges : List (Name × Edge)). Ok (record { props = props; edges = edges })) (append_assoc before ((name, edge) ∷ []) edges)))
@@ -389,7 +390,8 @@ module _ (laws : TextLaws) where
 
   -- ---- states
 
-  pub state_read : (words : List Word) (state : State) → is_state_form words ≡ true → state_in words ≡ Ok state → IsTypedState state × (words ≡ state_words state)
+  -- words of the form of a state that are read as one are its words, and it is valid
+  pub state_read : (words : List Word) (state : State) → is_state_form words ≡ true → read_state words ≡ Ok state → IsTypedState state × (words ≡ state_words state)
   state_read [] state form e = absurd cc
   state_read (word ∷ items) state form e =
       elim (chosen (bytes_eq word (codes "record")) (items_in empty_record items >>= λ held. Ok (Some held)) (Ok None) (Ok state) e) [
@@ -408,7 +410,8 @@ module _ (laws : TextLaws) where
       left_out true y e k = absurd cc
       left_out false y e k = e
 
-  pub state_again : (state : State) → IsTypedState state → (is_state_form (state_words state) ≡ true) × (state_in (state_words state) ≡ Ok state)
+  -- the words of a valid state have the form of one and are read as it
+  pub state_again : (state : State) → IsTypedState state → (is_state_form (state_words state) ≡ true) × (read_state (state_words state) ≡ Ok state)
   state_again None h = (refl, refl)
   state_again (Some held) h =
       (refl, then_ok (items_in empty_record (content_words held)) (λ held. Ok (Some held)) held _ (record_again held h) refl)

@@ -3,7 +3,7 @@ use Rattle.std.proofs.Common.{◌≡◌, ℕ, [], ◌∷◌, ◌++◌, Some, Non
 use Rattle.std.specs.Prelude.{codes, Ok, Err}
 use Rattle.vector_stamp.specs.declared.clock.Stamp.{Stamp}
 use Rattle.weave_text.specs.Lines.{Bytes}
-use Rattle.weave_text.specs.Numbers.{number_of}
+use Rattle.weave_text.specs.Numbers.{number_of_word}
 use Rattle.graph_ops.specs.declared.op.Op.TheVariants.{Create, Get}
 use Rattle.program_defs.specs.declared.program.Program.TheVariants.{Show, Reach, Around, Path}
 use Rattle.program_defs.specs.declared.program.Answer.TheVariants.{Found, Walk}
@@ -58,7 +58,7 @@ all_said = record {
 }
 
 all_forms : report_in script 1 all_lines ≡ Ok all_said
-unfolding report_in number_of
+unfolding report_in number_of_word
 all_forms = refl
 
 -- the second line, after `report 1`, is refused for this
@@ -66,70 +66,70 @@ abbrev IsRefusedFor : Bytes → ReportCause → Type 0
 IsRefusedFor line why = report_in script 1 (codes "report 1\n" ++ line) ≡ Err (2, why)
 
 stamp_with_too_many : IsRefusedFor (codes "tx t 0:0:1,0,0 begun") cause.Stamp
-unfolding report_in number_of
+unfolding report_in number_of_word
 stamp_with_too_many = refl
 
 stamp_with_too_few : IsRefusedFor (codes "tx t 0:0:1 begun") cause.Stamp
-unfolding report_in number_of
+unfolding report_in number_of_word
 stamp_with_too_few = refl
 
 home_of_no_gatekeeper : IsRefusedFor (codes "tx t 0:2:1,0 begun") cause.Stamp
-unfolding report_in number_of
+unfolding report_in number_of_word
 home_of_no_gatekeeper = refl
 
 unbegun_begun : IsRefusedFor (codes "tx t unbegun begun") cause.Stamp
-unfolding report_in number_of
+unfolding report_in number_of_word
 unbegun_begun = refl
 
 transaction_as_program : IsRefusedFor (codes "prog t 0:0:1,0 done") cause.Request
-unfolding report_in number_of
+unfolding report_in number_of_word
 transaction_as_program = refl
 
 no_request : IsRefusedFor (codes "prog t9 0:0:1,0 done maybe no") cause.Request
-unfolding report_in number_of
+unfolding report_in number_of_word
 no_request = refl
 
 answer_of_another_form : IsRefusedFor (codes "prog q 0:0:1,0,9 done none") cause.Line
-unfolding report_in number_of
+unfolding report_in number_of_word
 answer_of_another_form = refl
 
 word_before_fields : IsRefusedFor (codes "tx T 0:0:1,0 refused x exists in 0") cause.Line
-unfolding report_in number_of
+unfolding report_in number_of_word
 word_before_fields = refl
 
 reason_in_its_turn : IsRefusedFor (codes "tx t 0:0:1,0 refused 1 late at x") cause.Line
-unfolding report_in number_of
+unfolding report_in number_of_word
 reason_in_its_turn = refl
 
 number_before_reason : IsRefusedFor (codes "tx t 0:0:1,0 refused 4294967296 late at 0") cause.Number
-unfolding report_in number_of
+unfolding report_in number_of_word
 number_before_reason = refl
 
 missing_end : report_in script 5 (codes "report 1\norder\n") ≡ Err (7, cause.End)
-unfolding report_in number_of
+unfolding report_in number_of_word
 missing_end = refl
 
 keys_repeated : report_in script 1 (codes "report 1\ntx t 0:0:1,0 committed 1\ngot 2 record a=b a=c\n") ≡ Err (3, cause.Line)
-unfolding report_in number_of
+unfolding report_in number_of_word
 keys_repeated = refl
 
 property_behind_edge : report_in script 1 (codes "report 1\ntx t 0:0:1,0 committed 1\ngot 2 record a>b a=c\n") ≡ Err (3, cause.Line)
-unfolding report_in number_of
+unfolding report_in number_of_word
 property_behind_edge = refl
 
 got_of_another : report_in script 1 (codes "report 1\ntx t 0:0:1,0 committed 1\ngot 1 absent\n") ≡ Err (3, cause.Number)
-unfolding report_in number_of
+unfolding report_in number_of_word
 got_of_another = refl
 
 did_form_first : report_in script 1 (codes "report 1\norder\ndid x foo\n") ≡ Err (3, cause.Line)
-unfolding report_in number_of
+unfolding report_in number_of_word
 did_form_first = refl
 
 did_counts_up : report_in script 1 (codes "report 1\norder\ndid 2 ok\n") ≡ Err (3, cause.Number)
-unfolding report_in number_of
+unfolding report_in number_of_word
 did_counts_up = refl
 
 -- a word that is no name is refused before a name of no request
 pub names_before_requests : report_in script 1 (codes "report 1\norder t9 T\n") ≡ Err (2, cause.Name)
-unfolding report_in number_of
+unfolding report_in number_of_word
 names_before_requests = refl

@@ -19,7 +19,7 @@ use Rattle.report_rules.specs.declared.report.ReplyState.TheVariants as told
 use Rattle.report_rules.specs.declared.report.Report.{Report}
 use Rattle.report_rules.specs.declared.report.StepAnswer.{StepAnswer}
 use Rattle.weave_data.specs.Steps.{◌>>=◌}
-use Rattle.weave_report.specs.ReadingFields.{Read, name_in, names_in, this_number_in}
+use Rattle.weave_report.specs.ReadingFields.{ReadResult, name_in, read_names, this_number_in}
 use Rattle.weave_report.specs.ReadingStates.{is_step_form, step_answer_in}
 use Rattle.weave_report.specs.ReadingReplies.{any_named, named_from, got_in, program_in, transaction_in}
 
@@ -30,8 +30,8 @@ abbrev pub reading : Report → Place → Reading
 reading report place = record { report = report; place = place }
 
 -- a report with one more reply
-abbrev pub with_reply : Report → Reply → Report
-with_reply report reply = record report { replies = report.replies ++ reply ∷ [] }
+abbrev pub with_reply_read : Report → Reply → Report
+with_reply_read report reply = record report { replies = report.replies ++ reply ∷ [] }
 
 -- with one more pair
 abbrev pub with_pair : Report → Pair → Report
@@ -54,10 +54,10 @@ commit_reply commit answers =
 abbrev pub behind_commit : Report → Commit → List Got → Reading
 behind_commit report commit answers =
     if nat_lt (length answers) (length commit.gets) then reading report (Gots commit answers)
-    else reading (with_reply report (commit_reply commit answers)) Replies
+    else reading (with_reply_read report (commit_reply commit answers)) Replies
 
 -- the first line
-abbrev pub after_first : Report → Line → Read Reading
+abbrev pub after_first : Report → Line → ReadResult Reading
 after_first report (word ∷ version ∷ []) =
     if bytes_eq word (codes "report") && bytes_eq version (codes "1") then Ok (reading report Replies)
     else Err cause.Line
@@ -65,11 +65,11 @@ after_first report _ = Err cause.Line
 
 -- after a reply's line
 abbrev pub behind_reply : Report → ReplyLine → Reading
-behind_reply report (Whole reply) = reading (with_reply report reply) Replies
+behind_reply report (Whole reply) = reading (with_reply_read report reply) Replies
 behind_reply report (Committed commit) = behind_commit report commit []
 
 -- a pair, by the words after `settled`
-abbrev pub pair_in : Script → List Word → Read Pair
+abbrev pub pair_in : Script → List Word → ReadResult Pair
 pair_in script (vertex ∷ earlier ∷ later ∷ []) =
     name_in vertex >>= λ vertex. name_in earlier >>= λ earlier. name_in later >>= λ later.
     any_named script earlier >>= λ earlier. any_named script later >>= λ later.
@@ -77,11 +77,11 @@ pair_in script (vertex ∷ earlier ∷ later ∷ []) =
 pair_in script _ = Err cause.Line
 
 -- the order, by the words after `order`
-abbrev pub order_in : Script → List Word → Read (List ℕ)
-order_in script words = names_in words >>= λ names. named_from script [] names
+abbrev pub order_in : Script → List Word → ReadResult (List ℕ)
+order_in script words = read_names words >>= λ names. named_from script [] names
 
 -- after a line that has a pair, or the order after the pairs
-abbrev pub after_pairs : Script → Report → Line → Read Reading
+abbrev pub after_pairs : Script → Report → Line → ReadResult Reading
 after_pairs script report [] = Err cause.Line
 after_pairs script report (word ∷ words) =
     if bytes_eq word (codes "settled")
@@ -91,7 +91,7 @@ after_pairs script report (word ∷ words) =
     else Err cause.Line)
 
 -- after a line that has a reply, or what follows the replies
-abbrev pub after_replies : Script → Report → Line → Read Reading
+abbrev pub after_replies : Script → Report → Line → ReadResult Reading
 after_replies script report [] = Err cause.Line
 after_replies script report (word ∷ words) =
     if bytes_eq word (codes "tx") then (transaction_in script words >>= λ line. Ok (behind_reply report line))
@@ -103,19 +103,19 @@ abbrev pub next_get : Commit → List Got → Option ℕ
 next_get commit answers = slice_get commit.gets (length answers)
 
 -- after a line that has the answer of a `get`
-abbrev pub after_got : Option ℕ → Report → Commit → List Got → Line → Read Reading
+abbrev pub after_got : Option ℕ → Report → Commit → List Got → Line → ReadResult Reading
 after_got None report commit answers line = Err cause.Line
 after_got (Some op) report commit answers line =
     got_in op line >>= λ got. Ok (behind_commit report commit (answers ++ got ∷ []))
 
 -- a step's answer, by the words after `did`, if the step has this number
-abbrev pub did_in : ℕ → List Word → Read StepAnswer
+abbrev pub did_in : ℕ → List Word → ReadResult StepAnswer
 did_in number [] = Err cause.Line
 did_in number (word ∷ answer) =
     if is_step_form answer then (this_number_in number word >>= λ number. step_answer_in answer) else Err cause.Line
 
 -- after a line that has a step's answer, or the end
-abbrev pub after_answers : Report → Line → Read Reading
+abbrev pub after_answers : Report → Line → ReadResult Reading
 after_answers report [] = Err cause.Line
 after_answers report (word ∷ words) =
     if bytes_eq word (codes "did")
@@ -123,17 +123,18 @@ after_answers report (word ∷ words) =
     else (if bytes_eq word (codes "end") && is_empty words then Ok (reading report Ended) else Err cause.Line)
 
 -- after a line at its place
-abbrev pub after_line_at : Script → Place → Report → Line → Read Reading
-after_line_at script Start report line = after_first report line
-after_line_at script Replies report line = after_replies script report line
-after_line_at script (Gots commit answers) report line = after_got (next_get commit answers) report commit answers line
-after_line_at script Pairs report line = after_pairs script report line
-after_line_at script Answers report line = after_answers report line
-after_line_at script Ended report line = Err cause.Line
+abbrev pub after_report_line_at : Script → Place → Report → Line → ReadResult Reading
+after_report_line_at script Start report line = after_first report line
+after_report_line_at script Replies report line = after_replies script report line
+after_report_line_at script (Gots commit answers) report line =
+    after_got (next_get commit answers) report commit answers line
+after_report_line_at script Pairs report line = after_pairs script report line
+after_report_line_at script Answers report line = after_answers report line
+after_report_line_at script Ended report line = Err cause.Line
 
 -- after one more line
-abbrev pub after_line : Script → Reading → Line → Read Reading
-after_line script before line = after_line_at script before.place before.report line
+abbrev pub after_report_line : Script → Reading → Line → ReadResult Reading
+after_report_line script before line = after_report_line_at script before.place before.report line
 
 -- All lines
 
@@ -147,11 +148,12 @@ whole_report number Ended report = Ok report
 whole_report number _ report = Err (number, cause.End)
 
 -- after a line, which may be skipped
-abbrev pub after_any_line : Script → Reading → Bytes → Read Reading
-after_any_line script before line = if is_skipped line then Ok before else after_line script before (words_of line)
+abbrev pub after_any_line : Script → Reading → Bytes → ReadResult Reading
+after_any_line script before line =
+    if is_skipped line then Ok before else after_report_line script before (words_of line)
 
 -- the lines after a line of this number, if it was read
-abbrev pub behind_line : ℕ → Read Reading → (Reading → Result Report Refusal) → Result Report Refusal
+abbrev pub behind_line : ℕ → ReadResult Reading → (Reading → Result Report Refusal) → Result Report Refusal
 behind_line number (Ok next) rest = rest next
 behind_line number (Err why) rest = Err (number, why)
 
@@ -162,9 +164,9 @@ after_lines script number before (line ∷ lines) =
     behind_line number (after_any_line script before line) (λ next. after_lines script (number + 1) next lines)
 
 -- before the first line
-abbrev pub start : Reading
-start = record { report = record { replies = []; pairs = []; order = []; answers = [] }; place = Start }
+abbrev pub report_start : Reading
+report_start = record { report = record { replies = []; pairs = []; order = []; answers = [] }; place = Start }
 
 -- the report that a text is read as, whose first line has this number, or the first line that can't be accepted
 unfoldable pub report_in : Script → ℕ → Bytes → Result Report Refusal
-report_in script first_line bytes = after_lines script first_line start (lines_of bytes)
+report_in script first_line bytes = after_lines script first_line report_start (lines_of bytes)

@@ -20,21 +20,21 @@ use Rattle.weave_report.specs.declared.read.parts.Item.TheVariants.{Property, Li
 use Rattle.report_rules.specs.declared.report.StepAnswer.{StepAnswer}
 use Rattle.report_rules.specs.declared.report.StepAnswer.TheVariants as step
 use Rattle.weave_data.specs.Steps.{◌>>=◌}
-use Rattle.weave_report.specs.ReadingFields.{Read, name_in, names_in, small_number_in, or_cause}
+use Rattle.weave_report.specs.ReadingFields.{ReadResult, name_in, read_names, small_number_in, or_cause}
 
 -- Records
 
 -- a text cut at one of its bytes: what is before it, the byte, and what is after it
-abbrev pub Cut : Type 0
-Cut = Bytes × ℕ × Bytes
+abbrev pub CutText : Type 0
+CutText = Bytes × ℕ × Bytes
 
 -- a cut of a text with this byte in front
-abbrev pub cut_behind : ℕ → Option Cut → Option Cut
+abbrev pub cut_behind : ℕ → Option CutText → Option CutText
 cut_behind byte None = None
 cut_behind byte (Some (before, mark, behind)) = Some (byte ∷ before, mark, behind)
 
 -- the text cut at its first byte of a kind, if it has one
-abbrev pub cut_first : (ℕ → Bool) → Bytes → Option Cut
+abbrev pub cut_first : (ℕ → Bool) → Bytes → Option CutText
 cut_first is_mark [] = None
 cut_first is_mark (byte ∷ text) =
     if is_mark byte then Some ([], byte, text) else cut_behind byte (cut_first is_mark text)
@@ -48,8 +48,8 @@ abbrev pub is_item_mark : ℕ → Bool
 is_item_mark byte = is_equals byte || (byte == 62)
 
 -- a key and its value
-abbrev pub pair_in : Bytes → Bytes → Read (Name × Name)
-pair_in key value = name_in key >>= λ key. name_in value >>= λ value. Ok (key, value)
+abbrev pub key_and_value : Bytes → Bytes → ReadResult (Name × Name)
+key_and_value key value = name_in key >>= λ key. name_in value >>= λ value. Ok (key, value)
 
 module _ {X : Type 0} where
   -- the key is above these keys
@@ -57,56 +57,56 @@ module _ {X : Type 0} where
   goes_last key pairs = list_all (λ (pair : Name × X). is_lt (name_cmp pair.0 key)) pairs
 
   -- one more pair, in the order of keys
-  abbrev pub with_last : List (Name × X) → Name → X → Read (List (Name × X))
+  abbrev pub with_last : List (Name × X) → Name → X → ReadResult (List (Name × X))
   with_last pairs key value = if goes_last key pairs then Ok (pairs ++ (key, value) ∷ []) else Err cause.Line
 
 -- a tag, cut at its mark
-abbrev pub tag_of : Option Cut → Read (Name × Name)
-tag_of None = Err cause.Line
-tag_of (Some (key, mark, value)) = pair_in key value
+abbrev pub read_tag : Option CutText → ReadResult (Name × Name)
+read_tag None = Err cause.Line
+read_tag (Some (key, mark, value)) = key_and_value key value
 
 -- a tag: `KEY=VALUE`
-abbrev pub tag_in : Word → Read (Name × Name)
-tag_in word = tag_of (cut_first is_equals word)
+abbrev pub tag_in : Word → ReadResult (Name × Name)
+tag_in word = read_tag (cut_first is_equals word)
 
 -- more tags after these
-abbrev pub tags_in : List (Name × Name) → List Word → Read (List (Name × Name))
+abbrev pub tags_in : List (Name × Name) → List Word → ReadResult (List (Name × Name))
 tags_in before [] = Ok before
 tags_in before (word ∷ words) = tag_in word >>= λ tag. with_last before tag.0 tag.1 >>= λ tags. tags_in tags words
 
 -- an edge: its target, and its tags with a comma before each
-abbrev pub edge_of : List Word → Read Edge
+abbrev pub edge_of : List Word → ReadResult Edge
 edge_of [] = Err cause.Name
 edge_of (target ∷ tags) =
     name_in target >>= λ target. tags_in [] tags >>= λ tags. Ok (record { target = target; tags = tags })
 
 -- an item, cut at its mark: `KEY=VALUE`, or `EDGE>TARGET` with tags
-abbrev pub item_of : Option Cut → Read Item
+abbrev pub item_of : Option CutText → ReadResult Item
 item_of None = Err cause.Line
 item_of (Some (before, mark, behind)) =
-    if is_equals mark then (pair_in before behind >>= λ pair. Ok (Property pair.0 pair.1))
+    if is_equals mark then (key_and_value before behind >>= λ pair. Ok (Property pair.0 pair.1))
     else (name_in before >>= λ name. edge_of (pieces_of 44 behind) >>= λ edge. Ok (Link name edge))
 
 -- an item of a record
-abbrev pub item_in : Word → Read Item
+abbrev pub item_in : Word → ReadResult Item
 item_in word = item_of (cut_first is_item_mark word)
 
 -- a property of a record that has these edges
-abbrev pub with_property : Record → Name → Name → List (Name × Edge) → Read Record
+abbrev pub with_property : Record → Name → Name → List (Name × Edge) → ReadResult Record
 with_property held key value [] =
     with_last held.props key value >>= λ props. Ok (record { props = props; edges = held.edges })
 with_property held key value (edge ∷ edges) = Err cause.Line
 
 -- a record with one more item: no property after an edge, and each in the order of keys
-abbrev pub with_item : Record → Item → Read Record
-with_item held (Property key value) = with_property held key value held.edges
-with_item held (Link name edge) =
+abbrev pub with_item_read : Record → Item → ReadResult Record
+with_item_read held (Property key value) = with_property held key value held.edges
+with_item_read held (Link name edge) =
     with_last held.edges name edge >>= λ edges. Ok (record { props = held.props; edges = edges })
 
 -- more items in a record
-abbrev pub items_in : Record → List Word → Read Record
+abbrev pub items_in : Record → List Word → ReadResult Record
 items_in held [] = Ok held
-items_in held (word ∷ words) = item_in word >>= λ item. with_item held item >>= λ held. items_in held words
+items_in held (word ∷ words) = item_in word >>= λ item. with_item_read held item >>= λ held. items_in held words
 
 -- a record without anything
 abbrev pub empty_record : Record
@@ -120,9 +120,9 @@ is_state_form [] = false
 is_state_form (word ∷ items) = bytes_eq word (codes "record") || (bytes_eq word (codes "absent") && is_empty items)
 
 -- a state, of words of its form
-abbrev pub state_in : List Word → Read State
-state_in [] = Err cause.Line
-state_in (word ∷ items) =
+abbrev pub read_state : List Word → ReadResult State
+read_state [] = Err cause.Line
+read_state (word ∷ items) =
     if bytes_eq word (codes "record") then (items_in empty_record items >>= λ held. Ok (Some held)) else Ok None
 
 -- Answers of programs
@@ -148,30 +148,30 @@ is_answer_form (Around from bound pass) words = is_found_form words
 is_answer_form (Path from to bound pass) words = is_walk_form words
 
 -- what `show` answers, by words of its form
-abbrev pub shown_in : List Word → Read Answer
-shown_in words = state_in words >>= λ state. Ok (Shown state)
+abbrev pub shown_in : List Word → ReadResult Answer
+shown_in words = read_state words >>= λ state. Ok (Shown state)
 
 -- what `reach` answers
-abbrev pub reached_in : List Word → Read Answer
+abbrev pub reached_in : List Word → ReadResult Answer
 reached_in [] = Err cause.Line
 reached_in (word ∷ more) = Ok (Reached (bytes_eq word (codes "yes")))
 
 -- what `around` answers
-abbrev pub found_in : List Word → Read Answer
-found_in [] = Err cause.Line
-found_in (word ∷ names) = names_in names >>= λ names. Ok (Found names)
+abbrev pub read_found : List Word → ReadResult Answer
+read_found [] = Err cause.Line
+read_found (word ∷ names) = read_names names >>= λ names. Ok (Found names)
 
 -- what `path` answers
-abbrev pub walk_in : List Word → Read Answer
+abbrev pub walk_in : List Word → ReadResult Answer
 walk_in [] = Err cause.Line
 walk_in (word ∷ names) =
-    if bytes_eq word (codes "path") then (names_in names >>= λ names. Ok (Walk (Some names))) else Ok (Walk None)
+    if bytes_eq word (codes "path") then (read_names names >>= λ names. Ok (Walk (Some names))) else Ok (Walk None)
 
 -- the program's answer, of words of its form
-abbrev pub answer_in : Program → List Word → Read Answer
+abbrev pub answer_in : Program → List Word → ReadResult Answer
 answer_in (Show v) words = shown_in words
 answer_in (Reach from to pass) words = reached_in words
-answer_in (Around from bound pass) words = found_in words
+answer_in (Around from bound pass) words = read_found words
 answer_in (Path from to bound pass) words = walk_in words
 
 -- Answers of steps
@@ -198,7 +198,7 @@ is_step_form (word ∷ shard ∷ gate ∷ []) = bytes_eq word (codes "again")
 is_step_form _ = false
 
 -- a step's answer, of words of its form
-abbrev pub step_answer_in : List Word → Read StepAnswer
+abbrev pub step_answer_in : List Word → ReadResult StepAnswer
 step_answer_in (word ∷ []) = or_cause cause.Line (bare_answer word)
 step_answer_in (word ∷ vertex ∷ []) = name_in vertex >>= λ vertex. Ok (step.Waits vertex)
 step_answer_in (word ∷ shard ∷ gate ∷ []) =

@@ -13,7 +13,6 @@ use Rattle.graph_ops.specs.declared.op.Reason.{Reason}
 use Rattle.graph_ops.specs.declared.op.Reason.TheVariants.{Exists, Missing, NoKey, EdgeExists, NoEdge, Full}
 use Rattle.program_defs.specs.declared.script.Script.{Script}
 use Rattle.program_defs.specs.declared.script.Request.{Request}
-use Rattle.program_defs.specs.Works.{is_look}
 use Rattle.program_defs.specs.declared.program.Answer.{Answer}
 use Rattle.program_defs.specs.declared.program.Answer.TheVariants.{Shown, Reached, Found, Walk}
 use Rattle.report_rules.specs.declared.report.Report.{Report}
@@ -24,15 +23,11 @@ use Rattle.report_rules.specs.declared.report.ReplyState.TheVariants.{Unbegun, B
 use Rattle.report_rules.specs.declared.report.StepAnswer.{StepAnswer}
 use Rattle.report_rules.specs.declared.report.StepAnswer.TheVariants as step
 use Rattle.weave_text.specs.Lines.{Bytes, Line, joined_texts, lines_text, marked_texts}
-use Rattle.report_rules.specs.Lookups.{request_at}
+use Rattle.report_rules.specs.Lookups.{is_program, request_at}
 
 -- the name of a request; one that the script doesn't have has an empty name
 abbrev pub name_at : Script → ℕ → Bytes
 name_at script r = option_map_or (λ (request : Request). request.name) (request_at script r) []
-
--- whether a request is a program; one that the script doesn't have is printed as a transaction
-abbrev pub is_program : Script → ℕ → Bool
-is_program script r = option_map_or (λ (request : Request). is_look request.work) (request_at script r) false
 
 -- `EPOCH:HOME:` and the counts of the first `gates` gatekeepers, with commas between
 abbrev pub stamp_text : ℕ → Stamp → Bytes

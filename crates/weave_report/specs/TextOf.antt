@@ -65,7 +65,7 @@ pub record IsTypedGot (got : Got) : Type 0 where
   pub op : got.op < 2 ^ 32
   pub state : IsTypedState got.state
 
--- what a commit's `get`s read
+-- what a commit's `get`s read. No public contract cites this.
 abbrev pub gots_of : ReplyState → List Got
 gots_of (Committed number answers) = answers
 gots_of _ = []
@@ -93,20 +93,20 @@ pub record IsTypedReport (report : Report) : Type 0 where
   pub few_answers : length report.answers < 2 ^ 64
 
 -- the requests' names
-abbrev pub names_of : List Request → List Name
-names_of requests = map (λ (request : Request). request.name) requests
+abbrev pub request_names : List Request → List Name
+request_names requests = map (λ (request : Request). request.name) requests
 
 -- a script whose requests are known by their names: no two have the same name, and there are fewer than 2^32 of them
 -- and of the operations of each
 pub record HasDistinctNames (script : Script) : Type 0 where
-  pub distinct : IsDistinct same_name (names_of script.requests)
+  pub distinct : IsDistinct same_name (request_names script.requests)
   pub few_requests : length script.requests < 2 ^ 32
   pub few_ops : AllByRecursion (λ (request : Request). length (ops_of request.work) < 2 ^ 32) script.requests
 
 -- what the types say of a script
 pub record IsTypedScript (script : Script) : Type 0 where
   pub gates : script.gates < 2 ^ 32
-  pub names : AllByRecursion IsName (names_of script.requests)
+  pub names : AllByRecursion IsName (request_names script.requests)
 
 -- the lines of the text that aren't skipped are those of the report, which is one that some text can give
 pub record IsReportTextOf (script : Script) (bytes : Bytes) (report : Report) : Type 0 where

@@ -4,7 +4,7 @@ ghost use Rattle.program_defs.specs.declared.script.Script.{Script};
 ghost use Rattle.report_rules.specs.declared.report.Report.{Report};
 ghost use Rattle.weave_report.specs.FirstRefusal.{IsFirstRefusal};
 ghost use Rattle.weave_report.specs.ReadAnswers.{Answers, GivesAt, IfLineRefused, IfRefusedAs, IsReadAs};
-ghost use Rattle.weave_report.specs.Reading.{after_line, after_lines, report_in, start, whole_report};
+ghost use Rattle.weave_report.specs.Reading.{after_report_line, after_lines, report_in, report_start, whole_report};
 ghost use Rattle.report_rules.specs.ReportOf.{IsReportOf};
 ghost use Rattle.weave_report.specs.ReportText.{report_text};
 ghost use Rattle.weave_report.specs.TextOf.{IsReportTextOf, IsTypedReport, HasDistinctNames};
@@ -54,7 +54,7 @@ pub fn read_report(
     ensures refused { IfLineRefused result ((report : Report) → ¬ IsReportTextOf script.now bytes.now report) }
 
     // The lines before the one that is reported are accepted, and a printed report is read as that report.
-    ensures first { IfRefusedAs result (IsFirstRefusal script.now first_line start (lines_of bytes.now)) }
+    ensures first { IfRefusedAs result (IsFirstRefusal script.now first_line report_start (lines_of bytes.now)) }
     ensures printed { (report : Report) → IsReportOf script.now report → IsTypedReport report
         → bytes.now ≡ report_text script.now report → IsReadAs report result }
 {
@@ -86,7 +86,7 @@ fn after_lines(
     first_line: u32,
 ) -> Result<Report, ReportFault>
     requires { first_line + length bytes.now < 2 ^ 32 }
-    ensures { Answers result (after_lines script.now first_line start (lines_of bytes.now)) }
+    ensures { Answers result (after_lines script.now first_line report_start (lines_of bytes.now)) }
 {
     let mut reading = start(alloc);
     let mut number = first_line;
@@ -109,7 +109,7 @@ fn after_kept_line(
     number: u32,
     line: &[u8],
 ) -> Result<Reading, ReportFault>
-    ensures { GivesAt number result (after_line script.now reading (words_of line.now)) }
+    ensures { GivesAt number result (after_report_line script.now reading (words_of line.now)) }
 {
     match after_line(alloc, script, reading, Pieces::words(line)) {
         Ok(next) => Ok(next),
@@ -122,7 +122,7 @@ fn after_kept_line(
 }
 
 fn start(alloc: Global) -> Reading
-    ensures { result ≡ start }
+    ensures { result ≡ report_start }
 {
     Reading {
         report: Report {

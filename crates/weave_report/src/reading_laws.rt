@@ -5,7 +5,7 @@ ghost use Rattle.report_rules.specs.ReportOf.{IsReportOf};
 ghost use Rattle.report_rules.specs.declared.report.Report.{Report};
 ghost use Rattle.weave_report.specs.declared.read.parts.Reading.{Reading};
 ghost use Rattle.weave_report.specs.FirstRefusal.{IsFirstRefusal};
-ghost use Rattle.weave_report.specs.Reading.{Refusal, after_lines, report_in, start};
+ghost use Rattle.weave_report.specs.Reading.{Refusal, after_lines, report_in, report_start};
 ghost use Rattle.weave_report.specs.ReportText.{report_text};
 ghost use Rattle.weave_report.specs.TextOf.{HasDistinctNames, IsReportTextOf, IsTypedReport, IsTypedScript};
 ghost use Rattle.weave_text.specs.Cutting.{lines_of};
@@ -60,7 +60,7 @@ pub fn refusals_are_first()
         → after_lines script n from lines ≡ Err refusal → IsFirstRefusal script n from lines refusal }
     ensures text { (script : Script) (first_line : ℕ) (bytes : Bytes) (refusal : Refusal)
         → report_in script first_line bytes ≡ Err refusal
-        → IsFirstRefusal script first_line start (lines_of bytes) refusal }
+        → IsFirstRefusal script first_line report_start (lines_of bytes) refusal }
     ensures told { (script : Script) (n : ℕ) (from : Reading) (lines : List Bytes) (refusal : Refusal)
         → IsFirstRefusal script n from lines refusal → after_lines script n from lines ≡ Err refusal }
 {}

@@ -6,13 +6,14 @@ use Rattle.std.proofs.Math.Bool.{and-false}
 use Rattle.std.proofs.lemmas.Bool.{and_parts, cond-true, cond-false, le-ltb, lt-ltb}
 use Rattle.program_defs.specs.declared.script.Script.{Script}
 use Rattle.weave_report.specs.FirstRefusal.{IsFirstRefusal}
+use Rattle.weave_report.specs.Reading.{report_start}
 use Rattle.weave_report.specs.Reading as report
 use Rattle.report_rules.specs.declared.report.Report.{Report}
 use Rattle.weave_text.specs.Cutting.{lines_of, words_of, is_skipped, kept_lines}
 use Rattle.weave_text.specs.Lines.{Bytes}
 use Rattle.weave_script.specs.CheckFaults.{begins_report, IsFirstCheckFault, InScript, NoReport, InReport}
 use Rattle.weave_script.specs.CheckText.{IsHead}
-use Rattle.weave_script.specs.CheckReading.{behind, cause_of, check_text}
+use Rattle.weave_script.specs.CheckReading.{with_script_read, cause_of, check_text}
 use Rattle.weave_script.specs.Faults.{IsFirstScriptFault}
 use Rattle.weave_data.specs.Steps.{◌>>=◌}
 use Rattle.weave_script.specs.Fields.{ReadOrCause}
@@ -93,7 +94,7 @@ end_fails n from lines part fault to ends number = record {
 
 -- the refusal that a report's reader gives is the first one
 abbrev pub RefusesFirst : Type 0
-RefusesFirst = (script : Script) (n : ℕ) (lines : List Bytes) (refusal : report.Refusal) → report.after_lines script n report.start lines ≡ Err refusal → IsFirstRefusal script n report.start lines refusal
+RefusesFirst = (script : Script) (n : ℕ) (lines : List Bytes) (refusal : report.Refusal) → report.after_lines script n report_start lines ≡ Err refusal → IsFirstRefusal script n report_start lines refusal
 
 alone : (bytes : Bytes) (script : Script) → IsHead bytes script [] → IsTextOf bytes script
 unfolding IsTextOf
@@ -101,11 +102,11 @@ alone bytes script head = (head.of_script, ap kept_lines (head.cut ∙ append-ni
 
 module _ (laws : NumberLaws) (refuses : RefusesFirst) (bytes : Bytes) (fault : Fault) where
   by_report : (script : Script) (n : ℕ) (left : List Bytes) (head : IsHead bytes script left) → begins_report left ≡ true → n ≡ 1 + length head.front
-      → (read : Result Report report.Refusal) → report.after_lines script n report.start left ≡ read → behind script read ≡ Err fault → IsFirstCheckFault bytes fault
+      → (read : Result Report report.Refusal) → report.after_lines script n report_start left ≡ read → with_script_read script read ≡ Err fault → IsFirstCheckFault bytes fault
   by_report script n left head begins number (Ok told) read e = absurd cc
   by_report script n left head begins number (Err (line, cause)) read e =
       subst (IsFirstCheckFault bytes) (same_fault {A = Script × Report} (record { line = line; cause = cause_of cause }) fault e)
-      (InReport script left line cause head begins (subst (λ n. IsFirstRefusal script n report.start left (line, cause)) number (refuses script n left (line, cause) read)))
+      (InReport script left line cause head begins (subst (λ n. IsFirstRefusal script n report_start left (line, cause)) number (refuses script n left (line, cause) read)))
 
   by_left : (part : Part) (script : Script) → LeadsTo 1 start (lines_of bytes) part → (head : IsHead bytes script part.left) → part.line ≡ 1 + length head.front
       → (left : List Bytes) → part.left ≡ left → (head_before part.line script left >>= told_behind) ≡ Err fault → IsFirstCheckFault bytes fault
@@ -122,7 +123,7 @@ module _ (laws : NumberLaws) (refuses : RefusesFirst) (bytes : Bytes) (fault : F
         of_script = head.of_script;
         script_is = head.script_is;
       } in
-      by_report script part.line (line ∷ lines) here begins.1 number (report.after_lines script part.line report.start (line ∷ lines)) refl e
+      by_report script part.line (line ∷ lines) here begins.1 number (report.after_lines script part.line report_start (line ∷ lines)) refl e
 
   by_end : (part : Part) → LeadsTo 1 start (lines_of bytes) part → (ends : ReadOrCause Script) → script_at part.reading.place part.reading ≡ ends
       → ((at_line part.line ends >>= λ script. head_before part.line script part.left) >>= told_behind) ≡ Err fault → IsFirstCheckFault bytes fault

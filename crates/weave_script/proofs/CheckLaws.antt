@@ -8,18 +8,19 @@ use Rattle.program_defs.specs.declared.script.Request.{Request}
 use Rattle.program_defs.specs.declared.script.Script.{Script}
 use Rattle.program_defs.specs.declared.script.Step.{Step}
 use Rattle.weave_report.specs.ReportText.{report_text}
+use Rattle.weave_report.specs.Reading.{report_start}
 use Rattle.weave_report.specs.Reading as report
 use Rattle.weave_report.specs.TextOf.{IsName, IsReportTextOf, IsTypedScript, HasDistinctNames}
 use Rattle.report_rules.specs.declared.report.Report.{Report}
 use Rattle.weave_text.specs.Cutting.{lines_of, kept_lines, is_clean_line}
 use Rattle.weave_text.specs.Lines.{Bytes, Line, joined_words, lines_text}
 use Rattle.weave_script.specs.CheckText.{IsHead, IsCheckTextOf}
-use Rattle.weave_script.specs.CheckReading.{behind, check_text}
+use Rattle.weave_script.specs.CheckReading.{with_script_read, check_text}
 use Rattle.weave_data.specs.Steps.{◌>>=◌}
-use Rattle.weave_script.specs.ReadText.{Fault, Head, Part, at_line, is_open, read_on, script_at, head_before, head_of}
+use Rattle.weave_script.specs.ReadText.{Fault, Head, Part, at_line, is_open, read_on, script_at, head_before, head_of_text}
 use Rattle.weave_script.specs.Reading.{start}
 use Rattle.weave_script.specs.ScriptLines.{script_lines, script_text}
-use Rattle.weave_script.specs.Scripts.{IsRequest, IsScript, names_of}
+use Rattle.weave_script.specs.Scripts.{IsRequest, IsScript, request_names}
 use Rattle.weave_script.specs.declared.fault.Cause.{Cause}
 use Rattle.weave_script.specs.declared.fault.Cause.TheVariants as causes
 use Rattle.weave_data.proofs.Steps.{bind_ok, ok_is}
@@ -38,7 +39,7 @@ use Rattle.weave_script.proofs.TextLaws.{long}
 pub script_told : (script : Script) → IsScript script → HasDistinctNames script
 script_told script is = told_by_name script is (few_requests script is) (small_transactions script is)
 
-each_named : (gates : ℕ) (requests : List Request) → AllByRecursion (IsRequest gates) requests → AllByRecursion IsName (names_of requests)
+each_named : (gates : ℕ) (requests : List Request) → AllByRecursion (IsRequest gates) requests → AllByRecursion IsName (request_names requests)
 each_named gates [] each = tt
 each_named gates (request ∷ requests) each = (each.0.name, each_named gates requests each.1)
 
@@ -46,7 +47,7 @@ each_named gates (request ∷ requests) each = (each.0.name, each_named gates re
 pub script_typed : (script : Script) → IsScript script → IsTypedScript script
 script_typed script is = record { gates = omega (arith, is.gates.1); names = each_named script.gates script.requests is.requests }
 
--- what is read as a report is a text of it, and a text of a report is read as it
+-- what is read as a report is a text of it: a law of reports' texts
 abbrev pub ReadsTexts : Type 0
 ReadsTexts = (script : Script) (first_line : ℕ) (bytes : Bytes) (told : Report) → HasDistinctNames script → IsTypedScript script → report.report_in script first_line bytes ≡ Ok told → IsReportTextOf script bytes told
 
@@ -66,7 +67,7 @@ finish part = at_line part.line (script_at part.reading.place part.reading) >>= 
 
 -- the script and the report that is read after it
 abbrev pub told_behind : Head → Result (Script × Report) Fault
-told_behind head = behind head.script (report.after_lines head.script head.line report.start head.left)
+told_behind head = with_script_read head.script (report.after_lines head.script head.line report_start head.left)
 
 module _ (laws : NumberLaws) where
   -- the script's lines are read up to the report's, which are those of a text of it
@@ -79,6 +80,7 @@ module _ (laws : NumberLaws) where
     reads : read_on true 1 start (lines_of bytes) ≡ Ok (record { reading = last_reading laws script; line = line; left = lines_of left })
     text : IsReportTextOf script left told
 
+  -- at the end of a script a request or a step may still come next
   pub open_last : (script : Script) → is_open (last_reading laws script).place ≡ true
   open_last script = go script.steps
     where
@@ -113,9 +115,10 @@ module _ (laws : NumberLaws) where
       (cond-false (nat_lt 4194304 (length bytes)) (Err (record { line = 0; cause = causes.TooLong })) (read_on true 1 start (lines_of bytes)) (le-ltb 4194304 (length bytes) short) ∙ to.reads)
       ∙ ap (λ read. (at_line to.line read >>= λ script. head_before to.line script (lines_of to.left)) >>= told_behind) (script_at-last laws script)
       ∙ ap (λ lines. head_before to.line script lines >>= told_behind) to.some
-      ∙ ap (λ lines. behind script (report.after_lines script to.line report.start lines)) (sym to.some)
-      ∙ ap (behind script) (again script to.line to.left told (script_told script is) (script_typed script is) to.text)
+      ∙ ap (λ lines. with_script_read script (report.after_lines script to.line report_start lines)) (sym to.some)
+      ∙ ap (with_script_read script) (again script to.line to.left told (script_told script is) (script_typed script is) to.text)
 
+  -- a text that isn't too long and is refused is none of a script and a report
   pub no_check : EveryText → (bytes : Bytes) (fault : Fault) (script : Script) (told : Report) → length bytes ≤ 4194304 → check_text bytes ≡ Err fault → IsCheckTextOf bytes script told → ⊥
   no_check again bytes fault script told short refused text = let e = sym (every_check again bytes script told short text) ∙ refused in absurd cc
 
@@ -135,29 +138,30 @@ module _ (laws : NumberLaws) where
 
   -- ---- what is read
 
-  pair_is : (script other : Script) (told : Report) (read : Result Report report.Refusal) → behind script read ≡ Ok (other, told) → (script ≡ other) × (read ≡ Ok told)
+  pair_is : (script other : Script) (told : Report) (read : Result Report report.Refusal) → with_script_read script read ≡ Ok (other, told) → (script ≡ other) × (read ≡ Ok told)
   pair_is script other told (Ok report) e =
       let pair = ok_is {E = Fault} (script, report) (other, told) e in
       (ap (λ (p : Script × Report). p.0) pair, ap (λ (p : Script × Report). Ok p.1) pair)
   pair_is script other told (Err (line, cause)) e = absurd cc
 
+  -- a text that is read as a script and a report is one of both
   pub check_is_text : ReadsTexts → (bytes : Bytes) (script : Script) (told : Report) → check_text bytes ≡ Ok (script, told) → IsCheckTextOf bytes script told
   unfolding report.report_in
   check_is_text reads bytes script told e =
-      let step = bind_ok (head_of bytes) told_behind (script, told) e in
+      let step = bind_ok (head_of_text bytes) told_behind (script, told) e in
       let head = step.0 in
       let reached = head_reached laws bytes head step.1 in
-      let pair = pair_is head.script script told (report.after_lines head.script head.line report.start head.left) step.2 in
+      let pair = pair_is head.script script told (report.after_lines head.script head.line report_start head.left) step.2 in
       let left = text_behind bytes reached.front head.left reached.cut in
       let here : IsHead bytes head.script (lines_of left.0) = subst (IsHead bytes head.script) (sym left.1) reached in
-      let read : report.report_in head.script head.line left.0 ≡ Ok told = ap (report.after_lines head.script head.line report.start) left.1 ∙ pair.1 in
+      let read : report.report_in head.script head.line left.0 ≡ Ok told = ap (report.after_lines head.script head.line report_start) left.1 ∙ pair.1 in
       let text = reads head.script head.line left.0 told (script_told head.script reached.of_script) (script_typed head.script reached.of_script) read in
       subst (λ script. IsCheckTextOf bytes script told) pair.0 (both_texts bytes left.0 head.script told here text)
 
 -- a text that is read has at most 4,194,304 bytes
 pub check_is_short : (bytes : Bytes) (script : Script) (told : Report) → check_text bytes ≡ Ok (script, told) → length bytes ≤ 4194304
 check_is_short bytes script told e =
-    let step = bind_ok (head_of bytes) told_behind (script, told) e in
+    let step = bind_ok (head_of_text bytes) told_behind (script, told) e in
     ltb-false 4194304 (length bytes) (long (nat_lt 4194304 (length bytes)) (record { line = 0; cause = causes.TooLong }) (read_on true 1 start (lines_of bytes)) finish step.0 step.1)
 
 -- ---- what is printed

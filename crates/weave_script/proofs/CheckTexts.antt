@@ -11,14 +11,14 @@ use Rattle.weave_report.specs.declared.fault.ReportFault.TheVariants.{Refused}
 use Rattle.report_rules.specs.declared.report.Report.{Report}
 use Rattle.weave_report.specs.ReadAnswers.{Answers}
 use Rattle.program_defs.specs.Works.{ops_of}
-use Rattle.weave_report.specs.Reading.{Refusal, after_lines, start, report_in}
+use Rattle.weave_report.specs.Reading.{Refusal, after_lines, report_start, report_in}
 use Rattle.weave_report.specs.TextOf.{IsReportTextOf, HasDistinctNames}
 use Rattle.weave_text.specs.Cutting.{lines_of}
 use Rattle.weave_text.specs.Lines.{Bytes}
 use Rattle.weave_script.specs.CheckText.{IsHead, IsCheckTextOf}
-use Rattle.weave_script.specs.CheckReading.{behind, check_text}
+use Rattle.weave_script.specs.CheckReading.{with_script_read, check_text}
 use Rattle.weave_data.specs.Steps.{◌>>=◌}
-use Rattle.weave_script.specs.ReadText.{Fault, Head, head_of}
+use Rattle.weave_script.specs.ReadText.{Fault, Head, head_of_text}
 use Rattle.weave_script.specs.ScriptLines.{IsTextOf}
 use Rattle.weave_script.specs.Scripts.{IsScript}
 
@@ -37,9 +37,9 @@ abbrev read_head : Script → ℕ → Bytes → Result Head Fault
 read_head script line left = Ok (head_with script line left)
 
 -- what is read after a head
-pub behind_head : (bytes left : Bytes) (script : Script) (line : ℕ) (read : Result Report Refusal) → head_of bytes ≡ read_head script line left → report_in script line left ≡ read → check_text bytes ≡ behind script read
+pub behind_head : (bytes left : Bytes) (script : Script) (line : ℕ) (read : Result Report Refusal) → head_of_text bytes ≡ read_head script line left → report_in script line left ≡ read → check_text bytes ≡ with_script_read script read
 unfolding report_in
-behind_head bytes left script line read head is = ap (λ h. h >>= λ (head : Head). behind head.script (after_lines head.script head.line start head.left)) head ∙ ap (behind script) is
+behind_head bytes left script line read head is = ap (λ h. h >>= λ (head : Head). with_script_read head.script (after_lines head.script head.line report_start head.left)) head ∙ ap (with_script_read script) is
 
 -- the lines are those of both
 pub both_texts : (bytes left : Bytes) (script : Script) (told : Report) → IsHead bytes script (lines_of left) → IsReportTextOf script left told → IsCheckTextOf bytes script told

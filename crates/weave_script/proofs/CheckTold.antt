@@ -6,13 +6,14 @@ use Rattle.std.specs.List.{onto_first}
 use Rattle.std.proofs.lemmas.Bool.{cond-true, cond-false, eqb-true, le-ltb}
 use Rattle.program_defs.specs.declared.script.Script.{Script}
 use Rattle.weave_report.specs.FirstRefusal.{IsFirstRefusal}
+use Rattle.weave_report.specs.Reading.{report_start}
 use Rattle.weave_report.specs.Reading as report
 use Rattle.report_rules.specs.declared.report.Report.{Report}
 use Rattle.weave_text.specs.Cutting.{lines_of, words_of, is_skipped}
 use Rattle.weave_text.specs.Lines.{Bytes, Line}
 use Rattle.weave_script.specs.CheckFaults.{begins_report, IsFirstCheckFault, InScript, NoReport, InReport}
 use Rattle.weave_script.specs.CheckText.{IsHead}
-use Rattle.weave_script.specs.CheckReading.{behind, check_text}
+use Rattle.weave_script.specs.CheckReading.{with_script_read, check_text}
 use Rattle.weave_script.specs.Faults.{IsScriptRefusedAt, IsFirstScriptFault}
 use Rattle.weave_data.specs.Steps.{◌>>=◌}
 use Rattle.weave_script.specs.ReadText.{Fault, Part, at_line, is_open, is_report, read_on, head_before}
@@ -73,7 +74,7 @@ stops_there n reading line lines opens begins =
 
 -- a report's reader reports its first refusal
 abbrev pub TellsFirst : Type 0
-TellsFirst = (script : Script) (n : ℕ) (lines : List Bytes) (refusal : report.Refusal) → IsFirstRefusal script n report.start lines refusal → report.after_lines script n report.start lines ≡ Err refusal
+TellsFirst = (script : Script) (n : ℕ) (lines : List Bytes) (refusal : report.Refusal) → IsFirstRefusal script n report_start lines refusal → report.after_lines script n report_start lines ≡ Err refusal
 
 script_fault : (bytes : Bytes) (fault : Fault) (first : IsFirstScriptFault 1 start (lines_of bytes) fault) → (is_open first.reading.place && begins_report first.rest) ≡ false → told (read_on true 1 start (lines_of bytes)) ≡ Err fault
 script_fault bytes fault first plain =
@@ -93,7 +94,7 @@ module _ (laws : NumberLaws) where
 
   -- the report's lines are read from where the script ends
   report_reached : (bytes : Bytes) (script : Script) (left : List Bytes) (head : IsHead bytes script left) → begins_report left ≡ true
-      → told (read_on true 1 start (lines_of bytes)) ≡ behind script (report.after_lines script (1 + length head.front) report.start left)
+      → told (read_on true 1 start (lines_of bytes)) ≡ with_script_read script (report.after_lines script (1 + length head.front) report_start left)
   report_reached bytes script [] head begins = absurd cc
   report_reached bytes script (line ∷ lines) head begins =
       let last = last_reading laws script in
@@ -106,7 +107,7 @@ module _ (laws : NumberLaws) where
   fault_told tells bytes _ (InScript fault first plain) = script_fault bytes fault first plain
   fault_told tells bytes _ (NoReport script text) = no_report bytes script text
   fault_told tells bytes _ (InReport script left line cause head begins first) =
-      report_reached bytes script left head begins ∙ ap (behind script) (tells script (1 + length head.front) left (line, cause) first)
+      report_reached bytes script left head begins ∙ ap (with_script_read script) (tells script (1 + length head.front) left (line, cause) first)
 
   -- of a text that isn't too long
   pub first_fault_told : TellsFirst → (bytes : Bytes) (fault : Fault) → length bytes ≤ 4194304 → IsFirstCheckFault bytes fault → check_text bytes ≡ Err fault

@@ -17,6 +17,7 @@ more : (due : Bool) (n phase : ℕ) (phases : List ℕ) → AreParts n phases (c
 more true n phase phases h count e = (ap (λ count. take count (phase ∷ phases)) e ∙ ap (λ due. phase ∷ due) h.due, ap (λ count. drop count (phase ∷ phases)) e ∙ h.later)
 more false n phase phases h count e = (ap (λ count. take count (phase ∷ phases)) e, ap (λ count. drop count (phase ∷ phases)) e)
 
+-- the counted phases at the front are those that are due, and the rest are the later ones
 pub parts : (n : ℕ) (phases : List ℕ) → AreParts n phases (count_due n phases)
 parts n [] = record { due = refl; later = refl }
 parts n (phase ∷ phases) =

@@ -7,7 +7,7 @@ use Rattle.weave_script.specs.declared.fault.LineFault.{LineFault}
 use Rattle.weave_script.specs.declared.fault.LineFault.TheVariants as line_fault
 use Rattle.weave_script.specs.declared.read.part.Taken.{Taken}
 use Rattle.weave_script.specs.declared.read.part.Taken.TheVariants as taken
-use Rattle.weave_script.specs.declared.read.reader.Reader.{Reader}
+use Rattle.weave_script.specs.declared.read.lines.Reader.{Reader}
 use Rattle.weave_script.specs.declared.read.reading.Place.{Place}
 use Rattle.weave_script.specs.declared.read.reading.Place.TheVariants.{Start, Between, Inside, Behind}
 use Rattle.weave_script.specs.declared.read.reading.Reading.{Reading}

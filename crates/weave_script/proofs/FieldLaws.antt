@@ -13,17 +13,17 @@ use Rattle.weave_text.specs.declared.numbers.Numeral.TheVariants.{NoNumber, TooL
 use Rattle.weave_script.specs.declared.fault.Cause.{Cause}
 use Rattle.weave_script.specs.declared.fault.Cause.TheVariants as causes
 use Rattle.weave_data.specs.Steps.{◌>>=◌}
-use Rattle.weave_script.specs.Fields.{name_of, found_number, at_least, number_in}
+use Rattle.weave_script.specs.Fields.{name_word, found_number, at_least, number_in}
 use Rattle.weave_script.specs.Scripts.{IsName}
 use Rattle.weave_data.proofs.Steps.{bind_ok, ok_is}
 use Rattle.weave_script.proofs.Binds.{pick}
 
 -- a name that is read is the word
-pub name_of-ok : (word : Word) (name : Name) → name_of word ≡ Ok name → IsName word × (word ≡ name)
+pub name_of-ok : (word : Word) (name : Name) → name_word word ≡ Ok name → IsName word × (word ≡ name)
 name_of-ok word name e = pick (is_name word) (Ok word) (Err causes.Name) (Ok name) e (λ is same. (is, ok_is {E = Cause} word name same)) (λ is same. absurd cc)
 
 -- a name is read as itself
-pub name_of-name : (name : Name) → IsName name → name_of name ≡ Ok name
+pub name_of-name : (name : Name) → IsName name → name_word name ≡ Ok name
 name_of-name name h = cond-true (is_name name) (Ok name) (Err causes.Name) h
 
 -- a number is read only from its one word, and that is read as it

@@ -10,7 +10,7 @@ use Rattle.weave_script.specs.declared.fault.Cause.TheVariants as causes
 use Rattle.weave_script.specs.declared.read.reading.Reading.{Reading}
 use Rattle.weave_script.specs.CheckText.{IsHead}
 use Rattle.weave_data.specs.Steps.{◌>>=◌}
-use Rattle.weave_script.specs.ReadText.{Fault, Part, Head, at_line, is_open, is_report, read_on, read_part, script_at, head_before, head_of}
+use Rattle.weave_script.specs.ReadText.{Fault, Part, Head, at_line, is_open, is_report, read_on, read_part, script_at, head_before, head_of_text}
 use Rattle.weave_script.specs.Reading.{start, after_line}
 use Rattle.weave_data.proofs.Steps.{bind_ok, bind_at, ok_is}
 use Rattle.weave_script.proofs.FieldLaws.{NumberLaws}
@@ -90,7 +90,8 @@ module _ (laws : NumberLaws) where
       let reached = script_reached part.reading (kept_lines to.front) script led ends in
       record { front = to.front; cut = to.cut; of_script = reached.0; script_is = reached.1 }
 
-  pub head_reached : (bytes : Bytes) (head : Head) → head_of bytes ≡ Ok head → IsHead bytes head.script head.left
+  -- a script that is read before a report is valid, and the lines before what is left are its own
+  pub head_reached : (bytes : Bytes) (head : Head) → head_of_text bytes ≡ Ok head → IsHead bytes head.script head.left
   head_reached bytes head e =
       let step = bind_ok (read_part true bytes) (λ part. at_line part.line (script_at part.reading.place part.reading) >>= λ script. head_before part.line script part.left) head e in
       let part = step.0 in

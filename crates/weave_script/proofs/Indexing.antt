@@ -17,7 +17,7 @@ use Rattle.program_defs.specs.declared.script.Request.{Request}
 use Rattle.program_defs.specs.declared.script.Work.TheVariants.{Change}
 use Rattle.program_defs.specs.Works.{is_look}
 use Rattle.weave_script.specs.Indexed.{IsSetOf, IsPlaces, IsNewRequest}
-use Rattle.weave_script.specs.Limits.{with_names, vertices_of, vertices_of_work, vertices_of_op, programs_of, gets_of, gets_of_work}
+use Rattle.weave_script.specs.Limits.{with_names, vertices_of, vertices_of_work, vertices_of_op, count_programs, count_gets, gets_of_work}
 use Rattle.weave_script.specs.RequestLines.{request_of}
 use Rattle.weave_script.specs.StepLines.{place_of}
 use Rattle.weave_script.specs.declared.read.reading.Opening.{Opening}
@@ -40,6 +40,7 @@ module _ {X : Type 0} where
   has_put false v found true e = e
   has_put false v found false e = e
 
+  -- a table is longer by one if the name that is put in it is new
   pub one_longer : (name : Name) (found : Option X) (pairs after : List (List ℕ × X)) → found ≡ at_key name pairs → length after ≡ length pairs + cond (is_some found) 0 1 → has name pairs ≡ false → length after ≡ length pairs + 1
   one_longer name found pairs after is len new = len ∙ ap (λ b. length pairs + cond b 0 1) (ap is_some is ∙ new)
 
@@ -90,11 +91,11 @@ vertices_of-push requests request =
     ∙ fold-append (λ so_far name. with_name name so_far) [] (flat_map (λ (r : Request). vertices_of_work r.work) requests) (vertices_of_work request.work)
 
 -- the number of `get`s with one more request
-pub gets_of-push : (requests : List Request) (request : Request) → gets_of (requests ++ request ∷ []) ≡ gets_of requests + gets_of_work request.work
+pub gets_of-push : (requests : List Request) (request : Request) → count_gets (requests ++ request ∷ []) ≡ count_gets requests + gets_of_work request.work
 gets_of-push requests request = sum_by-append (λ (r : Request). gets_of_work r.work) requests (request ∷ []) ∙ omega arith
 
 -- the number of programs with one more request
-pub programs_of-push : (requests : List Request) (request : Request) → programs_of (requests ++ request ∷ []) ≡ programs_of requests + cond (is_look request.work) 1 0
+pub programs_of-push : (requests : List Request) (request : Request) → count_programs (requests ++ request ∷ []) ≡ count_programs requests + cond (is_look request.work) 1 0
 programs_of-push requests request = sum_by-append (λ (r : Request). cond (is_look r.work) 1 0) requests (request ∷ []) ∙ omega arith
 
 -- ---- a transaction, and its operations
@@ -116,14 +117,14 @@ op_vertices requests opening ops op =
 
 -- one more operation adds 1 to the number of `get`s if it is one
 pub op_gets : (requests : List Request) (opening : Opening) (ops : List Op) (op : Op)
-    → gets_of (requests ++ request_of opening (Change (ops ++ op ∷ [])) ∷ []) ≡ gets_of (requests ++ request_of opening (Change ops) ∷ []) + cond (is_get op) 1 0
+    → count_gets (requests ++ request_of opening (Change (ops ++ op ∷ [])) ∷ []) ≡ count_gets (requests ++ request_of opening (Change ops) ∷ []) + cond (is_get op) 1 0
 op_gets requests opening ops op =
     let more : count_by is_get (ops ++ op ∷ []) ≡ count_by is_get ops + cond (is_get op) 1 0 = sum_by-append (λ o. cond (is_get o) 1 0) ops (op ∷ []) ∙ omega arith in
     omega (arith, gets_of-push requests (request_of opening (Change (ops ++ op ∷ []))), gets_of-push requests (request_of opening (Change ops)), more)
 
 -- a transaction's operations leave the number of programs as it is
 pub op_programs : (requests : List Request) (opening : Opening) (ops more : List Op)
-    → programs_of (requests ++ request_of opening (Change more) ∷ []) ≡ programs_of (requests ++ request_of opening (Change ops) ∷ [])
+    → count_programs (requests ++ request_of opening (Change more) ∷ []) ≡ count_programs (requests ++ request_of opening (Change ops) ∷ [])
 op_programs requests opening ops more = programs_of-push requests (request_of opening (Change more)) ∙ sym (programs_of-push requests (request_of opening (Change ops)))
 
 -- a transaction without operations adds no vertex
@@ -132,17 +133,17 @@ transaction_vertices requests opening = vertices_of-push requests (request_of op
 
 -- a transaction without operations adds no program and no `get`
 pub transaction_counts : (requests : List Request) (opening : Opening)
-    → (programs_of (requests ++ request_of opening (Change []) ∷ []) ≡ programs_of requests) × (gets_of (requests ++ request_of opening (Change []) ∷ []) ≡ gets_of requests)
+    → (count_programs (requests ++ request_of opening (Change []) ∷ []) ≡ count_programs requests) × (count_gets (requests ++ request_of opening (Change []) ∷ []) ≡ count_gets requests)
 transaction_counts requests opening = (omega (arith, programs_of-push requests (request_of opening (Change []))), omega (arith, gets_of-push requests (request_of opening (Change []))))
 
--- one more operation that is a `get`, or is none
+-- one more operation that is a `get` adds 1 to the number of `get`s
 pub get_more : (requests : List Request) (opening : Opening) (ops : List Op) (op : Op) → is_get op ≡ true
-    → gets_of (requests ++ request_of opening (Change ops) ∷ []) + 1 ≡ gets_of (requests ++ request_of opening (Change (ops ++ op ∷ [])) ∷ [])
-get_more requests opening ops op get = sym (op_gets requests opening ops op ∙ ap (λ b. gets_of (requests ++ request_of opening (Change ops) ∷ []) + cond b 1 0) get)
+    → count_gets (requests ++ request_of opening (Change ops) ∷ []) + 1 ≡ count_gets (requests ++ request_of opening (Change (ops ++ op ∷ [])) ∷ [])
+get_more requests opening ops op get = sym (op_gets requests opening ops op ∙ ap (λ b. count_gets (requests ++ request_of opening (Change ops) ∷ []) + cond b 1 0) get)
 
 -- an operation that is no `get` leaves their number as it is
 pub no_get_more : (requests : List Request) (opening : Opening) (ops : List Op) (op : Op) → is_get op ≡ false
-    → gets_of (requests ++ request_of opening (Change ops) ∷ []) ≡ gets_of (requests ++ request_of opening (Change (ops ++ op ∷ [])) ∷ [])
+    → count_gets (requests ++ request_of opening (Change ops) ∷ []) ≡ count_gets (requests ++ request_of opening (Change (ops ++ op ∷ [])) ∷ [])
 no_get_more requests opening ops op none =
-    let more = op_gets requests opening ops op ∙ ap (λ b. gets_of (requests ++ request_of opening (Change ops) ∷ []) + cond b 1 0) none in
+    let more = op_gets requests opening ops op ∙ ap (λ b. count_gets (requests ++ request_of opening (Change ops) ∷ []) + cond b 1 0) none in
     omega (arith, more)

@@ -9,6 +9,7 @@ use Rattle.weave_data.specs.Names.{name_cmp, same_name, one_name}
 use Rattle.weave_data.specs.Pairs.{at_key, put}
 use Rattle.graph_ops.proofs.Vertices.{itself}
 
+-- whether two names are the same doesn't depend on which comes first
 pub same_both_ways : (a b : List ℕ) → same_name a b ≡ same_name b a
 same_both_ways a b = go (same_name a b) refl (same_name b a) refl
   where
@@ -44,6 +45,7 @@ module _ {X : Type 0} where
           let both : is_eq Greater ≡ true = sym (ap is_eq h) ∙ subst (λ c. same_name k c ≡ true) same (itself k) in
           absurd cc
 
+  -- after a value was put at a key it is there, and at each other key is what was there before
   pub at_key-put : (k q : List ℕ) (v : X) (es : List (List ℕ × X)) → at_key q (put k v es) ≡ cond (same_name q k) (Some v) (at_key q es)
   at_key-put k q v [] = refl
   at_key-put k q v (e ∷ es) = in_place k q v e es (put k v es) (name_cmp k e.0) refl (at_key-put k q v es)

@@ -16,15 +16,15 @@ use Rattle.program_defs.specs.declared.script.Work.TheVariants.{Change}
 use Rattle.program_defs.specs.Works.{is_look}
 use Rattle.weave_script.specs.declared.fault.Cause.{Cause}
 use Rattle.weave_script.specs.declared.read.reading.Opening.{Opening}
-use Rattle.weave_script.specs.Limits.{over_limit, counts_of, with_names, vertices_of, vertices_of_op, vertices_of_work, gets_of, gets_of_work, programs_of}
+use Rattle.weave_script.specs.Limits.{over_limit, counts_of_script, with_names, vertices_of, vertices_of_op, vertices_of_work, count_gets, gets_of_work, count_programs}
 use Rattle.weave_script.specs.RequestLines.{request_of}
 use Rattle.weave_script.proofs.Indexing.{vertices_of-push, gets_of-push, programs_of-push}
 
 -- requests by themselves meet no limit
 pub record AreFew (requests : List Request) : Type 0 where
   pub requests_few : length requests ≤ 10000
-  pub programs_few : programs_of requests ≤ 1000
-  pub gets_few : gets_of requests ≤ 1000
+  pub programs_few : count_programs requests ≤ 1000
+  pub gets_few : count_gets requests ≤ 1000
   pub vertices_few : length (vertices_of requests) ≤ 10000
 
 passed : (b : Bool) (cause : Cause) (rest : Option Cause) {P : Type 0} → cond b (Some cause) rest ≡ None → (b ≡ false → rest ≡ None → P) → P
@@ -32,17 +32,18 @@ passed true cause rest h next = absurd cc
 passed false cause rest h next = next refl h
 
 -- if no limit is met
-pub within-few : (operations : ℕ) (requests : List Request) (steps : ℕ) → over_limit (counts_of operations requests steps) ≡ None → (operations ≤ 64) × AreFew requests × (steps ≤ 100000)
+pub within-few : (operations : ℕ) (requests : List Request) (steps : ℕ) → over_limit (counts_of_script operations requests steps) ≡ None → (operations ≤ 64) × AreFew requests × (steps ≤ 100000)
 within-few operations requests steps h =
     passed _ _ _ h (λ a h. passed _ _ _ h (λ b h. passed _ _ _ h (λ c h. passed _ _ _ h (λ d h. passed _ _ _ h (λ e h. passed _ _ _ h (λ f h.
     (ltb-false _ _ a, record { requests_few = ltb-false _ _ b; programs_few = ltb-false _ _ c; gets_few = ltb-false _ _ d; vertices_few = ltb-false _ _ e }, ltb-false _ _ f)))))))
 
-pub few-within : (operations : ℕ) (requests : List Request) (steps : ℕ) → operations ≤ 64 → AreFew requests → steps ≤ 100000 → over_limit (counts_of operations requests steps) ≡ None
+-- few requests, with at most 64 operations and at most 100,000 steps, meet no limit of the table
+pub few-within : (operations : ℕ) (requests : List Request) (steps : ℕ) → operations ≤ 64 → AreFew requests → steps ≤ 100000 → over_limit (counts_of_script operations requests steps) ≡ None
 few-within operations requests steps a h f =
     cond-false (nat_lt 64 operations) _ _ (le-ltb 64 operations a)
     ∙ cond-false (nat_lt 10000 (length requests)) _ _ (le-ltb 10000 (length requests) h.requests_few)
-    ∙ cond-false (nat_lt 1000 (programs_of requests)) _ _ (le-ltb 1000 (programs_of requests) h.programs_few)
-    ∙ cond-false (nat_lt 1000 (gets_of requests)) _ _ (le-ltb 1000 (gets_of requests) h.gets_few)
+    ∙ cond-false (nat_lt 1000 (count_programs requests)) _ _ (le-ltb 1000 (count_programs requests) h.programs_few)
+    ∙ cond-false (nat_lt 1000 (count_gets requests)) _ _ (le-ltb 1000 (count_gets requests) h.gets_few)
     ∙ cond-false (nat_lt 10000 (length (vertices_of requests))) _ _ (le-ltb 10000 (length (vertices_of requests)) h.vertices_few)
     ∙ cond-false (nat_lt 100000 steps) _ _ (le-ltb 100000 steps f)
 
@@ -59,6 +60,7 @@ with_names-grow names (name ∷ more) =
     let rest = with_names-grow (with_name name names) more in
     omega (arith, one, rest)
 
+-- the first ones of requests that meet no limit meet none either
 pub front_few : (front back : List Request) → AreFew (front ++ back) → AreFew front
 front_few front back h =
     let vertices : vertices_of (front ++ back) ≡ with_names (vertices_of front) (flat_map (λ (r : Request). vertices_of_work r.work) back) =

@@ -31,6 +31,7 @@ told true true value = refl
 told true false value = refl
 told false small value = refl
 
+-- a word is told as a number, be it too large or not, exactly if it is a number
 pub is_told-number_up_to : (most : ℕ) (word : Word) → is_told (number_up_to most word) ≡ is_number word
 unfolding number_up_to
 is_told-number_up_to most word = told (is_number word) (nat_le (value_of word) most) (value_of word)

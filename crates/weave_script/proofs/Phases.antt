@@ -28,16 +28,19 @@ chosen : (b : Bool) {A : Type 0} (x y : A) (P : A → Type 0) → (b ≡ true �
 chosen true x y P first second = first refl
 chosen false x y P first second = second refl
 
+-- of rising phases, those with at most n requests before them rise up to n
 pub due_rise : (low n high : ℕ) (phases : List ℕ) → RiseTo low high phases → RiseTo low n (due_phases n phases)
 due_rise low n high [] h = tt
 due_rise low n high (phase ∷ phases) h =
     chosen (nat_le phase n) (phase ∷ due_phases n phases) [] (RiseTo low n) (λ due. (h.0, leb-true phase n due, due_rise phase n high phases h.2)) (λ later. tt)
 
+-- and the later ones rise from one past n to the old end
 pub later_rise : (low n high : ℕ) (phases : List ℕ) → RiseTo low high phases → RiseTo (n + 1) high (later_phases n phases)
 later_rise low n high [] h = tt
 later_rise low n high (phase ∷ phases) h =
     chosen (nat_le phase n) (later_phases n phases) (phase ∷ phases) (RiseTo (n + 1) high) (λ due. later_rise phase n high phases h.2) (λ later. (omega (arith, leb-false phase n later), h.1, h.2))
 
+-- the phases that are due and then the later ones are all of them
 pub due_and_later : (n : ℕ) (phases : List ℕ) → due_phases n phases ++ later_phases n phases ≡ phases
 due_and_later n [] = refl
 due_and_later n (phase ∷ phases) = go (nat_le phase n) (due_and_later n phases)

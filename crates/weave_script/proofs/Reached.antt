@@ -29,7 +29,7 @@ use Rattle.weave_script.specs.ReadText.{script_at, script_with}
 use Rattle.weave_script.specs.Reading.{counts_so_far, unless_taken, after_tx, after_prog, after_phase, after_steps, after_item, after_header, after_line_inside, after_step, after_line_at, unless_met, within_limits, after_line}
 use Rattle.weave_script.specs.RequestLines.{request_of, tx_of, prog_of}
 use Rattle.weave_script.specs.ScriptLines.{header_line, op_line, opening_line, end_line, request_lines, phase_line, item_lines, step_line, steps_line, script_lines}
-use Rattle.weave_script.specs.Scripts.{IsOperation, IsRequest, IsStep, RiseTo, IsScript, names_of}
+use Rattle.weave_script.specs.Scripts.{IsOperation, IsRequest, IsStep, RiseTo, IsScript, request_names}
 use Rattle.weave_script.specs.StepLines.{place_of, step_of}
 use Rattle.weave_data.proofs.Steps.{bind_ok, ok_is}
 use Rattle.weave_report.proofs.ReadSteps.{is_word}
@@ -52,7 +52,7 @@ at gates shards requests phases place = record { gates = gates; shards = shards;
 pub record AreGood (n m : ℕ) (requests : List Request) (phases : List ℕ) : Type 0 where
   pub sizes : AreSizes n m
   pub each : AllByRecursion (IsRequest n) requests
-  pub distinct : IsDistinct same_name (names_of requests)
+  pub distinct : IsDistinct same_name (request_names requests)
   pub rising : RiseTo 0 (length requests) phases
 
 -- a transaction has begun, with these operations so far
@@ -261,6 +261,7 @@ module _ (laws : NumberLaws) where
 
   -- ---- one line after another
 
+  -- lines read on from a good reading within the limits lead to one such, of the lines so far and then these
   pub lines_lead : (reading : Reading) (lines : List Line) (last : Reading) → IsGoodReading reading → over_limit (counts_so_far reading) ≡ None → after_lines reading lines ≡ Ok last
       → Led (lines_of_reading reading ++ lines) last
   lines_lead reading [] last good within e =

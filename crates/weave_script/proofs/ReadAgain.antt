@@ -27,7 +27,7 @@ use Rattle.weave_script.specs.ReadText.{script_at}
 use Rattle.weave_script.specs.Reading.{start, counts_so_far, unless_taken, after_line_at, unless_met, within_limits, after_line}
 use Rattle.weave_script.specs.RequestLines.{request_of, tx_of}
 use Rattle.weave_script.specs.ScriptLines.{header_line, op_line, opening_line, end_line, program_words, work_lines, request_lines, phase_line, phase_lines, due_phases, later_phases, item_lines, step_line, steps_line, steps_lines, script_lines}
-use Rattle.weave_script.specs.Scripts.{IsOperation, IsWork, IsRequest, IsStep, RiseTo, IsScript, names_of, steps_of}
+use Rattle.weave_script.specs.Scripts.{IsOperation, IsWork, IsRequest, IsStep, RiseTo, IsScript, request_names, steps_of}
 use Rattle.weave_script.specs.StepLines.{place_of, step_of}
 use Rattle.weave_data.proofs.Steps.{bind_at}
 use Rattle.weave_script.proofs.FieldLaws.{NumberLaws}
@@ -138,7 +138,7 @@ module _ (laws : NumberLaws) where
 
   -- ---- requests and phases
 
-  items_again : (n m : ℕ) (done : List Request) (past : List ℕ) (rest : List Request) (phases : List ℕ) → n ≤ 8 → AllByRecursion (IsRequest n) rest → IsDistinct same_name (names_of (done ++ rest))
+  items_again : (n m : ℕ) (done : List Request) (past : List ℕ) (rest : List Request) (phases : List ℕ) → n ≤ 8 → AllByRecursion (IsRequest n) rest → IsDistinct same_name (request_names (done ++ rest))
       → AreFew (done ++ rest) → RiseTo (length done) (length (done ++ rest)) phases
       → after_lines (at n m done past Between) (item_lines (length done) rest phases) ≡ Ok (at n m (done ++ rest) (past ++ phases) Between)
   items_again n m done past [] phases small h distinct few rising =
@@ -162,13 +162,13 @@ module _ (laws : NumberLaws) where
       (phases_again n m done past due (front_few done (request ∷ rest) few) (due_rise k k (length (done ++ request ∷ rest)) phases rising))
       ∙ request_again n m done (past ++ due) request small h.0 (free_before done request rest distinct) (front_few more rest few_more))
       ∙ ap (λ k. after_lines behind_request (item_lines k rest later)) count
-      ∙ items_again n m more (past ++ due) rest later small h.1 (subst (λ requests. IsDistinct same_name (names_of requests)) (sym same) distinct) few_more rising_more
+      ∙ items_again n m more (past ++ due) rest later small h.1 (subst (λ requests. IsDistinct same_name (request_names requests)) (sym same) distinct) few_more rising_more
       ∙ ap (λ requests. Ok (at n m requests ((past ++ due) ++ later) Between)) same
       ∙ ap (λ phases. Ok (at n m (done ++ request ∷ rest) phases Between)) (append_assoc past due later ∙ ap (λ phases. past ++ phases) (due_and_later k phases))
 
   -- ---- steps
 
-  steps_again : (n m : ℕ) (requests : List Request) (phases : List ℕ) (before steps : List Step) → AreSizes n m → AllByRecursion (IsRequest n) requests → IsDistinct same_name (names_of requests)
+  steps_again : (n m : ℕ) (requests : List Request) (phases : List ℕ) (before steps : List Step) → AreSizes n m → AllByRecursion (IsRequest n) requests → IsDistinct same_name (request_names requests)
       → AllByRecursion (IsStep n m (length requests)) steps → AreFew requests → length (before ++ steps) ≤ 100000
       → after_lines (at n m requests phases (Behind before)) (map (step_line requests) steps) ≡ Ok (at n m requests phases (Behind (before ++ steps)))
   steps_again n m requests phases before [] sizes each distinct h few small = ap (λ steps. Ok (at n m requests phases (Behind steps))) (sym (append-nil before))
@@ -207,7 +207,7 @@ module _ (laws : NumberLaws) where
   header_again : (n m : ℕ) → AreSizes n m → after_line_at Start start (header_line n m) ≡ Ok (at n m [] [] Between)
   header_again n m sizes = bind_at (header_of (header_line n m)) (λ counts. Ok (at counts.0 counts.1 [] [] Between)) (n, m) (header_of-line laws n m sizes)
 
-  steps_part : (n m : ℕ) (requests : List Request) (phases : List ℕ) (steps : Option (List Step)) → AreSizes n m → AllByRecursion (IsRequest n) requests → IsDistinct same_name (names_of requests)
+  steps_part : (n m : ℕ) (requests : List Request) (phases : List ℕ) (steps : Option (List Step)) → AreSizes n m → AllByRecursion (IsRequest n) requests → IsDistinct same_name (request_names requests)
       → AllByRecursion (IsStep n m (length requests)) (steps_of steps) → AreFew requests → length (steps_of steps) ≤ 100000
       → after_lines (at n m requests phases Between) (steps_lines requests steps) ≡ Ok (at n m requests phases (last_place steps))
   steps_part n m requests phases None sizes each distinct h few small = refl

@@ -13,8 +13,8 @@ use Rattle.weave_script.specs.declared.fault.Cause.{Cause}
 use Rattle.weave_script.specs.declared.fault.Cause.TheVariants as causes
 use Rattle.weave_script.specs.declared.read.reading.Opening.{Opening}
 use Rattle.weave_data.specs.Steps.{◌>>=◌}
-use Rattle.weave_script.specs.Fields.{ReadOrCause, or_refused, name_of, number_in}
-use Rattle.weave_script.specs.RequestLines.{opening_of, tx_of, tag_of, filter_of, bound_of, show_program, reach_program, around_program, path_program, show_of, reach_of, around_of, path_of, program_of, prog_of}
+use Rattle.weave_script.specs.Fields.{ReadOrCause, or_refused, name_word, number_in}
+use Rattle.weave_script.specs.RequestLines.{opening_of, tx_of, tag_of, filter_of, bound_word, show_program, reach_program, around_program, path_program, show_of, reach_of, around_of, path_of, program_of, prog_of}
 use Rattle.weave_script.specs.ScriptLines.{filter_words, program_words}
 use Rattle.weave_script.specs.Scripts.{IsName, IsFilter, IsProgram}
 use Rattle.weave_data.proofs.Steps.{bind_ok, bind_at, ok_is}
@@ -53,8 +53,8 @@ map_some f (Some x) y e = (x, refl, some_is (f x) y e)
 
 tag_of-ok : (key value : Word) (pass : Option Filter) → tag_of key value ≡ Ok pass → IsFilter pass × (codes "where" ∷ key ∷ value ∷ [] ≡ filter_words pass)
 tag_of-ok key value pass e =
-    let first = bind_ok (name_of key) (λ key. name_of value >>= λ value. Ok (Some (record { key = key; value = value }))) pass e in
-    let second = bind_ok (name_of value) (λ value. Ok (Some (record { key = first.0; value = value }))) pass first.2 in
+    let first = bind_ok (name_word key) (λ key. name_word value >>= λ value. Ok (Some (record { key = key; value = value }))) pass e in
+    let second = bind_ok (name_word value) (λ value. Ok (Some (record { key = first.0; value = value }))) pass first.2 in
     let a = name_of-ok key first.0 first.1 in
     let b = name_of-ok value second.0 second.1 in
     subst (λ pass. IsFilter pass × (codes "where" ∷ key ∷ value ∷ [] ≡ filter_words pass)) (ok_is {E = Cause} (Some (record { key = first.0; value = second.0 })) pass second.2)
@@ -75,8 +75,8 @@ filter_of-words : (pass : Option Filter) → IsFilter pass → filter_of (filter
 filter_of-words None h = refl
 filter_of-words (Some filter) h =
     ap (λ o. Some o)
-    (bind_at (name_of filter.key) (λ key. name_of filter.value >>= λ value. Ok (Some (record { key = key; value = value }))) filter.key (name_of-name filter.key h.0)
-    ∙ bind_at (name_of filter.value) (λ value. Ok (Some (record { key = filter.key; value = value }))) filter.value (name_of-name filter.value h.1))
+    (bind_at (name_word filter.key) (λ key. name_word filter.value >>= λ value. Ok (Some (record { key = key; value = value }))) filter.key (name_of-name filter.key h.0)
+    ∙ bind_at (name_word filter.value) (λ value. Ok (Some (record { key = filter.key; value = value }))) filter.value (name_of-name filter.value h.1))
 
 module _ (laws : NumberLaws) where
   -- ---- what is before the work
@@ -84,7 +84,7 @@ module _ (laws : NumberLaws) where
   opening_of-ok : (gates : ℕ) → 1 ≤ gates → gates ≤ 8 → (name session gate : Word) (opening : Opening) → opening_of gates name session gate ≡ Ok opening
       → IsOpening gates opening × (name ∷ session ∷ gate ∷ [] ≡ opening_words opening)
   opening_of-ok gates some few name session gate opening e =
-      let first = bind_ok (name_of name) (λ name. number_in 0 63 causes.Session session >>= λ session. number_in 0 (gates - 1) causes.Gatekeeper gate >>= λ gate. Ok (record { name = name; session = session; gate = gate })) opening e in
+      let first = bind_ok (name_word name) (λ name. number_in 0 63 causes.Session session >>= λ session. number_in 0 (gates - 1) causes.Gatekeeper gate >>= λ gate. Ok (record { name = name; session = session; gate = gate })) opening e in
       let second = bind_ok (number_in 0 63 causes.Session session) (λ session. number_in 0 (gates - 1) causes.Gatekeeper gate >>= λ gate. Ok (record { name = first.0; session = session; gate = gate })) opening first.2 in
       let third = bind_ok (number_in 0 (gates - 1) causes.Gatekeeper gate) (λ gate. Ok (record { name = first.0; session = second.0; gate = gate })) opening second.2 in
       let a = name_of-ok name first.0 first.1 in
@@ -101,7 +101,7 @@ module _ (laws : NumberLaws) where
       let low : 0 ≤ opening.gate = omega arith in
       let low_session : 0 ≤ opening.session = omega arith in
       let small : gates - 1 < 2 ^ 64 = omega arith in
-      bind_at (name_of opening.name) (λ name. number_in 0 63 causes.Session (decimal opening.session) >>= λ session. number_in 0 (gates - 1) causes.Gatekeeper (decimal opening.gate) >>= λ gate. Ok (record { name = name; session = session; gate = gate })) opening.name (name_of-name opening.name h.name)
+      bind_at (name_word opening.name) (λ name. number_in 0 63 causes.Session (decimal opening.session) >>= λ session. number_in 0 (gates - 1) causes.Gatekeeper (decimal opening.gate) >>= λ gate. Ok (record { name = name; session = session; gate = gate })) opening.name (name_of-name opening.name h.name)
       ∙ bind_at (number_in 0 63 causes.Session (decimal opening.session)) (λ session. number_in 0 (gates - 1) causes.Gatekeeper (decimal opening.gate) >>= λ gate. Ok (record { name = opening.name; session = session; gate = gate })) opening.session (number_in-number laws 0 63 causes.Session opening.session (lit< tt) low_session h.session)
       ∙ bind_at (number_in 0 (gates - 1) causes.Gatekeeper (decimal opening.gate)) (λ gate. Ok (record { name = opening.name; session = opening.session; gate = gate })) opening.gate (number_in-number laws 0 (gates - 1) causes.Gatekeeper opening.gate small low top)
 
@@ -119,10 +119,10 @@ module _ (laws : NumberLaws) where
 
   -- ---- programs
 
-  bound_of-ok : (word : Word) (n : ℕ) → bound_of word ≡ Ok n → (n ≤ 1000) × (word ≡ decimal n)
+  bound_of-ok : (word : Word) (n : ℕ) → bound_word word ≡ Ok n → (n ≤ 1000) × (word ≡ decimal n)
   bound_of-ok word n e = let h = number_in-ok laws 0 1000 causes.Bound word n (lit< tt) e in (h.1, h.2)
 
-  bound_of-number : (n : ℕ) → n ≤ 1000 → bound_of (decimal n) ≡ Ok n
+  bound_of-number : (n : ℕ) → n ≤ 1000 → bound_word (decimal n) ≡ Ok n
   bound_of-number n h = number_in-number laws 0 1000 causes.Bound n (lit< tt) (omega arith) h
 
   -- a program, and its words
@@ -132,7 +132,7 @@ module _ (laws : NumberLaws) where
   show_of-ok : (words : Line) (form : ReadOrCause Program) (program : Program) → show_of words ≡ Some form → form ≡ Ok program → IsReadAs (codes "show" ∷ words) program
   show_of-ok [] form program f e = absurd cc
   show_of-ok (v ∷ []) form program f e =
-      let step = bind_ok (name_of v) (λ v. Ok (Show v)) program (some_is (show_program v) form f ∙ e) in
+      let step = bind_ok (name_word v) (λ v. Ok (Show v)) program (some_is (show_program v) form f ∙ e) in
       let a = name_of-ok v step.0 step.1 in
       subst (IsReadAs (codes "show" ∷ v ∷ [])) (ok_is {E = Cause} (Show step.0) program step.2) (subst IsName a.1 a.0, λ i. codes "show" ∷ a.1 i ∷ [])
   show_of-ok (v ∷ w ∷ words) form program f e = absurd cc
@@ -142,8 +142,8 @@ module _ (laws : NumberLaws) where
   reach_of-ok (from ∷ []) form program f e = absurd cc
   reach_of-ok (from ∷ to ∷ words) form program f e =
       let filter = map_some (reach_program from to) (filter_of words) form f in
-      let first = bind_ok (name_of from) (λ from. name_of to >>= λ to. filter.0 >>= λ pass. Ok (Reach from to pass)) program (filter.2 ∙ e) in
-      let second = bind_ok (name_of to) (λ to. filter.0 >>= λ pass. Ok (Reach first.0 to pass)) program first.2 in
+      let first = bind_ok (name_word from) (λ from. name_word to >>= λ to. filter.0 >>= λ pass. Ok (Reach from to pass)) program (filter.2 ∙ e) in
+      let second = bind_ok (name_word to) (λ to. filter.0 >>= λ pass. Ok (Reach first.0 to pass)) program first.2 in
       let third = bind_ok filter.0 (λ pass. Ok (Reach first.0 second.0 pass)) program second.2 in
       let a = name_of-ok from first.0 first.1 in
       let b = name_of-ok to second.0 second.1 in
@@ -156,8 +156,8 @@ module _ (laws : NumberLaws) where
   around_of-ok (from ∷ []) form program f e = absurd cc
   around_of-ok (from ∷ bound ∷ words) form program f e =
       let filter = map_some (around_program from bound) (filter_of words) form f in
-      let first = bind_ok (name_of from) (λ from. bound_of bound >>= λ bound. filter.0 >>= λ pass. Ok (Around from bound pass)) program (filter.2 ∙ e) in
-      let second = bind_ok (bound_of bound) (λ bound. filter.0 >>= λ pass. Ok (Around first.0 bound pass)) program first.2 in
+      let first = bind_ok (name_word from) (λ from. bound_word bound >>= λ bound. filter.0 >>= λ pass. Ok (Around from bound pass)) program (filter.2 ∙ e) in
+      let second = bind_ok (bound_word bound) (λ bound. filter.0 >>= λ pass. Ok (Around first.0 bound pass)) program first.2 in
       let third = bind_ok filter.0 (λ pass. Ok (Around first.0 second.0 pass)) program second.2 in
       let a = name_of-ok from first.0 first.1 in
       let b = bound_of-ok bound second.0 second.1 in
@@ -171,9 +171,9 @@ module _ (laws : NumberLaws) where
   path_of-ok (from ∷ to ∷ []) form program f e = absurd cc
   path_of-ok (from ∷ to ∷ bound ∷ words) form program f e =
       let filter = map_some (path_program from to bound) (filter_of words) form f in
-      let first = bind_ok (name_of from) (λ from. name_of to >>= λ to. bound_of bound >>= λ bound. filter.0 >>= λ pass. Ok (Path from to bound pass)) program (filter.2 ∙ e) in
-      let second = bind_ok (name_of to) (λ to. bound_of bound >>= λ bound. filter.0 >>= λ pass. Ok (Path first.0 to bound pass)) program first.2 in
-      let third = bind_ok (bound_of bound) (λ bound. filter.0 >>= λ pass. Ok (Path first.0 second.0 bound pass)) program second.2 in
+      let first = bind_ok (name_word from) (λ from. name_word to >>= λ to. bound_word bound >>= λ bound. filter.0 >>= λ pass. Ok (Path from to bound pass)) program (filter.2 ∙ e) in
+      let second = bind_ok (name_word to) (λ to. bound_word bound >>= λ bound. filter.0 >>= λ pass. Ok (Path first.0 to bound pass)) program first.2 in
+      let third = bind_ok (bound_word bound) (λ bound. filter.0 >>= λ pass. Ok (Path first.0 second.0 bound pass)) program second.2 in
       let fourth = bind_ok filter.0 (λ pass. Ok (Path first.0 second.0 third.0 pass)) program third.2 in
       let a = name_of-ok from first.0 first.1 in
       let b = name_of-ok to second.0 second.1 in
@@ -194,23 +194,23 @@ module _ (laws : NumberLaws) where
       by text same read = subst (λ word. IsReadAs (word ∷ words) program) (sym (is_word word text same)) read
 
   program_of-words : (program : Program) → IsProgram program → program_of (program_words program) ≡ Some (Ok program)
-  program_of-words (Show v) h = ap (λ read. Some read) (bind_at (name_of v) (λ v. Ok (Show v)) v (name_of-name v h))
+  program_of-words (Show v) h = ap (λ read. Some read) (bind_at (name_word v) (λ v. Ok (Show v)) v (name_of-name v h))
   program_of-words (Reach from to pass) h =
       ap (option_map (reach_program from to)) (filter_of-words pass h.2)
       ∙ ap (λ read. Some read)
-      (bind_at (name_of from) (λ from. name_of to >>= λ to. Ok (Reach from to pass)) from (name_of-name from h.0)
-      ∙ bind_at (name_of to) (λ to. Ok (Reach from to pass)) to (name_of-name to h.1))
+      (bind_at (name_word from) (λ from. name_word to >>= λ to. Ok (Reach from to pass)) from (name_of-name from h.0)
+      ∙ bind_at (name_word to) (λ to. Ok (Reach from to pass)) to (name_of-name to h.1))
   program_of-words (Around from bound pass) h =
       ap (option_map (around_program from (decimal bound))) (filter_of-words pass h.2)
       ∙ ap (λ read. Some read)
-      (bind_at (name_of from) (λ from. bound_of (decimal bound) >>= λ bound. Ok (Around from bound pass)) from (name_of-name from h.0)
-      ∙ bind_at (bound_of (decimal bound)) (λ bound. Ok (Around from bound pass)) bound (bound_of-number bound h.1))
+      (bind_at (name_word from) (λ from. bound_word (decimal bound) >>= λ bound. Ok (Around from bound pass)) from (name_of-name from h.0)
+      ∙ bind_at (bound_word (decimal bound)) (λ bound. Ok (Around from bound pass)) bound (bound_of-number bound h.1))
   program_of-words (Path from to bound pass) h =
       ap (option_map (path_program from to (decimal bound))) (filter_of-words pass h.3)
       ∙ ap (λ read. Some read)
-      (bind_at (name_of from) (λ from. name_of to >>= λ to. bound_of (decimal bound) >>= λ bound. Ok (Path from to bound pass)) from (name_of-name from h.0)
-      ∙ bind_at (name_of to) (λ to. bound_of (decimal bound) >>= λ bound. Ok (Path from to bound pass)) to (name_of-name to h.1)
-      ∙ bind_at (bound_of (decimal bound)) (λ bound. Ok (Path from to bound pass)) bound (bound_of-number bound h.2))
+      (bind_at (name_word from) (λ from. name_word to >>= λ to. bound_word (decimal bound) >>= λ bound. Ok (Path from to bound pass)) from (name_of-name from h.0)
+      ∙ bind_at (name_word to) (λ to. bound_word (decimal bound) >>= λ bound. Ok (Path from to bound pass)) to (name_of-name to h.1)
+      ∙ bind_at (bound_word (decimal bound)) (λ bound. Ok (Path from to bound pass)) bound (bound_of-number bound h.2))
 
   -- words that are read as a program are those of it
   pub prog_of-ok : (gates : ℕ) → 1 ≤ gates → gates ≤ 8 → (line : Line) (opening : Opening) (program : Program) → prog_of gates line ≡ Ok (opening, program)

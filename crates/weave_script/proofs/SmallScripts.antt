@@ -13,6 +13,7 @@ use Rattle.program_defs.specs.Works.{ops_of}
 use Rattle.weave_script.specs.Scripts.{IsWork, IsRequest, IsScript, steps_of}
 use Rattle.weave_script.proofs.LimitLaws.{within-few}
 
+-- a valid script has at most 10,000 requests
 pub few_requests : (script : Script) → IsScript script → length script.requests ≤ 10000
 few_requests script h = (within-few 0 script.requests (length (steps_of script.steps)) h.within).1.requests_few
 
@@ -24,6 +25,7 @@ each_small : (gates : ℕ) (requests : List Request) → AllByRecursion (IsReque
 each_small gates [] h = tt
 each_small gates (request ∷ requests) h = (few_ops request.work h.0.work, each_small gates requests h.1)
 
+-- each transaction of a valid script has at most 64 operations
 pub small_transactions : (script : Script) → IsScript script → AllByRecursion (λ request. length (ops_of request.work) ≤ 64) script.requests
 small_transactions script h = each_small script.gates script.requests h.requests
 

@@ -14,10 +14,10 @@ use Rattle.weave_text.specs.Lines.{Word, Line}
 use Rattle.weave_script.specs.declared.fault.Cause.{Cause}
 use Rattle.weave_script.specs.declared.fault.Cause.TheVariants as causes
 use Rattle.weave_data.specs.Steps.{◌>>=◌}
-use Rattle.weave_script.specs.Fields.{or_refused, name_of, number_in}
+use Rattle.weave_script.specs.Fields.{or_refused, name_word, number_in}
 use Rattle.weave_script.specs.ScriptLines.{step_line, name_of_request}
-use Rattle.weave_script.specs.Scripts.{IsRequest, IsStep, IsNotice, names_of}
-use Rattle.weave_script.specs.StepLines.{place_of, named_request, gate_of, shard_of, notice_of, epoch_of, of_gate, of_shard, of_request, hear_of, nop_of, apply_of, epoch_step_of, deliver_of, step_of, step_of_one, step_of_two, step_of_three}
+use Rattle.weave_script.specs.Scripts.{IsRequest, IsStep, IsNotice, request_names}
+use Rattle.weave_script.specs.StepLines.{place_of, named_request, gate_word, shard_word, notice_word, epoch_word, of_gate, of_shard, of_request, hear_of, nop_of, apply_of, epoch_step_of, deliver_of, step_of, step_of_one, step_of_two, step_of_three}
 use Rattle.weave_data.proofs.Steps.{bind_ok, bind_at, ok_is}
 use Rattle.weave_report.proofs.ReadSteps.{is_word}
 use Rattle.weave_script.proofs.Binds.{pick}
@@ -39,28 +39,28 @@ module _ (laws : NumberLaws) (gates shards : ℕ) (sizes : AreSizes gates shards
   below-number : (most : ℕ) (cause : Cause) (n : ℕ) → most ≤ 16 → n < most → number_in 0 (most - 1) cause (decimal n) ≡ Ok n
   below-number most cause n few h = number_in-number laws 0 (most - 1) cause n (omega arith) (omega arith) (omega arith)
 
-  gate-ok : (word : Word) (n : ℕ) → gate_of gates word ≡ Ok n → (n < gates) × (word ≡ decimal n)
+  gate-ok : (word : Word) (n : ℕ) → gate_word gates word ≡ Ok n → (n < gates) × (word ≡ decimal n)
   gate-ok word n e = below-ok gates causes.Gatekeeper word n sizes.gates.0 (omega (arith, sizes.gates.1)) e
 
-  gate-number : (n : ℕ) → n < gates → gate_of gates (decimal n) ≡ Ok n
+  gate-number : (n : ℕ) → n < gates → gate_word gates (decimal n) ≡ Ok n
   gate-number n h = below-number gates causes.Gatekeeper n (omega (arith, sizes.gates.1)) h
 
-  shard-ok : (word : Word) (n : ℕ) → shard_of shards word ≡ Ok n → (n < shards) × (word ≡ decimal n)
+  shard-ok : (word : Word) (n : ℕ) → shard_word shards word ≡ Ok n → (n < shards) × (word ≡ decimal n)
   shard-ok word n e = below-ok shards causes.Shard word n sizes.shards.0 sizes.shards.1 e
 
-  shard-number : (n : ℕ) → n < shards → shard_of shards (decimal n) ≡ Ok n
+  shard-number : (n : ℕ) → n < shards → shard_word shards (decimal n) ≡ Ok n
   shard-number n h = below-number shards causes.Shard n sizes.shards.1 h
 
-  notice-ok : (word : Word) (n : ℕ) → notice_of word ≡ Ok n → IsNotice n × (word ≡ decimal n)
+  notice-ok : (word : Word) (n : ℕ) → notice_word word ≡ Ok n → IsNotice n × (word ≡ decimal n)
   notice-ok word n e = let h = number_in-ok laws 1 100000 causes.Number word n (lit< tt) e in ((h.0, h.1), h.2)
 
-  notice-number : (n : ℕ) → IsNotice n → notice_of (decimal n) ≡ Ok n
+  notice-number : (n : ℕ) → IsNotice n → notice_word (decimal n) ≡ Ok n
   notice-number n h = number_in-number laws 1 100000 causes.Number n (lit< tt) h.0 h.1
 
-  epoch-ok : (word : Word) (n : ℕ) → epoch_of word ≡ Ok n → (1 ≤ n) × (n ≤ 1000000) × (word ≡ decimal n)
+  epoch-ok : (word : Word) (n : ℕ) → epoch_word word ≡ Ok n → (1 ≤ n) × (n ≤ 1000000) × (word ≡ decimal n)
   epoch-ok word n e = number_in-ok laws 1 1000000 causes.Number word n (lit< tt) e
 
-  epoch-number : (n : ℕ) → 1 ≤ n → n ≤ 1000000 → epoch_of (decimal n) ≡ Ok n
+  epoch-number : (n : ℕ) → 1 ≤ n → n ≤ 1000000 → epoch_word (decimal n) ≡ Ok n
   epoch-number n low high = number_in-number laws 1 1000000 causes.Number n (lit< tt) low high
 
   found : (o : Option ℕ) (n : ℕ) → or_refused causes.Request o ≡ Ok n → o ≡ Some n
@@ -69,7 +69,7 @@ module _ (laws : NumberLaws) (gates shards : ℕ) (sizes : AreSizes gates shards
 
   request-ok : (word : Word) (n : ℕ) → named_request places word ≡ Ok n → (n < length requests) × (word ≡ name_of_request requests n)
   request-ok word n e =
-      let step = bind_ok (name_of word) (λ name. or_refused causes.Request (places name)) n e in
+      let step = bind_ok (name_word word) (λ name. or_refused causes.Request (places name)) n e in
       let name = name_of-ok word step.0 step.1 in
       let is_at = named-from_place_of step.0 requests n (found (places step.0) n step.2) in
       (is_at.there, name.1 ∙ sym is_at.named)
@@ -83,7 +83,7 @@ module _ (laws : NumberLaws) (gates shards : ℕ) (sizes : AreSizes gates shards
   gate_step : (text : Word) (make : ℕ → Step) → ((n : ℕ) → n < gates → IsReadStep (text ∷ decimal n ∷ []) (make n))
       → (word field : Word) (step : Step) → bytes_eq word text ≡ true → of_gate gates shards make field ≡ Ok step → IsReadStep (word ∷ field ∷ []) step
   gate_step text make good word field step same e =
-      let read = bind_ok (gate_of gates field) (λ gate. Ok (make gate)) step e in
+      let read = bind_ok (gate_word gates field) (λ gate. Ok (make gate)) step e in
       let gate = gate-ok field read.0 read.1 in
       subst (λ word. IsReadStep (word ∷ field ∷ []) step) (sym (is_word word text same))
       (subst (λ field. IsReadStep (text ∷ field ∷ []) step) (sym gate.1) (subst (IsReadStep (text ∷ decimal read.0 ∷ [])) (ok_is {E = Cause} (make read.0) step read.2) (good read.0 gate.0)))
@@ -91,7 +91,7 @@ module _ (laws : NumberLaws) (gates shards : ℕ) (sizes : AreSizes gates shards
   shard_step : (text : Word) (make : ℕ → Step) → ((n : ℕ) → n < shards → IsReadStep (text ∷ decimal n ∷ []) (make n))
       → (word field : Word) (step : Step) → bytes_eq word text ≡ true → of_shard gates shards make field ≡ Ok step → IsReadStep (word ∷ field ∷ []) step
   shard_step text make good word field step same e =
-      let read = bind_ok (shard_of shards field) (λ shard. Ok (make shard)) step e in
+      let read = bind_ok (shard_word shards field) (λ shard. Ok (make shard)) step e in
       let shard = shard-ok field read.0 read.1 in
       subst (λ word. IsReadStep (word ∷ field ∷ []) step) (sym (is_word word text same))
       (subst (λ field. IsReadStep (text ∷ field ∷ []) step) (sym shard.1) (subst (IsReadStep (text ∷ decimal read.0 ∷ [])) (ok_is {E = Cause} (make read.0) step read.2) (good read.0 shard.0)))
@@ -116,32 +116,32 @@ module _ (laws : NumberLaws) (gates shards : ℕ) (sizes : AreSizes gates shards
 
   hear-ok : (first second : Word) (step : Step) → hear_of gates shards first second ≡ Ok step → IsReadStep (codes "hear" ∷ first ∷ second ∷ []) step
   hear-ok first second step e =
-      let a = bind_ok (gate_of gates first) (λ gate. notice_of second >>= λ notice. Ok (Hear gate notice)) step e in
-      let b = bind_ok (notice_of second) (λ notice. Ok (Hear a.0 notice)) step a.2 in
+      let a = bind_ok (gate_word gates first) (λ gate. notice_word second >>= λ notice. Ok (Hear gate notice)) step e in
+      let b = bind_ok (notice_word second) (λ notice. Ok (Hear a.0 notice)) step a.2 in
       let gate = gate-ok first a.0 a.1 in
       let notice = notice-ok second b.0 b.1 in
       subst (IsReadStep (codes "hear" ∷ first ∷ second ∷ [])) (ok_is {E = Cause} (Hear a.0 b.0) step b.2) ((gate.0, notice.0), λ i. codes "hear" ∷ gate.1 i ∷ notice.1 i ∷ [])
 
   nop-ok : (first second : Word) (step : Step) → nop_of gates shards first second ≡ Ok step → IsReadStep (codes "nop" ∷ first ∷ second ∷ []) step
   nop-ok first second step e =
-      let a = bind_ok (gate_of gates first) (λ gate. of_shard gates shards (λ shard. Nop gate shard) second) step e in
-      let b = bind_ok (shard_of shards second) (λ shard. Ok (Nop a.0 shard)) step a.2 in
+      let a = bind_ok (gate_word gates first) (λ gate. of_shard gates shards (λ shard. Nop gate shard) second) step e in
+      let b = bind_ok (shard_word shards second) (λ shard. Ok (Nop a.0 shard)) step a.2 in
       let gate = gate-ok first a.0 a.1 in
       let shard = shard-ok second b.0 b.1 in
       subst (IsReadStep (codes "nop" ∷ first ∷ second ∷ [])) (ok_is {E = Cause} (Nop a.0 b.0) step b.2) ((gate.0, shard.0), λ i. codes "nop" ∷ gate.1 i ∷ shard.1 i ∷ [])
 
   apply-ok : (first second : Word) (step : Step) → apply_of gates shards first second ≡ Ok step → IsReadStep (codes "apply" ∷ first ∷ second ∷ []) step
   apply-ok first second step e =
-      let a = bind_ok (shard_of shards first) (λ shard. of_gate gates shards (λ gate. Apply shard gate) second) step e in
-      let b = bind_ok (gate_of gates second) (λ gate. Ok (Apply a.0 gate)) step a.2 in
+      let a = bind_ok (shard_word shards first) (λ shard. of_gate gates shards (λ gate. Apply shard gate) second) step e in
+      let b = bind_ok (gate_word gates second) (λ gate. Ok (Apply a.0 gate)) step a.2 in
       let shard = shard-ok first a.0 a.1 in
       let gate = gate-ok second b.0 b.1 in
       subst (IsReadStep (codes "apply" ∷ first ∷ second ∷ [])) (ok_is {E = Cause} (Apply a.0 b.0) step b.2) ((shard.0, gate.0), λ i. codes "apply" ∷ shard.1 i ∷ gate.1 i ∷ [])
 
   epoch_step-ok : (first second : Word) (step : Step) → epoch_step_of gates shards first second ≡ Ok step → IsReadStep (codes "epoch" ∷ first ∷ second ∷ []) step
   epoch_step-ok first second step e =
-      let a = bind_ok (gate_of gates first) (λ gate. epoch_of second >>= λ epoch. Ok (Epoch gate epoch)) step e in
-      let b = bind_ok (epoch_of second) (λ epoch. Ok (Epoch a.0 epoch)) step a.2 in
+      let a = bind_ok (gate_word gates first) (λ gate. epoch_word second >>= λ epoch. Ok (Epoch gate epoch)) step e in
+      let b = bind_ok (epoch_word second) (λ epoch. Ok (Epoch a.0 epoch)) step a.2 in
       let gate = gate-ok first a.0 a.1 in
       let epoch = epoch-ok second b.0 b.1 in
       subst (IsReadStep (codes "epoch" ∷ first ∷ second ∷ [])) (ok_is {E = Cause} (Epoch a.0 b.0) step b.2) ((gate.0, epoch.0, epoch.1), λ i. codes "epoch" ∷ gate.1 i ∷ epoch.2 i ∷ [])
@@ -158,9 +158,9 @@ module _ (laws : NumberLaws) (gates shards : ℕ) (sizes : AreSizes gates shards
 
   deliver-ok : (first second third : Word) (step : Step) → deliver_of gates shards first second third ≡ Ok step → IsReadStep (codes "deliver" ∷ first ∷ second ∷ third ∷ []) step
   deliver-ok first second third step e =
-      let a = bind_ok (gate_of gates first) (λ gate. shard_of shards second >>= λ shard. notice_of third >>= λ number. Ok (Deliver gate shard number)) step e in
-      let b = bind_ok (shard_of shards second) (λ shard. notice_of third >>= λ number. Ok (Deliver a.0 shard number)) step a.2 in
-      let c = bind_ok (notice_of third) (λ number. Ok (Deliver a.0 b.0 number)) step b.2 in
+      let a = bind_ok (gate_word gates first) (λ gate. shard_word shards second >>= λ shard. notice_word third >>= λ number. Ok (Deliver gate shard number)) step e in
+      let b = bind_ok (shard_word shards second) (λ shard. notice_word third >>= λ number. Ok (Deliver a.0 shard number)) step a.2 in
+      let c = bind_ok (notice_word third) (λ number. Ok (Deliver a.0 b.0 number)) step b.2 in
       let gate = gate-ok first a.0 a.1 in
       let shard = shard-ok second b.0 b.1 in
       let number = notice-ok third c.0 c.1 in
@@ -181,21 +181,21 @@ module _ (laws : NumberLaws) (gates shards : ℕ) (sizes : AreSizes gates shards
 
   -- ---- lines read again
 
-  module _ (all : AllByRecursion (IsRequest gates) requests) (distinct : IsDistinct same_name (names_of requests)) where
+  module _ (all : AllByRecursion (IsRequest gates) requests) (distinct : IsDistinct same_name (request_names requests)) where
     request-name : (n : ℕ) → n < length requests → named_request places (name_of_request requests n) ≡ Ok n
     request-name n h =
         let name = name_of_request requests n in
-        bind_at (name_of name) (λ name. or_refused causes.Request (places name)) name (name_of-name name (request_is_named gates requests n all h))
+        bind_at (name_word name) (λ name. or_refused causes.Request (places name)) name (name_of-name name (request_is_named gates requests n all h))
         ∙ ap (or_refused causes.Request) (place_of-name requests n distinct h)
 
     request_again : (make : ℕ → Step) (n : ℕ) → n < length requests → of_request gates shards places make (name_of_request requests n) ≡ Ok (make n)
     request_again make n h = bind_at (named_request places (name_of_request requests n)) (λ request. Ok (make request)) n (request-name n h)
 
     gate_again : (make : ℕ → Step) (n : ℕ) → n < gates → of_gate gates shards make (decimal n) ≡ Ok (make n)
-    gate_again make n h = bind_at (gate_of gates (decimal n)) (λ gate. Ok (make gate)) n (gate-number n h)
+    gate_again make n h = bind_at (gate_word gates (decimal n)) (λ gate. Ok (make gate)) n (gate-number n h)
 
     shard_again : (make : ℕ → Step) (n : ℕ) → n < shards → of_shard gates shards make (decimal n) ≡ Ok (make n)
-    shard_again make n h = bind_at (shard_of shards (decimal n)) (λ shard. Ok (make shard)) n (shard-number n h)
+    shard_again make n h = bind_at (shard_word shards (decimal n)) (λ shard. Ok (make shard)) n (shard-number n h)
 
     -- a step's line is read as it
     pub step_of-line : (step : Step) → IsStep gates shards (length requests) step → step_of gates shards places (step_line requests step) ≡ Ok step
@@ -207,16 +207,16 @@ module _ (laws : NumberLaws) (gates shards : ℕ) (sizes : AreSizes gates shards
     step_of-line (Reply request) h = request_again (λ request. Reply request) request h
     step_of-line (Collect shard) h = shard_again (λ shard. Collect shard) shard h
     step_of-line (Hear gate notice) h =
-        bind_at (gate_of gates (decimal gate)) (λ gate. notice_of (decimal notice) >>= λ notice. Ok (Hear gate notice)) gate (gate-number gate h.0)
-        ∙ bind_at (notice_of (decimal notice)) (λ notice. Ok (Hear gate notice)) notice (notice-number notice h.1)
+        bind_at (gate_word gates (decimal gate)) (λ gate. notice_word (decimal notice) >>= λ notice. Ok (Hear gate notice)) gate (gate-number gate h.0)
+        ∙ bind_at (notice_word (decimal notice)) (λ notice. Ok (Hear gate notice)) notice (notice-number notice h.1)
     step_of-line (Nop gate shard) h =
-        bind_at (gate_of gates (decimal gate)) (λ gate. of_shard gates shards (λ shard. Nop gate shard) (decimal shard)) gate (gate-number gate h.0) ∙ shard_again (λ shard. Nop gate shard) shard h.1
+        bind_at (gate_word gates (decimal gate)) (λ gate. of_shard gates shards (λ shard. Nop gate shard) (decimal shard)) gate (gate-number gate h.0) ∙ shard_again (λ shard. Nop gate shard) shard h.1
     step_of-line (Apply shard gate) h =
-        bind_at (shard_of shards (decimal shard)) (λ shard. of_gate gates shards (λ gate. Apply shard gate) (decimal gate)) shard (shard-number shard h.0) ∙ gate_again (λ gate. Apply shard gate) gate h.1
+        bind_at (shard_word shards (decimal shard)) (λ shard. of_gate gates shards (λ gate. Apply shard gate) (decimal gate)) shard (shard-number shard h.0) ∙ gate_again (λ gate. Apply shard gate) gate h.1
     step_of-line (Epoch gate epoch) h =
-        bind_at (gate_of gates (decimal gate)) (λ gate. epoch_of (decimal epoch) >>= λ epoch. Ok (Epoch gate epoch)) gate (gate-number gate h.0)
-        ∙ bind_at (epoch_of (decimal epoch)) (λ epoch. Ok (Epoch gate epoch)) epoch (epoch-number epoch h.1 h.2)
+        bind_at (gate_word gates (decimal gate)) (λ gate. epoch_word (decimal epoch) >>= λ epoch. Ok (Epoch gate epoch)) gate (gate-number gate h.0)
+        ∙ bind_at (epoch_word (decimal epoch)) (λ epoch. Ok (Epoch gate epoch)) epoch (epoch-number epoch h.1 h.2)
     step_of-line (Deliver gate shard number) h =
-        bind_at (gate_of gates (decimal gate)) (λ gate. shard_of shards (decimal shard) >>= λ shard. notice_of (decimal number) >>= λ number. Ok (Deliver gate shard number)) gate (gate-number gate h.0)
-        ∙ bind_at (shard_of shards (decimal shard)) (λ shard. notice_of (decimal number) >>= λ number. Ok (Deliver gate shard number)) shard (shard-number shard h.1)
-        ∙ bind_at (notice_of (decimal number)) (λ number. Ok (Deliver gate shard number)) number (notice-number number h.2)
+        bind_at (gate_word gates (decimal gate)) (λ gate. shard_word shards (decimal shard) >>= λ shard. notice_word (decimal number) >>= λ number. Ok (Deliver gate shard number)) gate (gate-number gate h.0)
+        ∙ bind_at (shard_word shards (decimal shard)) (λ shard. notice_word (decimal number) >>= λ number. Ok (Deliver gate shard number)) shard (shard-number shard h.1)
+        ∙ bind_at (notice_word (decimal number)) (λ number. Ok (Deliver gate shard number)) number (notice-number number h.2)

@@ -5,7 +5,7 @@ use Rattle.weave_script.specs.declared.fault.ScriptFault.{ScriptFault}
 use Rattle.weave_script.specs.declared.fault.ScriptFault.TheVariants.{Refused, Memory}
 
 -- if a line was refused, P holds of its number and the cause
-abbrev pub IfRefused : {A : Type 0} → Result A ScriptFault → (ℕ → Cause → Type 0) → Type 0
-IfRefused (Ok answer) P = Unit {0}
-IfRefused (Err (Refused line cause)) P = P line cause
-IfRefused (Err Memory) P = Unit {0}
+abbrev pub IfScriptRefused : {A : Type 0} → Result A ScriptFault → (ℕ → Cause → Type 0) → Type 0
+IfScriptRefused (Ok answer) P = Unit {0}
+IfScriptRefused (Err (Refused line cause)) P = P line cause
+IfScriptRefused (Err Memory) P = Unit {0}

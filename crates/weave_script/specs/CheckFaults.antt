@@ -2,7 +2,7 @@
 use Rattle.std.specs.Prelude.{◌≡◌, ◌+◌, ℕ, Bool, true, false, ◌&&◌, List, [], ◌∷◌, length}
 use Rattle.program_defs.specs.declared.script.Script.{Script}
 use Rattle.weave_report.specs.FirstRefusal.{IsFirstRefusal}
-use Rattle.weave_report.specs.Reading as report
+use Rattle.weave_report.specs.Reading.{report_start}
 use Rattle.weave_report.specs.declared.fault.ReportCause.{ReportCause}
 use Rattle.weave_text.specs.Cutting.{lines_of, words_of}
 use Rattle.weave_text.specs.Lines.{Bytes}
@@ -29,5 +29,5 @@ pub data IsFirstCheckFault (bytes : Bytes) : Fault → Type 0 where
       → IsFirstCheckFault bytes (record { line = 1 + length (lines_of bytes); cause = causes.End })
   InReport : (script : Script) (left : List Bytes) (line : ℕ) (cause : ReportCause) (head : IsHead bytes script left)
       → begins_report left ≡ true
-      → IsFirstRefusal script (1 + length head.front) report.start left (line, cause)
+      → IsFirstRefusal script (1 + length head.front) report_start left (line, cause)
       → IsFirstCheckFault bytes (record { line = line; cause = cause_of cause })

@@ -20,8 +20,8 @@ or_refused cause None = Err cause
 or_refused cause (Some value) = Ok value
 
 -- the name that the word is
-abbrev pub name_of : Word → ReadOrCause Name
-name_of word = if is_name word then Ok word else Err causes.Name
+abbrev pub name_word : Word → ReadOrCause Name
+name_word word = if is_name word then Ok word else Err causes.Name
 
 -- the number that was found, or this cause for a larger one
 abbrev pub found_number : Cause → Numeral → ReadOrCause ℕ

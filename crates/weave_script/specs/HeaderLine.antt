@@ -5,13 +5,14 @@ use Rattle.weave_text.specs.Lines.{Word, Line}
 use Rattle.weave_text.specs.Numbers.{is_number}
 use Rattle.weave_script.specs.declared.fault.Cause.TheVariants as causes
 use Rattle.weave_data.specs.Steps.{◌>>=◌}
+use Rattle.weave_data.specs.Limits.{most_gates, most_shards}
 use Rattle.weave_script.specs.Fields.{ReadOrCause, number_in}
 
 -- the numbers of gatekeepers and of shards that two words are
 abbrev pub sizes_of : Word → Word → ReadOrCause (ℕ × ℕ)
 sizes_of gates shards =
-    number_in 1 8 causes.Gatekeepers gates >>= λ gates.
-    number_in 1 16 causes.Shards shards >>= λ shards.
+    number_in 1 most_gates causes.Gatekeepers gates >>= λ gates.
+    number_in 1 most_shards causes.Shards shards >>= λ shards.
     Ok (gates, shards)
 
 -- those of the header, which is first judged as a whole

@@ -7,10 +7,10 @@ use Rattle.program_defs.specs.declared.script.Request.{Request}
 use Rattle.weave_script.specs.declared.fault.LineFault.{LineFault}
 use Rattle.weave_script.specs.declared.fault.LineFault.TheVariants.{Refused, Memory}
 use Rattle.weave_script.specs.declared.read.index.Index.{Index}
-use Rattle.weave_script.specs.declared.read.reader.Reader.{Reader}
+use Rattle.weave_script.specs.declared.read.lines.Reader.{Reader}
 use Rattle.weave_script.specs.declared.read.reading.Reading.{Reading}
 use Rattle.weave_script.specs.Fields.{ReadOrCause}
-use Rattle.weave_script.specs.Limits.{over_limit, vertices_of, programs_of, gets_of}
+use Rattle.weave_script.specs.Limits.{over_limit, vertices_of, count_programs, count_gets}
 use Rattle.weave_script.specs.Reading.{requests_so_far, counts_so_far}
 use Rattle.weave_script.specs.StepLines.{place_of}
 
@@ -31,8 +31,8 @@ IsNewRequest name place requests = (place_of name requests ≡ None) × (place �
 pub record IsIndexOf (index : Index) (requests : List Request) : Type 0 where
   pub places : IsPlaces index.places.entries requests
   pub vertices : IsSetOf index.vertices.entries (vertices_of requests)
-  pub programs : index.programs ≡ programs_of requests
-  pub gets : index.gets ≡ gets_of requests
+  pub programs : index.programs ≡ count_programs requests
+  pub gets : index.gets ≡ count_gets requests
 
 -- the reader's index is that of its requests so far
 abbrev pub IsIndexed : Reader → Type 0

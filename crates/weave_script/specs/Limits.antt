@@ -2,6 +2,7 @@
 use Rattle.std.specs.Prelude.{ℕ, ◌<◌, ◌≤◌, List, [], ◌∷◌, length, fold, sum_by, count_by, Option, Some, None, option_to_list, nat_lt, if◌then◌else◌}
 use Rattle.std.specs.List.{flat_map}
 use Rattle.weave_data.specs.declared.name.Name.{Name}
+use Rattle.weave_data.specs.Limits.{most_bytes, most_gets, most_ops, most_programs, most_requests, most_steps, most_vertices}
 use Rattle.graph_ops.specs.Mentions.{with_name}
 use Rattle.graph_ops.specs.Operations.{is_get, target_of, vertex_of}
 use Rattle.graph_ops.specs.declared.op.Op.{Op}
@@ -15,10 +16,6 @@ use Rattle.weave_script.specs.declared.fault.Cause.{Cause}
 use Rattle.weave_script.specs.declared.fault.Cause.TheVariants as causes
 use Rattle.weave_script.specs.declared.read.reading.Counts.{Counts}
 
--- how many bytes a text may have
-abbrev pub most_bytes : ℕ
-most_bytes = 4194304
-
 -- a text that may be read, and one that is too long
 abbrev pub IsShort : List ℕ → Type 0
 IsShort bytes = length bytes ≤ most_bytes
@@ -29,12 +26,12 @@ IsLong bytes = most_bytes < length bytes
 -- the table of limits: the cause of the first one that is met
 abbrev pub over_limit : Counts → Option Cause
 over_limit counts =
-    if nat_lt 64 counts.operations then Some causes.Operations
-    else if nat_lt 10000 counts.requests then Some causes.Requests
-    else if nat_lt 1000 counts.programs then Some causes.Programs
-    else if nat_lt 1000 counts.gets then Some causes.Gets
-    else if nat_lt 10000 counts.vertices then Some causes.Vertices
-    else if nat_lt 100000 counts.steps then Some causes.Steps
+    if nat_lt most_ops counts.operations then Some causes.Operations
+    else if nat_lt most_requests counts.requests then Some causes.Requests
+    else if nat_lt most_programs counts.programs then Some causes.Programs
+    else if nat_lt most_gets counts.gets then Some causes.Gets
+    else if nat_lt most_vertices counts.vertices then Some causes.Vertices
+    else if nat_lt most_steps counts.steps then Some causes.Steps
     else None
 
 -- the names in an operation that are of vertices
@@ -67,20 +64,20 @@ gets_of_work (Change ops) = count_by is_get ops
 gets_of_work (Look program) = 0
 
 -- and how many in all
-abbrev pub gets_of : List Request → ℕ
-gets_of requests = sum_by (λ request. gets_of_work request.work) requests
+abbrev pub count_gets : List Request → ℕ
+count_gets requests = sum_by (λ request. gets_of_work request.work) requests
 
 -- how many requests are programs
-abbrev pub programs_of : List Request → ℕ
-programs_of requests = count_by (λ request. is_look request.work) requests
+abbrev pub count_programs : List Request → ℕ
+count_programs requests = count_by (λ request. is_look request.work) requests
 
 -- the counts of a script, by the numbers of an open transaction's operations and of steps, and by the requests
-abbrev pub counts_of : ℕ → List Request → ℕ → Counts
-counts_of operations requests steps = record {
+abbrev pub counts_of_script : ℕ → List Request → ℕ → Counts
+counts_of_script operations requests steps = record {
   operations = operations;
   requests = length requests;
-  programs = programs_of requests;
-  gets = gets_of requests;
+  programs = count_programs requests;
+  gets = count_gets requests;
   vertices = length (vertices_of requests);
   steps = steps;
 }

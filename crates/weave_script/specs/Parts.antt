@@ -10,7 +10,7 @@ use Rattle.weave_script.specs.declared.read.head.Head.{Head}
 use Rattle.weave_script.specs.declared.read.part.Part.{Part}
 use Rattle.weave_script.specs.declared.read.part.Taken.{Taken}
 use Rattle.weave_script.specs.declared.read.part.Taken.TheVariants as taken
-use Rattle.weave_script.specs.declared.read.reader.Reader.{Reader}
+use Rattle.weave_script.specs.declared.read.lines.Reader.{Reader}
 use Rattle.weave_script.specs.declared.read.reading.Reading.{Reading}
 use Rattle.weave_script.specs.Indexed.{IsReaderReady}
 use Rattle.weave_script.specs.ReadText.{Fault, is_open, is_report}

@@ -13,7 +13,7 @@ use Rattle.weave_script.specs.declared.read.reading.Reading.{Reading}
 use Rattle.weave_data.specs.Steps.{◌>>=◌}
 use Rattle.weave_script.specs.Fields.{ReadOrCause}
 use Rattle.weave_script.specs.Reading.{start, after_line}
-use Rattle.weave_script.specs.Limits.{most_bytes}
+use Rattle.weave_data.specs.Limits.{most_bytes}
 
 -- a line, by its number from 1, or 0 for the whole text, and what is wrong with it
 pub record Fault : Type 0 where
@@ -91,8 +91,8 @@ head_before n script [] = Err (record { line = n; cause = causes.End })
 head_before n script (line ∷ lines) = Ok (record { script = script; line = n; left = line ∷ lines })
 
 -- the script before a report
-abbrev pub head_of : Bytes → Result Head Fault
-head_of bytes =
+abbrev pub head_of_text : Bytes → Result Head Fault
+head_of_text bytes =
     read_part true bytes >>= λ part.
     at_line part.line (script_at part.reading.place part.reading) >>= λ script.
     head_before part.line script part.left

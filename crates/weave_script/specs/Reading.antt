@@ -17,7 +17,7 @@ use Rattle.weave_script.specs.declared.read.reading.Reading.{Reading}
 use Rattle.weave_data.specs.Steps.{◌>>=◌}
 use Rattle.weave_script.specs.Fields.{ReadOrCause}
 use Rattle.weave_script.specs.HeaderLine.{header_of}
-use Rattle.weave_script.specs.Limits.{over_limit, counts_of}
+use Rattle.weave_script.specs.Limits.{over_limit, counts_of_script}
 use Rattle.weave_script.specs.OpLines.{is_end, op_of}
 use Rattle.weave_script.specs.RequestLines.{request_of, tx_of, prog_of}
 use Rattle.weave_script.specs.StepLines.{place_of, step_of}
@@ -50,7 +50,7 @@ steps_so_far (Behind steps) = steps
 -- what has a limit so far
 abbrev pub counts_so_far : Reading → Counts
 counts_so_far reading =
-    counts_of (length (operations_so_far reading.place)) (requests_so_far reading.place reading.requests)
+    counts_of_script (length (operations_so_far reading.place)) (requests_so_far reading.place reading.requests)
     (length (steps_so_far reading.place))
 
 -- refused if a request has the name

@@ -11,13 +11,14 @@ use Rattle.weave_text.specs.Lines.{Word, Line}
 use Rattle.weave_script.specs.declared.fault.Cause.TheVariants as causes
 use Rattle.weave_script.specs.declared.read.reading.Opening.{Opening}
 use Rattle.weave_data.specs.Steps.{◌>>=◌}
-use Rattle.weave_script.specs.Fields.{ReadOrCause, or_refused, name_of, number_in}
+use Rattle.weave_data.specs.Limits.{last_session, most_bound}
+use Rattle.weave_script.specs.Fields.{ReadOrCause, or_refused, name_word, number_in}
 
 -- the name, the session and the gatekeeper, below `gates`, of a request
 abbrev pub opening_of : ℕ → Word → Word → Word → ReadOrCause Opening
 opening_of gates name session gate =
-    name_of name >>= λ name.
-    number_in 0 63 causes.Session session >>= λ session.
+    name_word name >>= λ name.
+    number_in 0 last_session causes.Session session >>= λ session.
     number_in 0 (gates - 1) causes.Gatekeeper gate >>= λ gate.
     Ok (record { name = name; session = session; gate = gate })
 
@@ -36,7 +37,7 @@ Form A = Option (ReadOrCause A)
 
 -- the filter by a key and a value
 abbrev pub tag_of : Word → Word → ReadOrCause (Option Filter)
-tag_of key value = name_of key >>= λ key. name_of value >>= λ value. Ok (Some (record { key = key; value = value }))
+tag_of key value = name_word key >>= λ key. name_word value >>= λ value. Ok (Some (record { key = key; value = value }))
 
 -- no filter, or a key and a value after `where`
 abbrev pub filter_of : Line → Form (Option Filter)
@@ -46,23 +47,24 @@ filter_of (word ∷ key ∷ value ∷ []) =
 filter_of _ = None
 
 -- a bound on edges
-abbrev pub bound_of : Word → ReadOrCause ℕ
-bound_of = number_in 0 1000 causes.Bound
+abbrev pub bound_word : Word → ReadOrCause ℕ
+bound_word = number_in 0 most_bound causes.Bound
 
 -- a program by its fields, from the left; a filter is read last
 abbrev pub show_program : Word → ReadOrCause Program
-show_program v = name_of v >>= λ v. Ok (Show v)
+show_program v = name_word v >>= λ v. Ok (Show v)
 
 abbrev pub reach_program : Word → Word → ReadOrCause (Option Filter) → ReadOrCause Program
-reach_program from to filter = name_of from >>= λ from. name_of to >>= λ to. filter >>= λ pass. Ok (Reach from to pass)
+reach_program from to filter =
+    name_word from >>= λ from. name_word to >>= λ to. filter >>= λ pass. Ok (Reach from to pass)
 
 abbrev pub around_program : Word → Word → ReadOrCause (Option Filter) → ReadOrCause Program
 around_program from bound filter =
-    name_of from >>= λ from. bound_of bound >>= λ bound. filter >>= λ pass. Ok (Around from bound pass)
+    name_word from >>= λ from. bound_word bound >>= λ bound. filter >>= λ pass. Ok (Around from bound pass)
 
 abbrev pub path_program : Word → Word → Word → ReadOrCause (Option Filter) → ReadOrCause Program
 path_program from to bound filter =
-    name_of from >>= λ from. name_of to >>= λ to. bound_of bound >>= λ bound. filter >>= λ pass.
+    name_word from >>= λ from. name_word to >>= λ to. bound_word bound >>= λ bound. filter >>= λ pass.
     Ok (Path from to bound pass)
 
 -- the words after `show`

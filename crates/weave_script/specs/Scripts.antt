@@ -2,6 +2,7 @@
 use Rattle.std.specs.Prelude.{◌≡◌, ◌≤◌, ◌<◌, ℕ, List, [], ◌∷◌, length, Option, Some, None}
 use Rattle.std.specs.List.{AllByRecursion, IsDistinct}
 use Rattle.weave_data.specs.Names.{same_name}
+use Rattle.weave_data.specs.Limits.{last_session, most_bound, most_epoch, most_gates, most_notice, most_ops, most_shards}
 use Rattle.graph_ops.specs.Operations.{op_fields}
 use Rattle.graph_ops.specs.declared.op.Op.{Op}
 use Rattle.program_defs.specs.declared.program.Filter.{Filter}
@@ -13,8 +14,8 @@ use Rattle.program_defs.specs.declared.script.Step.{Step}
 use Rattle.program_defs.specs.declared.script.Step.TheVariants.{Begin, Judge, Send, Say, Hear, Nop, Deliver, Apply, Visit, Reply, Collect, Epoch}
 use Rattle.program_defs.specs.declared.script.Work.{Work}
 use Rattle.program_defs.specs.declared.script.Work.TheVariants.{Change, Look}
-pub use Rattle.weave_report.specs.TextOf.{IsName, names_of}
-use Rattle.weave_script.specs.Limits.{over_limit, counts_of}
+pub use Rattle.weave_report.specs.TextOf.{IsName, request_names}
+use Rattle.weave_script.specs.Limits.{over_limit, counts_of_script}
 
 -- every field is a name
 abbrev pub IsOperation : Op → Type 0
@@ -29,24 +30,24 @@ IsFilter (Some filter) = IsName filter.key × IsName filter.value
 abbrev pub IsProgram : Program → Type 0
 IsProgram (Show v) = IsName v
 IsProgram (Reach from to pass) = IsName from × IsName to × IsFilter pass
-IsProgram (Around from bound pass) = IsName from × (bound ≤ 1000) × IsFilter pass
-IsProgram (Path from to bound pass) = IsName from × IsName to × (bound ≤ 1000) × IsFilter pass
+IsProgram (Around from bound pass) = IsName from × (bound ≤ most_bound) × IsFilter pass
+IsProgram (Path from to bound pass) = IsName from × IsName to × (bound ≤ most_bound) × IsFilter pass
 
 -- a program, or at most 64 operations
 abbrev pub IsWork : Work → Type 0
-IsWork (Change ops) = AllByRecursion IsOperation ops × (length ops ≤ 64)
+IsWork (Change ops) = AllByRecursion IsOperation ops × (length ops ≤ most_ops)
 IsWork (Look program) = IsProgram program
 
 -- a request of a session 0 to 63 at one of `gates` gatekeepers
 pub record IsRequest (gates : ℕ) (request : Request) : Type 0 where
   pub name : IsName request.name
-  pub session : request.session ≤ 63
+  pub session : request.session ≤ last_session
   pub gate : request.gate < gates
   pub work : IsWork request.work
 
 -- a number of a notice or a message
 abbrev pub IsNotice : ℕ → Type 0
-IsNotice n = (1 ≤ n) × (n ≤ 100000)
+IsNotice n = (1 ≤ n) × (n ≤ most_notice)
 
 -- a step in a script with these numbers of gatekeepers, shards and requests
 abbrev pub IsStep : ℕ → ℕ → ℕ → Step → Type 0
@@ -61,7 +62,7 @@ IsStep gates shards requests (Apply shard gate) = (shard < shards) × (gate < ga
 IsStep gates shards requests (Visit request) = request < requests
 IsStep gates shards requests (Reply request) = request < requests
 IsStep gates shards requests (Collect shard) = shard < shards
-IsStep gates shards requests (Epoch gate epoch) = (gate < gates) × (1 ≤ epoch) × (epoch ≤ 1000000)
+IsStep gates shards requests (Epoch gate epoch) = (gate < gates) × (1 ≤ epoch) × (epoch ≤ most_epoch)
 
 -- each number is at least the one before it, the first is at least `low`, and all are at most `high`
 abbrev pub RiseTo : ℕ → ℕ → List ℕ → Type 0
@@ -76,10 +77,10 @@ steps_of (Some steps) = steps
 -- Everything is in its range, no two requests have the same name, phases are before, between and after requests in
 -- their order, and no limit is met.
 pub record IsScript (script : Script) : Type 0 where
-  pub gates : (1 ≤ script.gates) × (script.gates ≤ 8)
-  pub shards : (1 ≤ script.shards) × (script.shards ≤ 16)
+  pub gates : (1 ≤ script.gates) × (script.gates ≤ most_gates)
+  pub shards : (1 ≤ script.shards) × (script.shards ≤ most_shards)
   pub requests : AllByRecursion (IsRequest script.gates) script.requests
-  pub distinct : IsDistinct same_name (names_of script.requests)
+  pub distinct : IsDistinct same_name (request_names script.requests)
   pub phases : RiseTo 0 (length script.requests) script.phases
   pub steps : AllByRecursion (IsStep script.gates script.shards (length script.requests)) (steps_of script.steps)
-  pub within : over_limit (counts_of 0 script.requests (length (steps_of script.steps))) ≡ None
+  pub within : over_limit (counts_of_script 0 script.requests (length (steps_of script.steps))) ≡ None

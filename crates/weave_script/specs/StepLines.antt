@@ -10,7 +10,8 @@ use Rattle.program_defs.specs.declared.script.Step.TheVariants.{Begin, Judge, Se
 use Rattle.weave_text.specs.Lines.{Word, Line}
 use Rattle.weave_script.specs.declared.fault.Cause.TheVariants as causes
 use Rattle.weave_data.specs.Steps.{◌>>=◌}
-use Rattle.weave_script.specs.Fields.{ReadOrCause, or_refused, name_of, number_in}
+use Rattle.weave_data.specs.Limits.{most_epoch, most_notice}
+use Rattle.weave_script.specs.Fields.{ReadOrCause, or_refused, name_word, number_in}
 
 -- the place, from 0, of the request of a name
 abbrev pub place_of : Name → List Request → Option ℕ
@@ -18,45 +19,45 @@ place_of name requests = position_from (λ request. same_name request.name name)
 
 -- the place of the request that a word names, by the places of names
 abbrev pub named_request : (Name → Option ℕ) → Word → ReadOrCause ℕ
-named_request places word = name_of word >>= λ name. or_refused causes.Request (places name)
+named_request places word = name_word word >>= λ name. or_refused causes.Request (places name)
 
 -- reads a word as a gatekeeper number below `gates`
-abbrev pub gate_of : ℕ → Word → ReadOrCause ℕ
-gate_of gates = number_in 0 (gates - 1) causes.Gatekeeper
+abbrev pub gate_word : ℕ → Word → ReadOrCause ℕ
+gate_word gates = number_in 0 (gates - 1) causes.Gatekeeper
 
 -- reads a word as a shard number below `shards`
-abbrev pub shard_of : ℕ → Word → ReadOrCause ℕ
-shard_of shards = number_in 0 (shards - 1) causes.Shard
+abbrev pub shard_word : ℕ → Word → ReadOrCause ℕ
+shard_word shards = number_in 0 (shards - 1) causes.Shard
 
 -- the number of a notice or a message
-abbrev pub notice_of : Word → ReadOrCause ℕ
-notice_of = number_in 1 100000 causes.Number
+abbrev pub notice_word : Word → ReadOrCause ℕ
+notice_word = number_in 1 most_notice causes.Number
 
 -- the number of an epoch
-abbrev pub epoch_of : Word → ReadOrCause ℕ
-epoch_of = number_in 1 1000000 causes.Number
+abbrev pub epoch_word : Word → ReadOrCause ℕ
+epoch_word = number_in 1 most_epoch causes.Number
 
 module _ (gates shards : ℕ) where
   -- what is made of a gatekeeper
   abbrev pub of_gate : (ℕ → Step) → Word → ReadOrCause Step
-  of_gate make field = gate_of gates field >>= λ gate. Ok (make gate)
+  of_gate make field = gate_word gates field >>= λ gate. Ok (make gate)
 
   -- what is made of a shard
   abbrev pub of_shard : (ℕ → Step) → Word → ReadOrCause Step
-  of_shard make field = shard_of shards field >>= λ shard. Ok (make shard)
+  of_shard make field = shard_word shards field >>= λ shard. Ok (make shard)
 
   -- the steps with two fields, from the left
   abbrev pub hear_of : Word → Word → ReadOrCause Step
-  hear_of first second = gate_of gates first >>= λ gate. notice_of second >>= λ notice. Ok (Hear gate notice)
+  hear_of first second = gate_word gates first >>= λ gate. notice_word second >>= λ notice. Ok (Hear gate notice)
 
   abbrev pub nop_of : Word → Word → ReadOrCause Step
-  nop_of first second = gate_of gates first >>= λ gate. of_shard (λ shard. Nop gate shard) second
+  nop_of first second = gate_word gates first >>= λ gate. of_shard (λ shard. Nop gate shard) second
 
   abbrev pub apply_of : Word → Word → ReadOrCause Step
-  apply_of first second = shard_of shards first >>= λ shard. of_gate (λ gate. Apply shard gate) second
+  apply_of first second = shard_word shards first >>= λ shard. of_gate (λ gate. Apply shard gate) second
 
   abbrev pub epoch_step_of : Word → Word → ReadOrCause Step
-  epoch_step_of first second = gate_of gates first >>= λ gate. epoch_of second >>= λ epoch. Ok (Epoch gate epoch)
+  epoch_step_of first second = gate_word gates first >>= λ gate. epoch_word second >>= λ epoch. Ok (Epoch gate epoch)
 
   -- a step with two fields
   abbrev pub step_of_two : Word → Word → Word → ReadOrCause Step
@@ -70,7 +71,7 @@ module _ (gates shards : ℕ) where
   -- the step with three fields, from the left
   abbrev pub deliver_of : Word → Word → Word → ReadOrCause Step
   deliver_of first second third =
-      gate_of gates first >>= λ gate. shard_of shards second >>= λ shard. notice_of third >>= λ number.
+      gate_word gates first >>= λ gate. shard_word shards second >>= λ shard. notice_word third >>= λ number.
       Ok (Deliver gate shard number)
 
   -- a step with three fields

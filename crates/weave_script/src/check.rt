@@ -1,6 +1,6 @@
 //! Reads a script and the report that follows it.
 ghost use Rattle.std.specs.Prelude.{◌≡◌, Ok, Err, IfOk};
-ghost use Rattle.weave_script.specs.Answers.{IfRefused};
+ghost use Rattle.weave_script.specs.Answers.{IfScriptRefused};
 ghost use Rattle.weave_script.specs.CheckText.{IsCheckTextOf};
 ghost use Rattle.weave_script.specs.CheckReading.{cause_of, check_text};
 
@@ -17,7 +17,7 @@ use weave_report::{Report, ReportCause, ReportFault, read_report};
 pub fn read_check(alloc: Global, bytes: &[u8]) -> Result<(Script, Report), ScriptFault>
     ensures read { IfOk result (λ told. check_text bytes.now ≡ Ok told) }
     ensures texts { IfOk result (λ told. IsCheckTextOf bytes.now told.0 told.1) }
-    ensures refused { IfRefused result (λ line cause. check_text bytes.now
+    ensures refused { IfScriptRefused result (λ line cause. check_text bytes.now
         ≡ Err (record { line = line; cause = cause })) }
 {
     heads_are_texts();

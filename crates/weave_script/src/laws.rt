@@ -1,6 +1,7 @@
 //! What holds of every valid script.
 ghost use Rattle.std.specs.Prelude.{◌≡◌, ◌≤◌, ◌<◌, length, Ok, Err};
 ghost use Rattle.std.specs.List.{AllByRecursion};
+ghost use Rattle.weave_data.specs.Limits.{most_ops, most_requests};
 ghost use Rattle.program_defs.specs.Limits.{IsWithinLimits};
 ghost use Rattle.program_defs.specs.Works.{ops_of};
 ghost use Rattle.program_defs.specs.declared.script.Script.{Script};
@@ -8,7 +9,7 @@ ghost use Rattle.weave_text.specs.Cutting.{lines_of};
 ghost use Rattle.weave_text.specs.Lines.{Bytes};
 ghost use Rattle.weave_script.specs.CheckText.{IsHead};
 ghost use Rattle.weave_script.specs.Faults.{IsFirstScriptFault};
-ghost use Rattle.weave_script.specs.ReadText.{Fault, Head, head_of, read_text};
+ghost use Rattle.weave_script.specs.ReadText.{Fault, Head, head_of_text, read_text};
 ghost use Rattle.weave_script.specs.Reading.{start};
 ghost use Rattle.weave_script.specs.ScriptLines.{IsTextOf, script_text};
 ghost use Rattle.weave_script.specs.Scripts.{IsScript};
@@ -63,15 +64,15 @@ pub fn printed_scripts_come_back()
 
 /// The lines before a report that follows a script are those of the script.
 pub fn heads_are_texts()
-    ensures { (bytes : Bytes) (head : Head) → head_of bytes ≡ Ok head → IsHead bytes head.script head.left }
+    ensures { (bytes : Bytes) (head : Head) → head_of_text bytes ≡ Ok head → IsHead bytes head.script head.left }
 {
     numbers_come_back();
 }
 
 /// A script has few requests, and its transactions few operations: it is within the limits that laws on runs ask for.
 pub fn scripts_are_small()
-    ensures requests { (script : Script) → IsScript script → length script.requests ≤ 10000 }
+    ensures requests { (script : Script) → IsScript script → length script.requests ≤ most_requests }
     ensures operations { (script : Script) → IsScript script
-        → AllByRecursion (λ request. length (ops_of request.work) ≤ 64) script.requests }
+        → AllByRecursion (λ request. length (ops_of request.work) ≤ most_ops) script.requests }
     ensures limits { (script : Script) → IsScript script → IsWithinLimits script }
 {}

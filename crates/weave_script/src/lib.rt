@@ -28,8 +28,6 @@ pub use laws::{
     faults_are_first, heads_are_texts, printed_scripts_come_back, scripts_are_small,
     texts_are_of_one_script, texts_are_read,
 };
-pub use limits::{
-    MOST_BYTES, MOST_GETS, MOST_OPS, MOST_PROGRAMS, MOST_REQUESTS, MOST_STEPS, MOST_VERTICES,
-};
+pub use limits::{MOST_STEPS, MOST_VERTICES};
 pub use print::print_script;
 pub use read::read_script;

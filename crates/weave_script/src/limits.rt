@@ -4,17 +4,8 @@ ghost use Rattle.weave_script.specs.Limits.{over_limit};
 
 use crate::fault::Cause;
 use crate::read::reading::Counts;
+use weave_data::{MOST_GETS, MOST_OPS, MOST_PROGRAMS, MOST_REQUESTS};
 
-/// The most bytes of an input.
-pub const MOST_BYTES: usize = 4_194_304;
-/// The most operations of a transaction.
-pub const MOST_OPS: usize = 64;
-/// The most requests of a script.
-pub const MOST_REQUESTS: usize = 10_000;
-/// The most programs of a script.
-pub const MOST_PROGRAMS: usize = 1_000;
-/// The most `get` operations of a script.
-pub const MOST_GETS: usize = 1_000;
 /// The most names of vertices of a script.
 pub const MOST_VERTICES: usize = 10_000;
 /// The most steps of a script.

@@ -4,12 +4,12 @@ ghost use Rattle.weave_text.specs.Lines.{line_text};
 ghost use Rattle.weave_script.specs.ScriptLines.{header_line, script_text};
 
 mod items;
-mod request;
-mod step;
+mod requests;
+mod steps;
 mod words;
 
 use crate::print::items::print_items;
-use crate::print::step::print_steps;
+use crate::print::steps::print_steps;
 use program_defs::Script;
 use std::alloc::{AllocError, Global};
 use weave_text::Text;

@@ -1,7 +1,7 @@
 //! Reads a script from its text.
 ghost use Rattle.std.specs.Prelude.{◌≡◌, ◌≤◌, length, Ok, Err, IfOk};
 ghost use Rattle.program_defs.specs.declared.script.Script.{Script};
-ghost use Rattle.weave_script.specs.Answers.{IfRefused};
+ghost use Rattle.weave_script.specs.Answers.{IfScriptRefused};
 ghost use Rattle.weave_script.specs.ReadText.{Fault, script_at, read_text};
 ghost use Rattle.weave_script.specs.ScriptLines.{IsTextOf};
 ghost use Rattle.weave_script.specs.Limits.{IsShort};
@@ -10,9 +10,9 @@ mod fields;
 pub mod head;
 mod header;
 mod index;
+mod lines;
 mod ops;
 mod part;
-mod reader;
 pub mod reading;
 mod requests;
 mod steps;
@@ -28,10 +28,10 @@ use std::alloc::Global;
 pub fn read_script(alloc: Global, bytes: &[u8]) -> Result<Script, ScriptFault>
     ensures text { IfOk result (λ script. IsTextOf bytes.now script) }
     ensures read { IfOk result (λ script. read_text bytes.now ≡ Ok script) }
-    ensures refused { IfRefused result (λ line cause. read_text bytes.now
+    ensures refused { IfScriptRefused result (λ line cause. read_text bytes.now
         ≡ Err (record { line = line; cause = cause })) }
     ensures not_valid { IsShort bytes.now
-        → IfRefused result (λ line cause. (script : Script) → ¬ IsTextOf bytes.now script) }
+        → IfScriptRefused result (λ line cause. (script : Script) → ¬ IsTextOf bytes.now script) }
 {
     texts_are_read();
     let Part {

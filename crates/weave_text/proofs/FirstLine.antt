@@ -53,6 +53,7 @@ to_end (byte ∷ text) some h = one (is_line_feed byte) byte text (λ some. to_e
 pub lines_of-whole : (text : List ℕ) → 1 ≤ length text → position (λ byte. byte == 10) text ≡ None → lines_of text ≡ text ∷ []
 lines_of-whole text some e = to_end text some (ltb-false _ _ (test_failed (ltb (first text) (length text)) (first text) e))
 
+-- a text that isn't empty has a byte
 pub has_bytes : (text : List ℕ) (empty : Bool) → empty ≡ (length text == 0) → empty ≡ false → 1 ≤ length text
 has_bytes [] empty e none = absurd cc
 has_bytes (byte ∷ text) empty e none = omega arith

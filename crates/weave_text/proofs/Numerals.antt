@@ -15,7 +15,7 @@ use Rattle.std.proofs.lemmas.Str.{IsUtf8-from_ascii}
 use Rattle.std.proofs.lemmas.Str.Parse.{parse_digits}
 use Rattle.weave_data.proofs.Digits.{digits_are_numerals}
 use Rattle.weave_text.specs.Lines.{Word}
-use Rattle.weave_text.specs.Numbers.{is_number, value_of, number_of, number_up_to}
+use Rattle.weave_text.specs.Numbers.{is_number, value_of, number_of_word, number_up_to}
 use Rattle.weave_text.specs.declared.numbers.Numeral.TheVariants.{NoNumber, TooLarge, Number}
 
 -- a word of digits that doesn't begin with 0, or is `0`
@@ -53,17 +53,17 @@ pub number_is_utf8 : (word : Word) → is_number word ≡ true → IsUtf8 word
 number_is_utf8 word h = IsUtf8-from_ascii word (IsAscii-from_digits word (digits_are_numerals.to word (plain_of word h).digits))
 
 -- what is read, if the form of the word is known
-pub number_of-tested : (word : Word) (form : Bool) → is_number word ≡ form → number_of word ≡ cond (form && nat_lt (value_of word) (2 ^ 64)) (Some (value_of word)) None
-unfolding number_of
+pub number_of-tested : (word : Word) (form : Bool) → is_number word ≡ form → number_of_word word ≡ cond (form && nat_lt (value_of word) (2 ^ 64)) (Some (value_of word)) None
+unfolding number_of_word
 number_of-tested word form h = ap (λ form. cond (form && nat_lt (value_of word) (2 ^ 64)) (Some (value_of word)) None) h
 
 -- a word that is a number is parsed as it
-pub parsed_number : {E : Type 0} (word : Word) (r : Result ℕ E) → is_number word ≡ true → ParsesUnsigned 64 10 word r → result_ok r ≡ number_of word
+pub parsed_number : {E : Type 0} (word : Word) (r : Result ℕ E) → is_number word ≡ true → ParsesUnsigned 64 10 word r → result_ok r ≡ number_of_word word
 parsed_number {E} word r h p =
     let plain = plain_of word h in
     given r (parse_digits digits_are_numerals 64 word r p plain.digits) plain.some
   where
-    given : (r : Result ℕ E) → OkIff r ((0 < length word) × (value_of word < 2 ^ 64)) (value_of word) → 0 < length word → result_ok r ≡ number_of word
+    given : (r : Result ℕ E) → OkIff r ((0 < length word) × (value_of word < 2 ^ 64)) (value_of word) → 0 < length word → result_ok r ≡ number_of_word word
     given (Ok x) k some = sym (number_of-tested word true h ∙ cond-true (nat_lt (value_of word) (2 ^ 64)) _ _ (lt-ltb _ _ k.0.1) ∙ ap (λ n. Some n) (sym k.1))
     given (Err e) k some = sym (number_of-tested word true h ∙ cond-false (nat_lt (value_of word) (2 ^ 64)) _ _ (false_from_ne_true _ (λ small. k (some, ltb-true _ _ small))))
 
@@ -77,7 +77,7 @@ decimal_is_plain n small = record { digits = digits_decimal digits_are_numerals 
     leads (suc n) small e = absurd (omega (arith, e, first_decimal (suc n) (omega arith) small))
 
 -- a number's word is read as it
-pub number_of-decimal : (n : ℕ) → n < 2 ^ 64 → number_of (decimal n) ≡ Some n
+pub number_of-decimal : (n : ℕ) → n < 2 ^ 64 → number_of_word (decimal n) ≡ Some n
 number_of-decimal n small =
     let value = digits_value-decimal digits_are_numerals n small in
     number_of-tested (decimal n) true (is_number-from (decimal n) (decimal_is_plain n small))
@@ -85,8 +85,8 @@ number_of-decimal n small =
     ∙ cond-true (nat_lt n (2 ^ 64)) _ _ (lt-ltb _ _ small)
 
 -- what is read as a number is its word
-pub decimal_of-number : (word : Word) (n : ℕ) → number_of word ≡ Some n → word ≡ decimal n
-unfolding number_of
+pub decimal_of-number : (word : Word) (n : ℕ) → number_of_word word ≡ Some n → word ≡ decimal n
+unfolding number_of_word
 decimal_of-number word n e =
     let read = cond_some (is_number word && nat_lt (value_of word) (2 ^ 64)) (value_of word) n e in
     let parts = and_parts (is_number word) (nat_lt (value_of word) (2 ^ 64)) read.0 in
@@ -113,44 +113,51 @@ record IsRead (word : Word) (n : ℕ) : Type 0 where
   form : is_number word ≡ true
   value : value_of word ≡ n
 
-read_of : (word : Word) (n : ℕ) → number_of word ≡ Some n → IsRead word n
-unfolding number_of
+read_of : (word : Word) (n : ℕ) → number_of_word word ≡ Some n → IsRead word n
+unfolding number_of_word
 read_of word n e =
     let read = cond_some (is_number word && nat_lt (value_of word) (2 ^ 64)) (value_of word) n e in
     record { form = (and_parts (is_number word) (nat_lt (value_of word) (2 ^ 64)) read.0).0; value = read.1 }
 
-pub number_up_to-within : (most : ℕ) (word : Word) (n : ℕ) → number_of word ≡ Some n → n ≤ most → number_up_to most word ≡ Number n
+-- a word that is a number of 64 bits and at most so much is found to be this number
+pub number_up_to-within : (most : ℕ) (word : Word) (n : ℕ) → number_of_word word ≡ Some n → n ≤ most → number_up_to most word ≡ Number n
 number_up_to-within most word n e small =
     let read = read_of word n e in
     is_within most word read.form (omega (arith, read.value)) ∙ ap (λ n. Number n) read.value
 
-pub number_up_to-past : (most : ℕ) (word : Word) (n : ℕ) → number_of word ≡ Some n → most < n → number_up_to most word ≡ TooLarge
+-- one that is a greater number of 64 bits is too large
+pub number_up_to-past : (most : ℕ) (word : Word) (n : ℕ) → number_of_word word ≡ Some n → most < n → number_up_to most word ≡ TooLarge
 number_up_to-past most word n e large =
     let read = read_of word n e in
     is_past most word read.form (omega (arith, read.value))
 
-pub number_up_to-long : (most : ℕ) (word : Word) → most < 2 ^ 64 → number_of word ≡ None → is_number word ≡ true → number_up_to most word ≡ TooLarge
+-- so is a number that doesn't have 64 bits, if the bound has
+pub number_up_to-long : (most : ℕ) (word : Word) → most < 2 ^ 64 → number_of_word word ≡ None → is_number word ≡ true → number_up_to most word ≡ TooLarge
 number_up_to-long most word fits e form =
     let none = unlike (nat_lt (value_of word) (2 ^ 64)) (value_of word) (sym (number_of-tested word true form) ∙ e) in
     is_past most word form (omega (arith, ltb-false _ _ none))
 
+-- a word that is no number is found to be none
 pub number_up_to-none : (most : ℕ) (word : Word) → is_number word ≡ false → number_up_to most word ≡ NoNumber
 unfolding number_up_to
 number_up_to-none most word form = cond-false (is_number word) _ _ form
 
+-- the word of a number of 64 bits consists of digits
 pub digits_of_decimal : (n : ℕ) → n < 2 ^ 64 → list_all is_ascii_digit (decimal n) ≡ true
 digits_of_decimal n small = (decimal_is_plain n small).digits
 
-below : (word : Word) (n : ℕ) → number_of word ≡ Some n → n < 2 ^ 64
-unfolding number_of
+below : (word : Word) (n : ℕ) → number_of_word word ≡ Some n → n < 2 ^ 64
+unfolding number_of_word
 below word n e =
     let read = cond_some (is_number word && nat_lt (value_of word) (2 ^ 64)) (value_of word) n e in
     let parts = and_parts (is_number word) (nat_lt (value_of word) (2 ^ 64)) read.0 in
     omega (arith, ltb-true _ _ parts.1, read.1)
 
-pub word_of-number : (word : Word) (n : ℕ) → number_of word ≡ Some n → (word ≡ decimal n) × (n < 2 ^ 64)
+-- what is read as a number is its word, and the number has 64 bits
+pub word_of-number : (word : Word) (n : ℕ) → number_of_word word ≡ Some n → (word ≡ decimal n) × (n < 2 ^ 64)
 word_of-number word n e = (decimal_of-number word n e, below word n e)
 
+-- the word of a number that is at most a bound of 64 bits is found to be this number
 pub number_up_to-decimal : (most n : ℕ) → most < 2 ^ 64 → n ≤ most → number_up_to most (decimal n) ≡ Number n
 number_up_to-decimal most n fits small = number_up_to-within most (decimal n) n (number_of-decimal n (omega arith)) small
 
@@ -170,6 +177,7 @@ bounded_of most word n e =
     let parts = bounded (is_number word) (nat_le (value_of word) most) (value_of word) n e in
     record { form = parts.0; small = leb-true _ _ parts.1; value = parts.2 }
 
+-- what is found to be a number of at most a bound of 64 bits is its word, and the number is at most the bound
 pub word_of-bounded : (most : ℕ) (word : Word) (n : ℕ) → most < 2 ^ 64 → number_up_to most word ≡ Number n → (word ≡ decimal n) × (n ≤ most)
 word_of-bounded most word n fits e =
     let read = bounded_of most word n e in

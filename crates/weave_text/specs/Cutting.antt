@@ -37,12 +37,12 @@ kept_lines [] = []
 kept_lines (line ∷ lines) = if is_skipped line then kept_lines lines else words_of line ∷ kept_lines lines
 
 -- the byte isn't in the text
-abbrev pub lacks : ℕ → Bytes → Bool
-lacks byte text = list_all (λ b. not (b == byte)) text
+abbrev pub is_absent_from : ℕ → Bytes → Bool
+is_absent_from byte text = list_all (λ b. not (b == byte)) text
 
 -- the word has neither a space nor a line feed
 abbrev pub is_clean : Word → Bool
-is_clean word = lacks 32 word && lacks 10 word
+is_clean word = is_absent_from 32 word && is_absent_from 10 word
 
 -- a line has clean words, and its first word keeps it from being skipped
 abbrev pub is_clean_line : Line → Bool

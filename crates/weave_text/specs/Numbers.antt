@@ -17,8 +17,8 @@ abbrev pub value_of : Word → ℕ
 value_of word = digits_value 10 word
 
 -- the number that the word is, if it is one of 64 bits
-unfoldable pub number_of : Word → Option ℕ
-number_of word = if is_number word && nat_lt (value_of word) (2 ^ 64) then Some (value_of word) else None
+unfoldable pub number_of_word : Word → Option ℕ
+number_of_word word = if is_number word && nat_lt (value_of word) (2 ^ 64) then Some (value_of word) else None
 
 -- what the word is as a number of at most `most`
 unfoldable pub number_up_to : ℕ → Word → Numeral

@@ -5,8 +5,8 @@ ghost use Rattle.std.specs.Fmt.{decimal};
 ghost use Rattle.std.specs.List.{list_all};
 ghost use Rattle.weave_data.specs.Names.{is_name, is_name_byte};
 ghost use Rattle.weave_text.specs.Lines.{Bytes, Word, Line, joined_texts, joined_words, lines_text};
-ghost use Rattle.weave_text.specs.Cutting.{lines_of, pieces_of, words_of, kept_lines, is_skipped, lacks, is_clean, is_clean_line};
-ghost use Rattle.weave_text.specs.Numbers.{number_of, number_up_to};
+ghost use Rattle.weave_text.specs.Cutting.{lines_of, pieces_of, words_of, kept_lines, is_skipped, is_absent_from, is_clean, is_clean_line};
+ghost use Rattle.weave_text.specs.Numbers.{number_of_word, number_up_to};
 
 use crate::numbers::Numeral;
 
@@ -23,7 +23,8 @@ pub fn clean_lines_come_back()
 
 /// Pieces that lack a byte come back from their text, joined by it.
 pub fn joined_pieces_come_back()
-    ensures { (byte : ℕ) (piece : Bytes) (pieces : List Bytes) → IsTrue (list_all (lacks byte) (piece ∷ pieces))
+    ensures { (byte : ℕ) (piece : Bytes) (pieces : List Bytes)
+        → IsTrue (list_all (is_absent_from byte) (piece ∷ pieces))
         → pieces_of byte (joined_texts (byte ∷ []) (piece ∷ pieces)) ≡ piece ∷ pieces }
 {}
 
@@ -55,16 +56,17 @@ pub fn words_are_clean()
 /// A name lacks each byte that is no name byte, and a printed number lacks each byte that is no digit.
 pub fn words_lack_other_bytes()
     ensures name { (byte : ℕ) (word : Word) → IsTrue (not (is_name_byte byte)) → IsTrue (is_name word)
-        → IsTrue (lacks byte word) }
-    ensures number { (byte n : ℕ) → IsTrue (not (is_ascii_digit byte)) → n < 2 ^ 64 → IsTrue (lacks byte (decimal n)) }
-    ensures appended { (byte : ℕ) (a b : Bytes) → IsTrue (lacks byte a) → IsTrue (lacks byte b)
-        → IsTrue (lacks byte (a ++ b)) }
+        → IsTrue (is_absent_from byte word) }
+    ensures number { (byte n : ℕ) → IsTrue (not (is_ascii_digit byte)) → n < 2 ^ 64
+        → IsTrue (is_absent_from byte (decimal n)) }
+    ensures appended { (byte : ℕ) (a b : Bytes) → IsTrue (is_absent_from byte a) → IsTrue (is_absent_from byte b)
+        → IsTrue (is_absent_from byte (a ++ b)) }
 {}
 
 /// A number of 64 bits has one word, its decimal digits.
 pub fn numbers_come_back()
-    ensures number { (n : ℕ) → n < 2 ^ 64 → number_of (decimal n) ≡ Some n }
-    ensures word { (word : Word) (n : ℕ) → number_of word ≡ Some n → (word ≡ decimal n) × (n < 2 ^ 64) }
+    ensures number { (n : ℕ) → n < 2 ^ 64 → number_of_word (decimal n) ≡ Some n }
+    ensures word { (word : Word) (n : ℕ) → number_of_word word ≡ Some n → (word ≡ decimal n) × (n < 2 ^ 64) }
     ensures bounded { (most n : ℕ) → most < 2 ^ 64 → n ≤ most → number_up_to most (decimal n) ≡ Numeral.Number n }
     ensures bounded_word { (most : ℕ) (word : Word) (n : ℕ) → most < 2 ^ 64
         → number_up_to most word ≡ Numeral.Number n → (word ≡ decimal n) × (n ≤ most) }

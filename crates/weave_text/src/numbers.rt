@@ -2,7 +2,7 @@
 ghost use Rattle.std.specs.Prelude.{◌≡◌};
 ghost use Rattle.std.specs.Char.{is_ascii_digit};
 ghost use Rattle.std.specs.List.{list_all};
-ghost use Rattle.weave_text.specs.Numbers.{is_number, number_of, number_up_to};
+ghost use Rattle.weave_text.specs.Numbers.{is_number, number_of_word, number_up_to};
 
 /// What a word is as a number.
 #[derive(Clone, Copy, PartialEq, Eq, Debug)]
@@ -17,7 +17,7 @@ pub enum Numeral {
 
 /// The number that a word is: `0`, or decimal digits of which the first isn't 0. None also if it has more than 64 bits.
 pub fn number(word: &[u8]) -> Option<u64>
-    ensures { result ≡ number_of word.now }
+    ensures { result ≡ number_of_word word.now }
 {
     if !is_number(word) {
         return None;

@@ -1,4 +1,5 @@
 ghost use Rattle.std.specs.Prelude.{◌<◌, ◌≤◌};
+ghost use Rattle.weave_data.specs.Limits.{most_requests};
 
 use crate::top_tests::{HONEST, Outside, call, gives};
 use load_maker::make;
@@ -173,7 +174,7 @@ fn script_and_report<R: Threads + Wait + Sync>(
     seed: u64,
     size: u32,
 ) -> Result<Vec<u8>, AllocError>
-    requires { (1 ≤ size) × (size ≤ 10000) }
+    requires { (1 ≤ size) × (size ≤ most_requests) }
 {
     let script = make(alloc, seed, size)?;
     let mut input = print_script(alloc, &script)?;

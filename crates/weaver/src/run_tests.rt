@@ -130,7 +130,7 @@ fn rows_run<R: Threads + Wait + Sync>(
 
 #[test]
 fn scripts_that_are_driven_and_run(rt: HostRuntime) -> Result<(), Fail> {
-    assert_eq!(rt; rows_run(&rt, rt.alloc(), RUNS.as_slice())?, 10);
+    assert!(rt; rows_run(&rt, rt.alloc(), RUNS.as_slice())? == 10);
     Ok(())
 }
 

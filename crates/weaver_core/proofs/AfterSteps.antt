@@ -31,9 +31,9 @@ use Rattle.step_rules.specs.CoreState.{CoreState}
 use Rattle.step_rules.specs.Entries.{after_begin, after_reply, at_request, stamp_to_begin, state_with}
 use Rattle.step_rules.specs.Requests.{has_begun, has_reply, is_answered, last_begun}
 use Rattle.step_rules.specs.Trace.{is_ok, state_after}
-use Rattle.weaver_core.specs.Clients.{SessionValues, is_open_in, values_at, with_reply_at, with_running}
+use Rattle.weaver_core.specs.Sessions.{SessionValues, is_open_in, values_at, with_reply_at, with_running}
 use Rattle.weaver_core.specs.Cores.{AreOf, MachinesDo, MachinesView}
-use Rattle.weaver_core.specs.Replying.{reply_of_change}
+use Rattle.weaver_core.specs.GivingReplies.{reply_of_change}
 use Rattle.weaver_core.specs.Splitting.{AreAllByLog, FinishesProgram, ValuesAfterFinish}
 use Rattle.weaver_core.specs.Staying.{CoreLaws, StayLaws}
 use Rattle.weaver_core.specs.Walks.{IsRunningIn}
@@ -98,6 +98,7 @@ module _ (stay : StayLaws) (core : CoreLaws) (script : Script) (old new : Machin
     program-values looks ok one stamp-is runs =
         program-begun stay script old.state.account new.state.account are.limits are.core.account begun-after.0 begun-after.1 r request at values all begun-others (begun-other ok) (stamp_to_begin old.state.account request) (begun-log ok) looks one stamp-is runs
 
+    -- if the `begin` wasn't done, values that were those of the logs are so still
     pub not-begun-values : is_ok a ≡ false → AreAllByLog script new.state.account values
     not-begun-values fails = left-as-it-was (Begin r) a did fails
 
@@ -117,6 +118,7 @@ module _ (stay : StayLaws) (core : CoreLaws) (script : Script) (old new : Machin
           ∙ ap (λ (sessions : List (List SessionEntry)). slice_index_or sessions t []) (visit-session script old.state are.limits are.core.account are.core.sessions r request at)
     ]
 
+    -- if its session waited for it, the values with the program as it runs after `visit` are those of the logs
     pub visit-values : is_open_in r (session_log old.state.account s) ≡ true → (was one : Running) → (values_at values s).running ≡ Some was → was.request ≡ r → one.stamp ≡ was.stamp → IsRunningIn script new.state.account r one → AreAllByLog script new.state.account (with_running values s (Some one))
     visit-values waits was one was-is was-request stamp-is runs =
         program-visited stay script old.state.account new.state.account are.limits are.core.account visited-after.0 visited-after.1 r request at values all visited-others (λ t other. visited-log t) (visited-log s) waits was one was-is was-request stamp-is runs
@@ -166,6 +168,7 @@ module _ (stay : StayLaws) (core : CoreLaws) (script : Script) (old new : Machin
 
     -- of a program
     module _ (program : Program) (looks : request.work ≡ Look program) (plain-free : (x y : List (Name × State)) (one : Program) (result : Answer) → AreSameReads x y → IsPlainAnswer (graph_read x) one result → IsPlainAnswer (graph_read y) one result) where
+      -- if the `reply` was done and finished the program, the values are those of the logs
       pub finished-values : values ≡ old.values → a ≡ answer.Ok → FinishesProgram old new s r → AreAllByLog script new.state.account new.values
       finished-values same ok-a did-it =
           let ok : is_ok a ≡ true = ap is_ok ok-a in
@@ -194,5 +197,6 @@ module _ (stay : StayLaws) (core : CoreLaws) (script : Script) (old new : Machin
       by-answer (answer.Waits v) is same after = unfinished-values (ap is_ok is) (after ∙ sym same)
       by-answer (answer.Again x y) is same after = unfinished-values (ap is_ok is) (after ∙ sym same)
 
+      -- whatever the `reply` answered, the values that it leaves are those of the logs
       pub program-replied : values ≡ old.values → ValuesAfterFinish old new s r a → AreAllByLog script new.state.account new.values
       program-replied same after = by-answer a refl same after

@@ -10,7 +10,7 @@ use Rattle.weave_entries.specs.declared.session_log.SessionEntry.{SessionEntry}
 use Rattle.weave_entries.specs.declared.session_log.SessionDeed.{SessionDeed}
 use Rattle.weave_entries.specs.declared.session_log.SessionDeed.TheVariants.{Begun, Replied}
 use Rattle.weave_entries.specs.SessionReplay.{FitsSession, IsSessionLog, SessionState, session_after, session_of}
-use Rattle.weaver_core.specs.Clients.{AddsToSession, AddsDeed, AreFirstSessions, AreNumbered, AreSameClients, ClientTable, IsClientOf, IsSameClient, SessionValues, log_of, no_values, requests_in, session_at, spare_of, values_at, values_of, with_running}
+use Rattle.weaver_core.specs.Sessions.{AddsToSession, AddsDeed, AreFirstSessions, AreNumbered, AreSameClients, ClientTable, IsClientOf, IsSameClient, SessionValues, log_of_client, no_values, requests_in, session_at, spare_of, values_at, values_of, with_running}
 use Rattle.weaver_core.specs.declared.client.Client.{Client}
 use Rattle.weaver_core.specs.declared.walks.Running.{Running}
 use Rattle.weaver_core.proofs.Tables.{each-push, each-set, image-changes, image-push, image-rests}
@@ -39,7 +39,7 @@ client-more laws number session log deed is fits =
     }
 
 -- and so does one more entry with its session
-pub client-adds : LogLaws → (number : ℕ) (old new : Client) (deed : SessionDeed) → IsClientOf number old.session old.log.items → FitsSession (session_of (requests_in old) (log_of old)) deed → new.session ≡ session_after old.session deed
+pub client-adds : LogLaws → (number : ℕ) (old new : Client) (deed : SessionDeed) → IsClientOf number old.session old.log.items → FitsSession (session_of (requests_in old) (log_of_client old)) deed → new.session ≡ session_after old.session deed
     → new.log.items ≡ old.log.items ++ record { author = number; deed = deed } ∷ [] → AddsDeed number old new deed
 client-adds laws number old new deed is fits session log = record {
   log = log;
@@ -52,7 +52,7 @@ client-adds laws number old new deed is fits session log = record {
 
 -- the table of these sessions
 abbrev pub table_of : List Client → ClientTable
-table_of clients = record { requests = map requests_in clients; logs = map log_of clients; spares = map spare_of clients; values = map values_of clients }
+table_of clients = record { requests = map requests_in clients; logs = map log_of_client clients; spares = map spare_of clients; values = map values_of clients }
 
 -- the session at the end of its log is that of the table, if only the room differs
 pub same-session : (old new : ClientTable) (s : ℕ) → AreSameClients old new → session_at new s ≡ session_at old s
@@ -62,30 +62,31 @@ module _ (clients : List Client) (s : ℕ) (before after : Client) (within : s <
   -- one more entry
   pub adds-at : (deed : SessionDeed) → AddsDeed s before after deed → AddsToSession (table_of clients) (table_of (slice_set clients s after)) s deed
   adds-at deed adds = record {
-    logs = image-changes log_of clients s before at (λ (log : List SessionEntry). log ++ record { author = s; deed = deed } ∷ []) [] after adds.log;
+    logs = image-changes log_of_client clients s before at (λ (log : List SessionEntry). log ++ record { author = s; deed = deed } ∷ []) [] after adds.log;
     requests = image-rests requests_in clients s before at after adds.requests;
   }
 
-  -- the values stay, or become those of the session
+  -- if the session's values stay, so do the table's
   pub values-rest : values_of after ≡ values_of before → map values_of (slice_set clients s after) ≡ map values_of clients
   values-rest same = image-rests values_of clients s before at after same
 
+  -- if the session's values were changed, the table's were changed so in its place
   pub values-set : (change : SessionValues → SessionValues) → values_of after ≡ change (values_of before) → map values_of (slice_set clients s after) ≡ slice_set (map values_of clients) s (change (values_at (map values_of clients) s))
   values-set change is = image-changes values_of clients s before at change no_values after is
 
-  -- or more room alone
+  -- if all but the room of the session is as before, so is all but the room of the table
   pub clients-rest : IsSameClient before after → AreSameClients (table_of clients) (table_of (slice_set clients s after))
   clients-rest same = record {
     requests = image-rests requests_in clients s before at after (ap (λ (state : SessionState). state.requests) same.session);
-    logs = image-rests log_of clients s before at after same.log;
+    logs = image-rests log_of_client clients s before at after same.log;
     values = values-rest same.values;
   }
 
-  -- or another program
+  -- if only what the session is running was changed, only this was changed in the table, in the session's place
   pub running-set : (running : Option Running) → after ≡ record before { running = running } → table_of (slice_set clients s after) ≡ record (table_of clients) { values = with_running (map values_of clients) s running }
   running-set running is =
       let requests = image-rests requests_in clients s before at after (ap requests_in is) in
-      let logs = image-rests log_of clients s before at after (ap log_of is) in
+      let logs = image-rests log_of_client clients s before at after (ap log_of_client is) in
       let spares = image-rests spare_of clients s before at after (ap spare_of is) in
       let values = values-set (λ (values : SessionValues). record { running = running; replies = values.replies }) (ap values_of is) in
       λ i. record { requests = requests i; logs = logs i; spares = spares i; values = values i }
@@ -94,13 +95,14 @@ module _ (clients : List Client) (s : ℕ) (before after : Client) (within : s <
   pub still-numbered : AreNumbered clients → IsClientOf s after.session after.log.items → AreNumbered (slice_set clients s after)
   still-numbered numbered is = each-set (λ n (client : Client). IsClientOf n client.session client.log.items) clients s after within numbered is
 
+  -- the same if neither the session nor its log has changed
   pub numbered-same : AreNumbered clients → after.session ≡ before.session → after.log.items ≡ before.log.items → AreNumbered (slice_set clients s after)
   numbered-same numbered session log =
       still-numbered numbered (subst (λ (entries : List SessionEntry). IsClientOf s after.session entries) (sym log) (subst (λ (state : SessionState). IsClientOf s state before.log.items) (sym session) (numbered s before at)))
 
 -- one session more, before its first request
 pub first-client-more : (script : Script) (count : ℕ) (made then_made : List Client) (client : Client) (found : List ℕ) → AreFirstSessions script count made → found ≡ requests_of_session script count
-    → requests_in client ≡ found → log_of client ≡ [] → values_of client ≡ no_values → ((number : ℕ) → IsClientOf number client.session client.log.items) → then_made ≡ made ++ client ∷ [] → AreFirstSessions script (count + 1) then_made
+    → requests_in client ≡ found → log_of_client client ≡ [] → values_of client ≡ no_values → ((number : ℕ) → IsClientOf number client.session client.log.items) → then_made ≡ made ++ client ∷ [] → AreFirstSessions script (count + 1) then_made
 first-client-more script count made then_made client found are found-is requests log values is-client is =
     subst (AreFirstSessions script (count + 1)) (sym is) (record {
       numbered = each-push (λ n (one : Client). IsClientOf n one.session one.log.items) made client are.numbered (is-client (length made));
@@ -108,7 +110,7 @@ first-client-more script count made then_made client found are found-is requests
           map-append requests_in made (client ∷ [])
           ∙ (λ i. are.requests i ++ (requests ∙ found-is) i ∷ [])
           ∙ sym (map-range_with_len_more (requests_of_session script) 0 count count (omega arith));
-      logs = image-push log_of made client [] count are.logs log;
+      logs = image-push log_of_client made client [] count are.logs log;
       values = image-push values_of made client no_values count are.values values;
     })
 

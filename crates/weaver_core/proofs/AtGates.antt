@@ -9,14 +9,14 @@ use Rattle.weave_entries.specs.declared.gate_log.GateEntry.{GateEntry}
 use Rattle.weave_entries.specs.declared.gate_log.GateDeed.{GateDeed}
 use Rattle.weave_entries.specs.declared.gate_log.GateDeed.TheVariants.{Sent}
 use Rattle.weave_entries.specs.declared.verdict.Verdict.{Verdict}
-use Rattle.weave_entries.specs.GateReplay.{Begun, flight_of}
+use Rattle.weave_entries.specs.GateReplay.{BegunRequest, flight_of}
 use Rattle.weave_entries.specs.Sending.{messages_of}
-use Rattle.weaver_core.specs.GateTable.{AddsToGate, AreFirstGates, AreGatesInOrder, GateTable, IsSameGate, log_at, log_of}
+use Rattle.weaver_core.specs.GateTable.{AddsToGate, AreFirstGates, AreGatesInOrder, GateTable, IsSameGate, gate_log_at, log_of_gate}
 use Rattle.weaver_core.proofs.Tables.{each-push, each-set, image-at, image-changes, image-push, image-rests}
 
 -- the table of these gatekeepers
 abbrev pub table_of : ℕ → List GateView → GateTable
-table_of shards gates = record { shards = shards; logs = map log_of gates }
+table_of shards gates = record { shards = shards; logs = map log_of_gate gates }
 
 -- room first, then an entry
 pub room-then-adds : (before more after : GateView) (entries author : ℕ) (deed : GateDeed) → MakesRoom before more entries → Adds more after author deed → Adds before after author deed
@@ -44,11 +44,11 @@ pub record IsSameFrame (before after : GateView) : Type 0 where
 module _ (shards : ℕ) (gates : List GateView) (g : ℕ) (before after : GateView) (within : g < length gates) (at : slice_get gates g ≡ Some before) where
   -- the table has one more entry
   pub adds-at : (author : ℕ) (deed : GateDeed) → Adds before after author deed → AddsToGate (table_of shards gates) (table_of shards (slice_set gates g after)) g author deed
-  adds-at author deed adds = record { logs = image-changes log_of gates g before at (λ (log : List GateEntry). log ++ record { author = author; deed = deed } ∷ []) [] after adds.log; shards = refl }
+  adds-at author deed adds = record { logs = image-changes log_of_gate gates g before at (λ (log : List GateEntry). log ++ record { author = author; deed = deed } ∷ []) [] after adds.log; shards = refl }
 
   -- or stays
   pub table-rests : after.log ≡ before.log → table_of shards (slice_set gates g after) ≡ table_of shards gates
-  table-rests same = ap (λ (logs : List (List GateEntry)). record { shards = shards; logs = logs }) (image-rests log_of gates g before at after same)
+  table-rests same = ap (λ (logs : List (List GateEntry)). record { shards = shards; logs = logs }) (image-rests log_of_gate gates g before at after same)
 
   -- the gatekeepers are still in order
   pub still-in-order : AreGatesInOrder (length gates) shards gates → IsSameFrame before after → AreGatesInOrder (length (slice_set gates g after)) shards (slice_set gates g after)
@@ -58,9 +58,11 @@ module _ (shards : ℕ) (gates : List GateView) (g : ℕ) (before after : GateVi
     each_shards = each-set (λ n (gate : GateView). gate.shards ≡ shards) gates g after within are.each_shards (same.shards ∙ are.each_shards g before at);
   })
 
+  -- the same if one has one more entry
   pub in-order-after : (author : ℕ) (deed : GateDeed) → AreGatesInOrder (length gates) shards gates → Adds before after author deed → AreGatesInOrder (length (slice_set gates g after)) shards (slice_set gates g after)
   in-order-after author deed are adds = still-in-order are (record { home = adds.home; gates = adds.gates; shards = adds.shards })
 
+  -- and if nothing but its room differs
   pub in-order-still : AreGatesInOrder (length gates) shards gates → IsSameGate before after → AreGatesInOrder (length (slice_set gates g after)) shards (slice_set gates g after)
   in-order-still are same = still-in-order are (record { home = same.home; gates = same.gates; shards = same.shards })
 
@@ -73,23 +75,24 @@ first-more first count shards made then_made gate are many new is =
         homes = each-push (λ n (one : GateView). one.home ≡ n) made gate are.in_order.homes (new.home_is ∙ sym many);
         each_shards = each-push (λ n (one : GateView). one.shards ≡ shards) made gate are.in_order.each_shards new.shards_are;
       };
-      logs = image-push log_of made gate [] first are.logs new.log_is;
+      logs = image-push log_of_gate made gate [] first are.logs new.log_is;
     })
 
 -- there are that many
 pub first-count : (first count shards : ℕ) (made : List GateView) → AreFirstGates first count shards made → length made ≡ first
-first-count first count shards made are = sym (length-map made log_of) ∙ ap length are.logs ∙ length-replicate first []
+first-count first count shards made are = sym (length-map made log_of_gate) ∙ ap length are.logs ∙ length-replicate first []
 
 -- what was sent, in terms of the table
 module _ (shards : ℕ) (gates : List GateView) (g : ℕ) (before after : GateView) (within : g < length gates) (at : slice_get gates g ≡ Some before) (are : AreGatesInOrder (length gates) shards gates)
     (author : ℕ) (ops : List Op) (verdict : Verdict) (sends : SendsFlight before after author ops verdict) where
-  pub sends-at : (flight : Begun) → flight_of (log_at (table_of shards gates) g) ≡ Some flight
-      → AddsToGate (table_of shards gates) (table_of shards (slice_set gates g after)) g author (Sent flight.request (messages_of shards (log_at (table_of shards gates) g) flight ops verdict))
+  -- after a flight is sent, the gatekeeper's log has one more entry in the table: it was sent, with its messages
+  pub sends-at : (flight : BegunRequest) → flight_of (gate_log_at (table_of shards gates) g) ≡ Some flight
+      → AddsToGate (table_of shards gates) (table_of shards (slice_set gates g after)) g author (Sent flight.request (messages_of shards (gate_log_at (table_of shards gates) g) flight ops verdict))
   sends-at flight flies =
-      let log : before.log ≡ log_at (table_of shards gates) g = sym (image-at log_of gates g before at []) in
+      let log : before.log ≡ gate_log_at (table_of shards gates) g = sym (image-at log_of_gate gates g before at []) in
       let e : Some sends.flight ≡ Some flight = sym sends.flies ∙ ap flight_of log ∙ flies in
       let is : sends.flight ≡ flight = cc in
       let many = are.each_shards g before at in
-      let deed : Sent sends.flight.request (messages_of before.shards before.log sends.flight ops verdict) ≡ Sent flight.request (messages_of shards (log_at (table_of shards gates) g) flight ops verdict) =
+      let deed : Sent sends.flight.request (messages_of before.shards before.log sends.flight ops verdict) ≡ Sent flight.request (messages_of shards (gate_log_at (table_of shards gates) g) flight ops verdict) =
       λ i. Sent (is i).request (messages_of (many i) (log i) (is i) ops verdict) in
       adds-at shards gates g before after within at author _ (subst (λ (d : GateDeed). Adds before after author d) deed sends.adds)

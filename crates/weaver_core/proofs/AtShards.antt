@@ -12,25 +12,27 @@ use Rattle.weave_entries.specs.declared.shard_log.ShardDeed.{ShardDeed}
 use Rattle.weave_entries.specs.declared.shard_log.ShardDeed.TheVariants.{Applied, Arrived}
 use Rattle.weave_entries.specs.ShardReplay.{arrived_at, processed_count}
 use Rattle.weaver_core.specs.Messages.{AppliesHead, ArrivesAtShard}
-use Rattle.weaver_core.specs.ShardTable.{AddsToShard, AreFirstShards, AreShardsInOrder, ShardTable, log_at, log_of}
+use Rattle.weaver_core.specs.ShardTable.{AddsToShard, AreFirstShards, AreShardsInOrder, ShardTable, shard_log_at, log_of_shard}
 use Rattle.weaver_core.proofs.Tables.{each-push, each-set, image-at, image-changes, image-push, image-rests}
 
 -- the table of these shards
 abbrev pub table_of : ℕ → List ShardView → ShardTable
-table_of gates shards = record { gates = gates; logs = map log_of shards }
+table_of gates shards = record { gates = gates; logs = map log_of_shard shards }
 
 -- what a shard is made for stays
 pub record IsMadeAlike (before after : ShardView) : Type 0 where
   pub number : after.number ≡ before.number
   pub gates : after.gates ≡ before.gates
 
+-- so it does if the shard is unchanged
 pub alike-if-same : (before after : ShardView) → after ≡ before → IsMadeAlike before after
 alike-if-same before after is = record { number = ap (λ (x : ShardView). x.number) is; gates = ap (λ (x : ShardView). x.gates) is }
 
+-- and if its log has one more entry
 pub alike-if-adds : (before after : ShardView) (author : ℕ) (deed : ShardDeed) → AddsEntry before after author deed → IsMadeAlike before after
 alike-if-adds before after author deed adds = record { number = adds.number; gates = adds.gates }
 
--- whatever became of a message
+-- what a shard is made for stays when a message arrives, whether it is kept, repeated or refused
 pub alike-if-arrives : {E : Type 0} (before after : ShardView) (result : Result Arrival E) (deed : ShardDeed) → IfOk result (λ arrival. arrival ≡ Kept → AddsEntry before after 0 deed)
     → IfOk result (λ arrival. arrival ≡ Repeat → after ≡ before) → OnErr result (after ≡ before) → IsMadeAlike before after
 alike-if-arrives before after (Ok Kept) deed kept repeat refused = alike-if-adds before after 0 deed (kept refl)
@@ -48,16 +50,16 @@ had-arrived (Some message) is = refl
 
 module _ (gates : ℕ) (shards : List ShardView) (s : ℕ) (before after : ShardView) (within : s < length shards) (at : slice_get shards s ≡ Some before) where
   -- the log of the shard, by the table
-  pub log-is : before.log ≡ log_at (table_of gates shards) s
-  log-is = sym (image-at log_of shards s before at [])
+  pub log-is : before.log ≡ shard_log_at (table_of gates shards) s
+  log-is = sym (image-at log_of_shard shards s before at [])
 
   -- the table has one more entry
   pub adds-at : (deed : ShardDeed) → AddsEntry before after 0 deed → AddsToShard (table_of gates shards) (table_of gates (slice_set shards s after)) s deed
-  adds-at deed adds = record { logs = image-changes log_of shards s before at (λ (log : List ShardEntry). log ++ record { author = 0; deed = deed } ∷ []) [] after adds.log; gates = refl }
+  adds-at deed adds = record { logs = image-changes log_of_shard shards s before at (λ (log : List ShardEntry). log ++ record { author = 0; deed = deed } ∷ []) [] after adds.log; gates = refl }
 
   -- or stays
   pub table-rests : after ≡ before → table_of gates (slice_set shards s after) ≡ table_of gates shards
-  table-rests same = ap (λ (logs : List (List ShardEntry)). record { gates = gates; logs = logs }) (image-rests log_of shards s before at after (ap log_of same))
+  table-rests same = ap (λ (logs : List (List ShardEntry)). record { gates = gates; logs = logs }) (image-rests log_of_shard shards s before at after (ap log_of_shard same))
 
   -- the shards are still in order
   pub still-in-order : AreShardsInOrder gates shards → IsMadeAlike before after → AreShardsInOrder gates (slice_set shards s after)
@@ -80,7 +82,7 @@ module _ (gates : ℕ) (shards : List ShardView) (s : ℕ) (before after : Shard
       → AppliesHead (table_of gates shards) (table_of gates (slice_set shards s after)) s home
   applies-at home next adds = record {
     next = subst (λ (log : List ShardEntry). CanApplyHead home log) log-is next;
-    adds = adds-at (Applied home (processed_count home (log_at (table_of gates shards) s) + 1)) (subst (λ (log : List ShardEntry). AddsEntry before after 0 (Applied home (processed_count home log + 1))) log-is adds);
+    adds = adds-at (Applied home (processed_count home (shard_log_at (table_of gates shards) s) + 1)) (subst (λ (log : List ShardEntry). AddsEntry before after 0 (Applied home (processed_count home log + 1))) log-is adds);
   }
 
 -- one shard more, before anything arrived
@@ -92,9 +94,9 @@ first-more count gates made then_made shard are many new is =
         numbers = each-push (λ n (one : ShardView). one.number ≡ n) made shard are.in_order.numbers (ap (λ (one : ShardView). one.number) new ∙ sym many);
         each_gates = each-push (λ n (one : ShardView). one.gates ≡ gates) made shard are.in_order.each_gates (ap (λ (one : ShardView). one.gates) new);
       };
-      logs = image-push log_of made shard [] count are.logs (ap log_of new);
+      logs = image-push log_of_shard made shard [] count are.logs (ap log_of_shard new);
     })
 
 -- there are that many
 pub first-count : (count gates : ℕ) (made : List ShardView) → AreFirstShards count gates made → length made ≡ count
-first-count count gates made are = sym (length-map made log_of) ∙ ap length are.logs ∙ length-replicate count []
+first-count count gates made are = sym (length-map made log_of_shard) ∙ ap length are.logs ∙ length-replicate count []

@@ -6,7 +6,7 @@ use Rattle.std.specs.List.{list_any}
 use Rattle.std.proofs.lemmas.List.{map-append}
 use Rattle.weave_data.specs.declared.name.Name.{Name}
 use Rattle.vector_stamp.specs.declared.clock.Stamp.{Stamp}
-use Rattle.vector_stamp.specs.Precedence.{Given, precedes}
+use Rattle.vector_stamp.specs.Precedence.{GivenPair, precedes}
 use Rattle.vector_stamp.specs.Seeing.{last_seen, seen_of}
 use Rattle.vector_stamp.specs.Settling.{SettledEntry, entries_of_call, places_of}
 use Rattle.graph_ops.specs.Operations.{State}
@@ -14,7 +14,7 @@ use Rattle.weave_entries.specs.declared.oracle_log.OracleEntry.{OracleEntry}
 use Rattle.weave_entries.specs.declared.shard_log.ShardEntry.{ShardEntry}
 use Rattle.weave_entries.specs.declared.shard_log.ShardDeed.{ShardDeed}
 use Rattle.weave_entries.specs.declared.shard_log.ShardDeed.TheVariants.{Visited}
-use Rattle.weave_entries.specs.OracleReplay.{oracle_entry, pairs_of_log, settled_entry}
+use Rattle.weave_entries.specs.OracleReplay.{oracle_entry_of, pairs_of_log, settled_entry}
 use Rattle.weave_entries.specs.ShardReplay.{first_unready, state_of_updates, updates_of}
 use Rattle.weave_entries.specs.ShardRules.{IsKeptFor, entries_of_visit, is_settled_by, last_read, update_stamps, updates_read}
 use Rattle.weave_entries.specs.StoreRule.{entries_of_settling}
@@ -25,34 +25,38 @@ use Rattle.weaver_core.specs.Visiting.{IsReadAtShard, Reads, entries_asked, stat
 use Rattle.weaver_core.proofs.AtShards.{adds-at, log-is, table_of}
 use Rattle.vector_stamp.proofs.Seen.{last-cases}
 
+-- what follows from three clauses on success and one on the value of a result holds of that value
 pub if_ok_on_three : {A E : Type 0} (result : Result A E) (P Q R : Type 0) (S T : A → Type 0) → ((a : A) → P → Q → R → S a → T a) → OnOk result P → OnOk result Q → OnOk result R → IfOk result S → IfOk result T
 if_ok_on_three (Ok a) P Q R S T go p q r s = go a p q r s
 if_ok_on_three (Err e) P Q R S T go p q r s = tt
 
 -- The oracle's log, by what a judge's log has more
 
-module _ (back : (entry : OracleEntry) → oracle_entry (settled_entry entry) ≡ entry) where
-  each-back : (log : List OracleEntry) → map oracle_entry (map settled_entry log) ≡ log
+module _ (back : (entry : OracleEntry) → oracle_entry_of (settled_entry entry) ≡ entry) where
+  each-back : (log : List OracleEntry) → map oracle_entry_of (map settled_entry log) ≡ log
   each-back [] = refl
   each-back (entry ∷ log) = λ i. back entry i ∷ each-back log i
 
-  pub oracle-more : (old new : List OracleEntry) (more : List SettledEntry) → map settled_entry new ≡ map settled_entry old ++ more → new ≡ old ++ map oracle_entry more
+  -- a log of the oracle that goes on by these settled entries goes on by the oracle's entries of them
+  pub oracle-more : (old new : List OracleEntry) (more : List SettledEntry) → map settled_entry new ≡ map settled_entry old ++ more → new ≡ old ++ map oracle_entry_of more
   oracle-more old new more is =
-      sym (each-back new) ∙ ap (map oracle_entry) is ∙ map-append oracle_entry (map settled_entry old) more ∙ ap (λ log. log ++ map oracle_entry more) (each-back old)
+      sym (each-back new) ∙ ap (map oracle_entry_of) is ∙ map-append oracle_entry_of (map settled_entry old) more ∙ ap (λ log. log ++ map oracle_entry_of more) (each-back old)
 
+  -- logs of the oracle with the same settled entries are the same
   pub oracle-same : (old new : List OracleEntry) → map settled_entry new ≡ map settled_entry old → new ≡ old
-  oracle-same old new is = sym (each-back new) ∙ ap (map oracle_entry) is ∙ each-back old
+  oracle-same old new is = sym (each-back new) ∙ ap (map oracle_entry_of) is ∙ each-back old
 
 -- A visit is marked exactly if the oracle made an entry
 
-one-made : (pairs : List Given) (stamp update : Stamp) → list_any (λ (u : Stamp). not (precedes pairs u stamp)) (update ∷ []) ≡ made_entry (entries_of_settling 0 pairs (update ∷ []) stamp)
+one-made : (pairs : List GivenPair) (stamp update : Stamp) → list_any (λ (u : Stamp). not (precedes pairs u stamp)) (update ∷ []) ≡ made_entry (entries_of_settling 0 pairs (update ∷ []) stamp)
 one-made pairs stamp update = by (precedes pairs update stamp)
   where
-    by : (b : Bool) → (not b || false) ≡ made_entry (map oracle_entry (entries_of_call 0 (update ∷ []) stamp (places_of (if b then [] else (0, update) ∷ []))))
+    by : (b : Bool) → (not b || false) ≡ made_entry (map oracle_entry_of (entries_of_call 0 (update ∷ []) stamp (places_of (if b then [] else (0, update) ∷ []))))
     by true = refl
     by false = refl
 
-pub settled-made : (pairs : List Given) (stamp : Stamp) (n : ℕ) (updates : List Stamp)
+-- an update was seen last that doesn't precede the program, exactly if the oracle makes an entry
+pub settled-made : (pairs : List GivenPair) (stamp : Stamp) (n : ℕ) (updates : List Stamp)
     → list_any (λ (u : Stamp). not (precedes pairs u stamp)) (last_seen n updates) ≡ made_entry (entries_of_settling 0 pairs (last_seen n updates) stamp)
 settled-made pairs stamp n updates = elim (last-cases n updates) [
   | inl none ↦ subst (λ (xs : List Stamp). list_any (λ (u : Stamp). not (precedes pairs u stamp)) xs ≡ made_entry (entries_of_settling 0 pairs xs stamp)) (sym none) refl
@@ -62,14 +66,14 @@ settled-made pairs stamp n updates = elim (last-cases n updates) [
 -- The laws of weave_entries that are cited
 pub record VisitLaws : Type 0 where
   -- oracle_entries_are_a_judges
-  pub back : (entry : OracleEntry) → oracle_entry (settled_entry entry) ≡ entry
+  pub back : (entry : OracleEntry) → oracle_entry_of (settled_entry entry) ≡ entry
   -- kept_updates_are_read_like_all
-  pub updates : (pairs : List Given) (program : Stamp) (v : Name) (log : List ShardEntry) → IsKeptFor program v log → updates_read pairs program v log ≡ seen_of pairs program (update_stamps v log)
-  pub last : (pairs : List Given) (program : Stamp) (v : Name) (log : List ShardEntry) → IsKeptFor program v log → last_read pairs program v log ≡ last_seen (seen_of pairs program (update_stamps v log)) (update_stamps v log)
+  pub updates : (pairs : List GivenPair) (program : Stamp) (v : Name) (log : List ShardEntry) → IsKeptFor program v log → updates_read pairs program v log ≡ seen_of pairs program (update_stamps v log)
+  pub last : (pairs : List GivenPair) (program : Stamp) (v : Name) (log : List ShardEntry) → IsKeptFor program v log → last_read pairs program v log ≡ last_seen (seen_of pairs program (update_stamps v log)) (update_stamps v log)
 
 module _ (laws : VisitLaws) (gates : ℕ) (shards : List ShardView) (s : ℕ) (before after : ShardView) (within : s < length shards) (at : slice_get shards s ≡ Some before)
     (made : before.gates ≡ gates) (oracle then_oracle : List OracleEntry) (r : ℕ) (stamp : Stamp) (v : Name) (base : IsKeptFor stamp v before.log) where
-  abbrev pairs : List Given
+  abbrev pairs : List GivenPair
   pairs = pairs_of_log oracle
 
   -- what was visited, over this log

@@ -13,7 +13,7 @@ use Rattle.program_defs.specs.declared.script.Script.{Script}
 use Rattle.weave_entries.specs.declared.gate_log.GateEntry.{GateEntry}
 use Rattle.weave_entries.specs.declared.gate_log.GateDeed.{GateDeed}
 use Rattle.weave_entries.specs.declared.gate_log.GateDeed.TheVariants.{BeganTx, BeganProgram, Sent, Nop, Heard, Raised, Finished}
-use Rattle.weave_entries.specs.GateReplay.{Begun, program_begun, program_by, programs_of}
+use Rattle.weave_entries.specs.GateReplay.{BegunRequest, program_begun, program_by, programs_of}
 use Rattle.weave_account.specs.declared.account.Account.{Account}
 use Rattle.weave_account.specs.Account.{all_begun, gate_log}
 use Rattle.weave_account.specs.IsAccount.{IsAccount}
@@ -60,7 +60,7 @@ last-cases r author (e ∷ log) = elim (last-cases r (author-after r author e) l
 ]
 
 -- what such an entry began
-deed-begins : (r author : ℕ) (deed : GateDeed) → begins_program r deed ≡ true → (b : Begun) × Contains (program_by author deed) b × ((b.request ≡ r) × (b.author ≡ author))
+deed-begins : (r author : ℕ) (deed : GateDeed) → begins_program r deed ≡ true → (b : BegunRequest) × Contains (program_by author deed) b × ((b.request ≡ r) × (b.author ≡ author))
 deed-begins r author (BeganProgram q stamp) h = (record { author = author; request = q; stamp = stamp }, has_head _ [], (eqb-true q r h, refl))
 deed-begins r author (BeganTx q stamp) h = absurd (let f : false ≡ true = h in cc)
 deed-begins r author (Sent q messages) h = absurd (let f : false ≡ true = h in cc)
@@ -69,9 +69,9 @@ deed-begins r author (Heard clock) h = absurd (let f : false ≡ true = h in cc)
 deed-begins r author (Raised epoch) h = absurd (let f : false ≡ true = h in cc)
 deed-begins r author (Finished q) h = absurd (let f : false ≡ true = h in cc)
 
-begins-deed : (author : ℕ) (deed : GateDeed) (b : Begun) → Contains (program_by author deed) b → begins_program b.request deed ≡ true
+begins-deed : (author : ℕ) (deed : GateDeed) (b : BegunRequest) → Contains (program_by author deed) b → begins_program b.request deed ≡ true
 begins-deed author (BeganProgram q stamp) b h = elim (has_read _ [] b h) [
-  | inl same ↦ eq-eqb q b.request (ap (λ (one : Begun). one.request) same)
+  | inl same ↦ eq-eqb q b.request (ap (λ (one : BegunRequest). one.request) same)
   | inr none ↦ absurd (has_none b none)
 ]
 begins-deed author (BeganTx q stamp) b h = absurd (has_none b h)
@@ -82,7 +82,7 @@ begins-deed author (Raised epoch) b h = absurd (has_none b h)
 begins-deed author (Finished q) b h = absurd (has_none b h)
 
 -- the last begin of a program is its only one
-pub last-author-is : (script : Script) (account : Account) → IsAccount script account → (home r : ℕ) (b : Begun) → program_begun r (gate_log account home) ≡ Some b → last_author r (gate_log account home) ≡ b.author
+pub last-author-is : (script : Script) (account : Account) → IsAccount script account → (home r : ℕ) (b : BegunRequest) → program_begun r (gate_log account home) ≡ Some b → last_author r (gate_log account home) ≡ b.author
 last-author-is script account is home r b begun-is = elim (last-cases r 0 log) [
   | inl none ↦
       let entry = flat_has (λ (e : GateEntry). program_by e.author e.deed) log b found.0 in
@@ -91,17 +91,17 @@ last-author-is script account is home r b begun-is = elim (last-cases r 0 log) [
       let one = deed-begins r of.entry.author of.entry.deed of.begins in
       let there = inside one.0 account.gates home (has_flat (λ (e : GateEntry). program_by e.author e.deed) log of.entry one.0 of.among one.1) in
       let first : Some b ≡ Some one.0 =
-      sym (find_by_key (λ (c : Begun). c.request) (all_begun account) b is.gatekeepers.once (inside b account.gates home found.0))
-      ∙ ap (λ n. find (λ (c : Begun). c.request == n) (all_begun account)) (its-request ∙ sym one.2.0)
-      ∙ find_by_key (λ (c : Begun). c.request) (all_begun account) one.0 is.gatekeepers.once there in
-      sym of.author_is ∙ sym one.2.1 ∙ ap (λ (c : Begun). c.author) (sym (same_Some b one.0 first))
+      sym (find_by_key (λ (c : BegunRequest). c.request) (all_begun account) b is.gatekeepers.once (inside b account.gates home found.0))
+      ∙ ap (λ n. find (λ (c : BegunRequest). c.request == n) (all_begun account)) (its-request ∙ sym one.2.0)
+      ∙ find_by_key (λ (c : BegunRequest). c.request) (all_begun account) one.0 is.gatekeepers.once there in
+      sym of.author_is ∙ sym one.2.1 ∙ ap (λ (c : BegunRequest). c.author) (sym (same_Some b one.0 first))
 ]
   where
     log : List GateEntry
     log = gate_log account home
 
     found : Contains (programs_of log) b × IsTrue (b.request == r)
-    found = find_has (λ (one : Begun). one.request == r) (programs_of log) b begun-is
+    found = find_has (λ (one : BegunRequest). one.request == r) (programs_of log) b begun-is
 
     its-request : b.request ≡ r
     its-request = eqb-true b.request r found.1

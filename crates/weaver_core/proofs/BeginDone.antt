@@ -22,7 +22,7 @@ use Rattle.weave_entries.specs.declared.oracle_log.OracleEntry.{OracleEntry}
 use Rattle.weave_account.proofs.InSession.{last-any}
 use Rattle.weaver_core.specs.ShardTable.{ShardTable}
 use Rattle.weave_entries.specs.declared.store_log.StoreEntry.{StoreEntry}
-use Rattle.weave_entries.specs.GateReplay.{Begun, begun_stamp, clock_of}
+use Rattle.weave_entries.specs.GateReplay.{BegunRequest, begun_stamp, clock_of}
 use Rattle.weave_entries.specs.GateRules.{IsGateLog}
 use Rattle.weave_entries.specs.SessionReplay.{session_of}
 use Rattle.weave_account.specs.declared.account.Account.{Account}
@@ -35,7 +35,7 @@ use Rattle.step_rules.specs.Entries.{after_begin, at_request, stamp_to_begin, wi
 use Rattle.step_rules.specs.Requests.{finds_flight, has_begun, waits_before, waits_for_earlier}
 use Rattle.weaver_core.specs.declared.client.Standing.TheVariants as standing
 use Rattle.weaver_core.specs.Beginning.{Begins, BeginsOne, IsBegun, IsReadyToBegin}
-use Rattle.weaver_core.specs.Clients as clients
+use Rattle.weaver_core.specs.Sessions as clients
 use Rattle.weaver_core.specs.Cores.{AreOf, MachinesDo, MachinesView, machines_of}
 use Rattle.weaver_core.specs.GateTable as gates
 use Rattle.weaver_core.proofs.CitedLaws.{RequestLaws}
@@ -47,7 +47,7 @@ pub record BeginLaws : Type 0 where
   -- stamps_are_begun
   pub last : (script : Script) (account : Account) → IsWithinLimits script → IsAccount script account → (session : ℕ) (stamp : Stamp) → (session_of [] (session_log account session)).last ≡ Some stamp → IsBegunStamp account stamp
   -- clocks_are_known
-  pub begun : (script : Script) (account : Account) → IsWithinLimits script → IsAccount script account → (begun : Begun) → Contains (all_begun account) begun → IsKnown account begun.stamp.clock
+  pub begun : (script : Script) (account : Account) → IsWithinLimits script → IsAccount script account → (begun : BegunRequest) → Contains (all_begun account) begun → IsKnown account begun.stamp.clock
   pub may_be_heard : (shards home : ℕ) (account : Account) → home < 8 → IsGateLog home shards (gate_log account home) → (clock : Clock) → IsKnown account clock → IsTrue (counts_no_more home (clock_of home (gate_log account home)) clock)
 
 -- how a request is says which tests hold
@@ -81,13 +81,14 @@ module _ (script : Script) (old : gates.GateTable) (store : List StoreEntry) (or
   -- what `begin` asks for
   module _ (laws : BeginLaws) where
     heard : (request : Request) → request.gate < script.gates
-        → ForSome (session_of [] (session_log account request.session)).last (λ stamp. IsTrue (counts_no_more request.gate (clock_of request.gate (gates.log_at old request.gate)) stamp.clock))
+        → ForSome (session_of [] (session_log account request.session)).last (λ stamp. IsTrue (counts_no_more request.gate (clock_of request.gate (gates.gate_log_at old request.gate)) stamp.clock))
     heard request below stamp is =
-        let from = map_has (λ (begun : Begun). begun.stamp) (all_begun account) stamp (laws.last script account are.limits are.core.account request.session stamp is) in
+        let from = map_has (λ (begun : BegunRequest). begun.stamp) (all_begun account) stamp (laws.last script account are.limits are.core.account request.session stamp is) in
         let known = subst (λ (s : Stamp). IsKnown account s.clock) from.2 (laws.begun script account are.limits are.core.account from.0 from.1) in
         let few = are.limits.few_gates in
         laws.may_be_heard script.shards request.gate account (omega (arith, below, few)) (are.core.account.gatekeepers.logs request.gate) stamp.clock known
 
+    -- the gatekeepers and the sessions are ready to begin any request of the script
     pub ready : (request : Request) → request_at script r ≡ Some request → IsReadyToBegin old was r request
     ready request is =
         let home = are.limits.homes r request is in
@@ -98,8 +99,8 @@ module _ (script : Script) (old : gates.GateTable) (store : List StoreEntry) (or
           gate = omega (arith, home, many);
           session = omega (arith, session, all);
           among = subst (λ rs. Contains rs r) (sym (requests-are request.session session)) (laws.requests.among script r request is);
-          known = subst (λ (last : Option Stamp). ForSome last (λ stamp. IsTrue (counts_no_more request.gate (clock_of request.gate (gates.log_at old request.gate)) stamp.clock)))
-              (last-any [] (clients.requests_at was request.session) (clients.log_at was request.session)) (heard request home);
+          known = subst (λ (last : Option Stamp). ForSome last (λ stamp. IsTrue (counts_no_more request.gate (clock_of request.gate (gates.gate_log_at old request.gate)) stamp.clock)))
+              (last-any [] (clients.requests_at was request.session) (clients.session_log_at was request.session)) (heard request home);
         }
 
   -- what it did
@@ -118,14 +119,14 @@ module _ (script : Script) (old : gates.GateTable) (store : List StoreEntry) (or
     told a b f ea eb ef = ap (for_request (answer_of_begin script account r)) request-is ∙ (λ i. cond (ea i) answer.Twice (cond (eb i) answer.Early (cond (ef i) answer.Busy answer.Ok)))
 
     -- the tests, as the sessions see them
-    waits-are : waits_before r (clients.requests_at was request.session) (clients.log_at was request.session) ≡ waits
-    waits-are = ap (λ (rs : List ℕ). waits_before r rs (clients.log_at was request.session)) (requests-are request.session (are.limits.sessions r request request-is))
+    waits-are : waits_before r (clients.requests_at was request.session) (clients.session_log_at was request.session) ≡ waits
+    waits-are = ap (λ (rs : List ℕ). waits_before r rs (clients.session_log_at was request.session)) (requests-are request.session (are.limits.sessions r request request-is))
 
     begun-done : IsBegun old new was is r request → MachinesDo script (step.Begin r) before after answer.Ok
     begun-done did =
-        let tests = is-next has (waits_before r (clients.requests_at was request.session) (clients.log_at was request.session)) did.next in
+        let tests = is-next has (waits_before r (clients.requests_at was request.session) (clients.session_log_at was request.session)) did.next in
         let stamp-is : did.stamp ≡ stamp_to_begin account request =
-        did.stamp_is ∙ ap (begun_stamp request.gate (clock_of request.gate (gates.log_at old request.gate))) (last-any (clients.requests_at was request.session) [] (clients.log_at was request.session)) in
+        did.stamp_is ∙ ap (begun_stamp request.gate (clock_of request.gate (gates.gate_log_at old request.gate))) (last-any (clients.requests_at was request.session) [] (clients.session_log_at was request.session)) in
         let logs : after.state.account ≡ with_begin account r request did.stamp = λ i. record account { gates = did.gate.logs i; sessions = did.session.logs i } in
         let many : length new.logs ≡ length old.logs = ap length did.gate.logs ∙ length-set old.logs request.gate _ in
         done script (step.Begin r) before after
@@ -142,13 +143,13 @@ module _ (script : Script) (old : gates.GateTable) (store : List StoreEntry) (or
     one-done : (a : StepAnswer) → BeginsOne old new was is r request a → MachinesDo script (step.Begin r) before after a
     one-done answer.Ok did = begun-done did
     one-done answer.Busy did =
-        let tests = is-next has (waits_before r (clients.requests_at was request.session) (clients.log_at was request.session)) did.next in
+        let tests = is-next has (waits_before r (clients.requests_at was request.session) (clients.session_log_at was request.session)) did.next in
         rests script (step.Begin r) before after answer.Busy (told false false true tests.0 (sym waits-are ∙ tests.1) did.flies) refl (same-machines did.gates_are did.clients_are)
     one-done answer.Twice did =
-        let test = is-twice has (waits_before r (clients.requests_at was request.session) (clients.log_at was request.session)) did.0 in
+        let test = is-twice has (waits_before r (clients.requests_at was request.session) (clients.session_log_at was request.session)) did.0 in
         rests script (step.Begin r) before after answer.Twice (told true waits (finds_flight account request) test refl refl) refl (λ i. machines_of (did.1 i) store oracle shards (did.2 i) notices)
     one-done answer.Early did =
-        let tests = is-early has (waits_before r (clients.requests_at was request.session) (clients.log_at was request.session)) did.0 in
+        let tests = is-early has (waits_before r (clients.requests_at was request.session) (clients.session_log_at was request.session)) did.0 in
         rests script (step.Begin r) before after answer.Early (told false true (finds_flight account request) tests.0 (sym waits-are ∙ tests.1) refl) refl (λ i. machines_of (did.1 i) store oracle shards (did.2 i) notices)
     one-done answer.Idle none = absurd none
     one-done answer.Old none = absurd none
@@ -158,6 +159,7 @@ module _ (script : Script) (old : gates.GateTable) (store : List StoreEntry) (or
     one-done (answer.Waits v) none = absurd none
     one-done (answer.Again s g) none = absurd none
 
+  -- by what gatekeepers and sessions did at `begin`, the machines did this step, with the same answer
   pub begin-done : (new : gates.GateTable) (is : clients.ClientTable) (a : StepAnswer) → Begins script old new was is r a → MachinesDo script (step.Begin r) before (machines_of new store oracle shards is notices) a
   begin-done new is a did = one-done new is did.request did.request_is a did.begins
 
@@ -175,5 +177,6 @@ module _ (script : Script) (old : gates.GateTable) (store : List StoreEntry) (or
   values-one new is request (answer.Waits v) none = absurd none
   values-one new is request (answer.Again s g) none = absurd none
 
+  -- and the values of the sessions stay
   pub begin-values : (new : gates.GateTable) (is : clients.ClientTable) (a : StepAnswer) → Begins script old new was is r a → is.values ≡ was.values
   begin-values new is a did = values-one new is did.request a did.begins

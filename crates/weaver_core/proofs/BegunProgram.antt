@@ -30,7 +30,7 @@ use Rattle.weave_entries.specs.declared.session_log.SessionDeed.TheVariants.{Beg
 use Rattle.weave_entries.specs.declared.shard_log.ShardEntry.{ShardEntry}
 use Rattle.weave_entries.specs.declared.shard_log.ShardDeed.{ShardDeed}
 use Rattle.weave_entries.specs.declared.shard_log.ShardDeed.TheVariants.{Arrived, Applied, Visited, Collected}
-use Rattle.weave_entries.specs.GateReplay.{Begun, program_begun, program_by, programs_of}
+use Rattle.weave_entries.specs.GateReplay.{BegunRequest, program_begun, program_by, programs_of}
 use Rattle.weave_entries.specs.SessionReplay.{SessionState, begin_by, begins_in, has_reply_in, replied_count, replied_in, reply_by, session_after, session_of, session_start, session_stamp_of}
 use Rattle.weave_entries.specs.ShardReplay.{Visit, reads_in, state_of_updates, updates_of, visit_by, visits_of}
 use Rattle.weave_account.specs.declared.account.Account.{Account}
@@ -56,6 +56,7 @@ use Rattle.weaver_core.proofs.Turns.{SessionLaws, begun-is, place-of, reply-is}
 
 -- Lists
 
+-- if none of a list passes a test, but an element added at its end does, this one is found
 pub find-last : {A : Type 0} (p : A → Bool) (xs : List A) (x : A) → find p xs ≡ None → p x ≡ true → find p (xs ++ x ∷ []) ≡ Some x
 find-last p [] x none is = ap (λ b. cond b (Some x) None) is
 find-last p (y ∷ xs) x none is = elim (p y) as (λ b. cond b (Some y) (find p xs) ≡ None → cond b (Some y) (find p (xs ++ x ∷ [])) ≡ Some x) [
@@ -76,12 +77,12 @@ flat-none f (x ∷ xs) none = (λ i. none x (has_head x xs) i ++ flat-none f xs 
 
 module _ (script : Script) (account : Account) (is : IsAccount script account) (r : ℕ) (none : stamp_of account r ≡ None) where
   -- a program that was begun has a stamp
-  begun-not : (home : ℕ) (b : Begun) → Contains (programs_of (gate_log account home)) b → b.request ≢ r
+  begun-not : (home : ℕ) (b : BegunRequest) → Contains (programs_of (gate_log account home)) b → b.request ≢ r
   begun-not home b h same = stamped (inside b account.gates home h)
     where
       stamped : Contains (all_begun account) b → ⊥
       stamped there =
-          let known : stamp_of account b.request ≡ Some b.stamp = ap (option_map (λ (one : Begun). one.stamp)) (find_by_key (λ (one : Begun). one.request) (all_begun account) b is.gatekeepers.once there) in
+          let known : stamp_of account b.request ≡ Some b.stamp = ap (option_map (λ (one : BegunRequest). one.stamp)) (find_by_key (λ (one : BegunRequest). one.request) (all_begun account) b is.gatekeepers.once there) in
           none-some b.stamp (sym none ∙ ap (stamp_of account) (sym same) ∙ known)
 
   visit-not : (shard : ℕ) (before : List ShardEntry) (author : ℕ) (deed : ShardDeed) (visit : Visit) → ShardFitsAs script account shard before deed → Contains (visit_by author deed) visit → (visit.request == r) ≡ false
@@ -104,6 +105,7 @@ module _ (script : Script) (account : Account) (is : IsAccount script account) (
       let cut = cut_at log from.0 from.1 in
       visit-not place.0 cut.before from.0.author from.0.deed visit (is.shards.deeds place.0 cut.before from.0 cut.after (log-is ∙ cut.is)) from.2))
 
+  -- a request that has no stamp has read nothing
   pub none-read : reads_of account r ≡ []
   none-read = flat-none (reads_in r) account.shards none-in
 
@@ -164,6 +166,7 @@ module _ (stay : StayLaws) (sessions : SessionLaws) (rise : (script : Script) (s
     session-next = let below = are.limits.sessions r request look.request_is in let all = are.core.sessions in
         get_or-set_same account.sessions request.session (session ++ record { author = request.session; deed = BegunDeed r stamp } ∷ []) [] (omega (arith, below, all))
 
+    -- after the begin of a program its stamp is the one that its session began last
     pub last-is : last_begun next request.session ≡ Some stamp
     last-is = ap (λ (log : List SessionEntry). (session_of [] log).last) session-next
         ∙ ap (λ (s : SessionState). s.last) (fold-append (λ s (entry : SessionEntry). session_after s entry.deed) (session_start []) session (record { author = request.session; deed = BegunDeed r stamp } ∷ []))
@@ -179,11 +182,11 @@ module _ (stay : StayLaws) (sessions : SessionLaws) (rise : (script : Script) (s
         let log = gate_log account request.gate in
         let home = are.limits.homes r request look.request_is in
         let many = are.core.account.gatekeepers.as_many in
-        let b : Begun = record { author = 0; request = r; stamp = stamp } in
+        let b : BegunRequest = record { author = 0; request = r; stamp = stamp } in
         ap (program_begun r) (get_or-set_same account.gates request.gate (log ++ record { author = 0; deed = begin_deed r stamp request.work } ∷ []) [] (omega (arith, home, many)))
         ∙ ap (λ (work : Work). program_begun r (log ++ record { author = 0; deed = begin_deed r stamp work } ∷ [])) look.work_is
-        ∙ ap (find (λ (one : Begun). one.request == r)) (flat_map-append (λ (entry : GateEntry). program_by entry.author entry.deed) log (record { author = 0; deed = BeganProgram r stamp } ∷ []))
-        ∙ find-last (λ (one : Begun). one.request == r) (programs_of log) b (not-begun script account are.limits are.core.account r request look.request_is unstamped) (eq-eqb r r refl)
+        ∙ ap (find (λ (one : BegunRequest). one.request == r)) (flat_map-append (λ (entry : GateEntry). program_by entry.author entry.deed) log (record { author = 0; deed = BeganProgram r stamp } ∷ []))
+        ∙ find-last (λ (one : BegunRequest). one.request == r) (programs_of log) b (not-begun script account are.limits are.core.account r request look.request_is unstamped) (eq-eqb r r refl)
 
     runs : is_ended next r ≡ false
     runs = elim (cases_Bool (is_ended next r)) [
@@ -195,6 +198,7 @@ module _ (stay : StayLaws) (sessions : SessionLaws) (rise : (script : Script) (s
       | inr on ↦ on
     ]
 
+    -- with a walk of it that has read nothing, the program is running then
     pub running-begun : (walk : AnyProgram) → any_of walk ≡ program → HasRead walk [] → IsRunningIn script next r (record { request = r; stamp = stamp; walk = walk })
     running-begun walk program-is has = record {
       program = program;
@@ -232,5 +236,6 @@ ok-is Empty e = absurd (let f : false ≡ true = e in cc)
 ok-is (Waits v) e = absurd (let f : false ≡ true = e in cc)
 ok-is (Again s g) e = absurd (let f : false ≡ true = e in cc)
 
+-- a `begin` that was not done leaves the state as it was
 pub not-done : (script : Script) (old left : MachinesView) (r : ℕ) (a : StepAnswer) → MachinesDo script (Begin r) old left a → is_ok a ≡ false → left.state ≡ old.state
 not-done script old left r a did fails = did.state_is ∙ ap (λ b. if b then state_with script old.state (Begin r) else old.state) (ap is_ok (sym did.answer_is) ∙ fails)

@@ -24,7 +24,7 @@ use Rattle.weave_entries.specs.declared.store_log.StoreEntry.{StoreEntry}
 use Rattle.weave_entries.specs.declared.store_log.StoreDeed.{StoreDeed}
 use Rattle.weave_entries.specs.declared.store_log.StoreDeed.TheVariants.{Judged}
 use Rattle.weave_entries.specs.declared.verdict.Verdict.TheVariants.{Committed, Conflict, Refused}
-use Rattle.weave_entries.specs.GateReplay.{Begun, begun_in, ended_in, is_begun, program_begun, programs_of, running_of}
+use Rattle.weave_entries.specs.GateReplay.{BegunRequest, begun_in, ended_in, is_begun, program_begun, programs_of, running_of}
 use Rattle.weave_entries.specs.ShardReplay.{Update, updates_of}
 use Rattle.weave_entries.specs.ShardRules.{IsKeptFor, dropped_of, kept_stamps, update_stamps}
 use Rattle.weave_entries.specs.StoreReplay.{Commit, Judgement, commit_by, commits_naming, commits_of, judged_by, judgements_of, names_vertex}
@@ -45,7 +45,7 @@ pub record CanVisitLaws : Type 0 where
   -- stamps_are_begun
   pub updates : (script : Script) (account : Account) → IsWithinLimits script → IsAccount script account → (v : Name) (shard : ℕ) (update : Update) → Contains (updates_of v (shard_log account shard)) update → IsBegunStamp account update.stamp
   -- collections_leave_what_programs_see
-  pub kept : (script : Script) (account : Account) → IsWithinLimits script → IsAccount script account → (home : ℕ) (program : Begun) → Contains (running_of (gate_log account home)) program
+  pub kept : (script : Script) (account : Account) → IsWithinLimits script → IsAccount script account → (home : ℕ) (program : BegunRequest) → Contains (running_of (gate_log account home)) program
       → (v : Name) → IsKeptFor program.stamp v (shard_log account (shard_of v script.shards))
 
 -- Members
@@ -66,13 +66,14 @@ commit-deed author (Judged r stamp ops asked (Committed number answers counts)) 
 commit-deed author (Judged r stamp ops asked (Conflict v newer)) c h = absurd (has_none c h)
 commit-deed author (Judged r stamp ops asked (Refused op reason at)) c h = absurd (has_none c h)
 
+-- a commit in the store's log is of a judgement there, with its request and its stamp
 pub commit-judged : (store : List StoreEntry) (c : Commit) → Contains (commits_of store) c → (judged : Judgement) × (Contains (judgements_of store) judged × ((judged.request ≡ c.request) × (judged.stamp ≡ c.stamp)))
 commit-judged store c h =
     let from = flat_has (λ (entry : StoreEntry). commit_by entry.deed) store c h in
     (judged_by from.0.author from.0.deed, (has_map (λ (entry : StoreEntry). judged_by entry.author entry.deed) store from.0 from.1, commit-deed from.0.author from.0.deed c from.2))
 
 -- a program of some log is among all that was begun
-pub inside : (b : Begun) (gates : List (List GateEntry)) (n : ℕ) → Contains (programs_of (slice_index_or gates n [])) b → Contains (flat_map begun_in gates) b
+pub inside : (b : BegunRequest) (gates : List (List GateEntry)) (n : ℕ) → Contains (programs_of (slice_index_or gates n [])) b → Contains (flat_map begun_in gates) b
 inside b [] n has = absurd (has_none b has)
 inside b (log ∷ gates) zero has = has_flat begun_in (log ∷ gates) log b (has_head log gates) (program-begun log b has)
 inside b (log ∷ gates) (suc n) has =
@@ -80,12 +81,12 @@ inside b (log ∷ gates) (suc n) has =
     has_flat begun_in (log ∷ gates) from.0 b (has_tail log gates from.0 from.1) from.2
 
 module _ (run : RunLaws) (script : Script) (account : Account) (limits : IsWithinLimits script) (is : IsAccount script account) (r : ℕ) (request : Request) (request-is : request_at script r ≡ Some request)
-    (program : Program) (looks : request.work ≡ Look program) (begun : Begun) (begun-is : program_begun r (gate_log account request.gate) ≡ Some begun) (runs : is_ended account r ≡ false) where
+    (program : Program) (looks : request.work ≡ Look program) (begun : BegunRequest) (begun-is : program_begun r (gate_log account request.gate) ≡ Some begun) (runs : is_ended account r ≡ false) where
   abbrev log : List GateEntry
   log = gate_log account request.gate
 
   found : Contains (programs_of log) begun × IsTrue (begun.request == r)
-  found = find_has (λ (one : Begun). one.request == r) (programs_of log) begun begun-is
+  found = find_has (λ (one : BegunRequest). one.request == r) (programs_of log) begun begun-is
 
   its-request : begun.request ≡ r
   its-request = eqb-true begun.request r found.1
@@ -96,18 +97,21 @@ module _ (run : RunLaws) (script : Script) (account : Account) (limits : IsWithi
   log-there : Contains account.gates log
   log-there = Contains-get_or account.gates request.gate [] gate-there
 
+  -- the program is among all that was begun
   pub among-begun : Contains (all_begun account) begun
   among-begun = has_flat begun_in account.gates log begun log-there (program-begun log begun found.0)
 
-  -- it is running at its gatekeeper
+  -- it has not ended at its gatekeeper
   pub not-ended : ¬ Contains (ended_in log) begun.request
   not-ended h =
       let ended : IsTrue (is_in r (flat_map ended_in account.gates)) = any_from (λ (n : ℕ). r == n) (flat_map ended_in account.gates) begun.request (has_flat ended_in account.gates log begun.request log-there h) (eq-eqb r begun.request (sym its-request)) in
       both_ways (is_ended account r) runs ended
 
+  -- and is among the programs that its gatekeeper runs
   pub is-running : Contains (running_of log) begun
   is-running = (run.running request.gate script.shards log (is.gatekeepers.logs request.gate) (run.once script account limits is request.gate) begun).1 (found.0, not-ended)
 
+  -- and it runs there in the name of the author of its begin
   pub runs-there : IsTrue (list_any (is_begun begun.author r) (running_of log))
   runs-there = any_from (is_begun begun.author r) (running_of log) begun is-running (and_from (begun.author == begun.author) (begun.request == r) (eq-eqb begun.author begun.author refl) found.1)
 
@@ -134,7 +138,7 @@ module _ (run : RunLaws) (script : Script) (account : Account) (limits : IsWithi
 
     known : (stamp : Stamp) → Contains (begun.stamp ∷ kept_stamps v here ++ ends_of (pairs_in account)) stamp → Contains (begun_stamps account) stamp
     known stamp h = elim (has_read begun.stamp (kept_stamps v here ++ ends_of (pairs_in account)) stamp h) [
-      | inl same ↦ subst (λ (s : Stamp). Contains (begun_stamps account) s) same (has_map (λ (b : Begun). b.stamp) (all_begun account) begun among-begun)
+      | inl same ↦ subst (λ (s : Stamp). Contains (begun_stamps account) s) same (has_map (λ (b : BegunRequest). b.stamp) (all_begun account) begun among-begun)
       | inr rest ↦ elim (Contains-append_cases (kept_stamps v here) (ends_of (pairs_in account)) stamp rest) [
         | inl kept ↦
             let from = map_has (λ (update : Update). update.stamp) (updates_of v here) stamp (kept-of-update v here stamp kept) in
@@ -149,6 +153,7 @@ module _ (run : RunLaws) (script : Script) (account : Account) (limits : IsWithi
       ]
     ]
 
+    -- the shard of any vertex can be asked for that vertex for the program
     pub can-be-visited : CanBeVisited account.oracle here begun.stamp v
     can-be-visited = record {
       other_ids = All-from_recursion (λ (stamp : Stamp). id_of stamp ≢ id_of begun.stamp) (kept_stamps v here) (all-from (λ (stamp : Stamp). id_of stamp ≢ id_of begun.stamp) (kept_stamps v here) (λ stamp h. update-differs stamp (kept-of-update v here stamp h)));

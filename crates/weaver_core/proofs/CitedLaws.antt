@@ -7,7 +7,7 @@ use Rattle.weave_data.specs.declared.name.Name.{Name}
 use Rattle.vector_stamp.specs.declared.clock.Stamp.{Stamp}
 use Rattle.vector_stamp.specs.Coherence.{AreCoherent}
 use Rattle.vector_stamp.specs.Order.{id_of}
-use Rattle.vector_stamp.specs.Precedence.{Given, JoinsEvents}
+use Rattle.vector_stamp.specs.Precedence.{GivenPair, JoinsEvents}
 use Rattle.order_graph.specs.Building.{ends_of}
 use Rattle.program_defs.specs.Limits.{IsWithinLimits}
 use Rattle.program_defs.specs.declared.script.Request.{Request}
@@ -15,7 +15,7 @@ use Rattle.program_defs.specs.declared.script.Script.{Script}
 use Rattle.program_defs.specs.declared.script.Work.TheVariants.{Change}
 use Rattle.report_rules.specs.Lookups.{request_at}
 use Rattle.weave_entries.specs.declared.gate_log.GateEntry.{GateEntry}
-use Rattle.weave_entries.specs.GateReplay.{Begun, ended_in, flight_of, programs_of, running_of, txs_of}
+use Rattle.weave_entries.specs.GateReplay.{BegunRequest, ended_in, flight_of, programs_of, running_of, txs_of}
 use Rattle.weave_entries.specs.GateRules.{BeginsEachOnce, IsGateLog}
 use Rattle.weave_entries.specs.ShardReplay.{updates_of}
 use Rattle.weave_entries.specs.StoreReplay.{Judgement, commits_naming, judgements_of}
@@ -29,7 +29,7 @@ use Rattle.weave_account.specs.Shards.{update_of}
 pub record BegunLaws : Type 0 where
   -- begun_stamps_are_coherent
   pub coherent : (script : Script) (account : Account) → IsWithinLimits script → IsAccount script account → AreCoherent (begun_stamps account)
-  pub differ : (script : Script) (account : Account) → IsWithinLimits script → IsAccount script account → (a b : Begun) → Contains (all_begun account) a → Contains (all_begun account) b → a.request ≢ b.request → id_of a.stamp ≢ id_of b.stamp
+  pub differ : (script : Script) (account : Account) → IsWithinLimits script → IsAccount script account → (a b : BegunRequest) → Contains (all_begun account) a → Contains (all_begun account) b → a.request ≢ b.request → id_of a.stamp ≢ id_of b.stamp
   -- judgements_are_of_requests
   pub begun : (script : Script) (account : Account) → IsWithinLimits script → IsAccount script account → (judged : Judgement) → Contains (judgements_of account.store) judged
       → Contains (all_begun account) (record { author = judged.author; request = judged.request; stamp = judged.stamp })
@@ -50,15 +50,15 @@ pub record AskedLaws : Type 0 where
   -- parts_and_unions_are_coherent
   pub part : (stamps others : List Stamp) → AreCoherent others → ((stamp : Stamp) → Contains stamps stamp → Contains others stamp) → AreCoherent stamps
   -- ends_are_of_pairs
-  pub no_others : (pairs : List Given) (stamp : Stamp) → Contains (ends_of pairs) stamp → (pair : Given) × Contains pairs pair × ((pair.0 ≡ stamp) ⊎ (pair.1 ≡ stamp))
+  pub no_others : (pairs : List GivenPair) (stamp : Stamp) → Contains (ends_of pairs) stamp → (pair : GivenPair) × Contains pairs pair × ((pair.0 ≡ stamp) ⊎ (pair.1 ≡ stamp))
 
 -- what is running
 pub record RunLaws : Type 0 where
   -- requests_end_or_go_on
   pub once : (script : Script) (account : Account) → IsWithinLimits script → IsAccount script account → (home : ℕ) → BeginsEachOnce (gate_log account home)
   -- what_has_not_ended_goes_on
-  pub running : (home shards : ℕ) (log : List GateEntry) → IsGateLog home shards log → BeginsEachOnce log → (program : Begun) → Contains (running_of log) program ↔ (Contains (programs_of log) program × ¬ Contains (ended_in log) program.request)
-  pub flight : (home shards : ℕ) (log : List GateEntry) → IsGateLog home shards log → BeginsEachOnce log → (tx : Begun) → (flight_of log ≡ Some tx) ↔ (Contains (txs_of log) tx × ¬ Contains (ended_in log) tx.request)
+  pub running : (home shards : ℕ) (log : List GateEntry) → IsGateLog home shards log → BeginsEachOnce log → (program : BegunRequest) → Contains (running_of log) program ↔ (Contains (programs_of log) program × ¬ Contains (ended_in log) program.request)
+  pub flight : (home shards : ℕ) (log : List GateEntry) → IsGateLog home shards log → BeginsEachOnce log → (tx : BegunRequest) → (flight_of log ≡ Some tx) ↔ (Contains (txs_of log) tx × ¬ Contains (ended_in log) tx.request)
 
 -- the requests of a session
 pub record RequestLaws : Type 0 where

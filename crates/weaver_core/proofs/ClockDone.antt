@@ -16,10 +16,10 @@ use Rattle.weave_entries.specs.GateReplay.{clock_of}
 use Rattle.weave_account.specs.declared.account.Account.{Account}
 use Rattle.step_rules.specs.CoreState.{CoreState}
 use Rattle.step_rules.specs.Entries.{after_hear}
-use Rattle.weaver_core.specs.Clients.{ClientTable}
+use Rattle.weaver_core.specs.Sessions.{ClientTable}
 use Rattle.weaver_core.specs.Clocking.{Hears, Raises}
 use Rattle.weaver_core.specs.Cores.{MachinesDo, MachinesView, machines_of}
-use Rattle.weaver_core.specs.GateTable.{GateTable, log_at}
+use Rattle.weaver_core.specs.GateTable.{GateTable, gate_log_at}
 use Rattle.weaver_core.proofs.Resting.{done, gate-frame, gate-gains, rests, same-gates}
 
 module _ (script : Script) (old : GateTable) (store : List StoreEntry) (oracle : List OracleEntry) (shards : ShardTable) (was : ClientTable) (notices : List Clock) where
@@ -30,9 +30,10 @@ module _ (script : Script) (old : GateTable) (store : List StoreEntry) (oracle :
   state-of account = record { account = account; notices = notices }
 
   -- the clock is the next notice
-  pub say-done : (g : ℕ) (clock : Clock) → clock ≡ clock_of g (log_at old g) → MachinesDo script (step.Say g) before (machines_of old store oracle shards was (notices ++ clock ∷ [])) answer.Ok
+  pub say-done : (g : ℕ) (clock : Clock) → clock ≡ clock_of g (gate_log_at old g) → MachinesDo script (step.Say g) before (machines_of old store oracle shards was (notices ++ clock ∷ [])) answer.Ok
   say-done g clock is = done script (step.Say g) before _ refl (ap (λ (c : Clock). record { account = before.state.account; notices = notices ++ c ∷ [] }) is) refl tt
 
+  -- by what the gatekeepers did at `hear`, the machines did this step, with the same answer
   pub hear-done : (new : GateTable) (g notice : ℕ) (a : StepAnswer) → Hears old new notices g notice a → MachinesDo script (step.Hear g notice) before (machines_of new store oracle shards was notices) a
   hear-done new g notice answer.Ok did =
       let there = did.notice_is in
@@ -52,14 +53,15 @@ module _ (script : Script) (old : GateTable) (store : List StoreEntry) (oracle :
   hear-done new g notice (answer.Waits v) none = absurd none
   hear-done new g notice (answer.Again s h) none = absurd none
 
+  -- the same of `epoch`
   pub raise-done : (new : GateTable) (g epoch : ℕ) (a : StepAnswer) → Raises old new g epoch a → MachinesDo script (step.Epoch g epoch) before (machines_of new store oracle shards was notices) a
   raise-done new g epoch answer.Ok did =
       done script (step.Epoch g epoch) before _
-      (ap (λ (b : Bool). if b then answer.Ok else answer.Old) (not-false (nat_lt (clock_of g (log_at old g)).epoch epoch) did.1))
+      (ap (λ (b : Bool). if b then answer.Ok else answer.Old) (not-false (nat_lt (clock_of g (gate_log_at old g)).epoch epoch) did.1))
       (ap state-of (gate-gains old store oracle shards was notices new g 0 (Raised epoch) did.0))
       (gate-frame old store oracle shards was notices new g 0 (Raised epoch) did.0) tt
   raise-done new g epoch answer.Old did =
-      rests script (step.Epoch g epoch) before _ answer.Old (ap (λ (b : Bool). if b then answer.Ok else answer.Old) (not-true (nat_lt (clock_of g (log_at old g)).epoch epoch) did.1)) refl (same-gates old store oracle shards was notices new did.0)
+      rests script (step.Epoch g epoch) before _ answer.Old (ap (λ (b : Bool). if b then answer.Ok else answer.Old) (not-true (nat_lt (clock_of g (gate_log_at old g)).epoch epoch) did.1)) refl (same-gates old store oracle shards was notices new did.0)
   raise-done new g epoch answer.Twice none = absurd none
   raise-done new g epoch answer.Early none = absurd none
   raise-done new g epoch answer.Busy none = absurd none

@@ -17,7 +17,7 @@ use Rattle.weave_account.specs.Sessions.{requests_of_session}
 use Rattle.step_rules.specs.CoreState.{CoreState, start_state}
 use Rattle.step_rules.specs.IsCore.{IsCore, IsSmallIfDone, IsStepOf}
 use Rattle.step_rules.specs.Trace.{state_after}
-use Rattle.weaver_core.specs.Clients.{ClientTable, SessionValues, no_values}
+use Rattle.weaver_core.specs.Sessions.{ClientTable, SessionValues, no_values}
 use Rattle.weaver_core.specs.Cores.{AreOf, MachinesFrame, IsFrameOf, MachinesDo, MachinesView, machines_of}
 use Rattle.weaver_core.specs.GateTable.{GateTable}
 use Rattle.weaver_core.specs.ShardTable.{ShardTable}
@@ -35,12 +35,14 @@ module _ (script : Script) (limits : IsWithinLimits script) (start : IsCore scri
   abbrev machines : MachinesView
   machines = machines_of gates store oracle shards clients notices
 
+  -- the state of the machines is that before the first step
   pub start-is : machines.state ≡ start_state script
   start-is = λ i. record {
     account = record { gates = (gates-are i).logs; store = store-is i; oracle = oracle-is i; shards = (shards-are i).logs; sessions = logs-are i };
     notices = notices-are i;
   }
 
+  -- and they are a core of the script
   pub start-are : AreOf script machines
   start-are = record {
     limits = limits;
@@ -78,6 +80,7 @@ values-at-first script account = record {
   replies = record { requests = refl; each = λ reply has. absurd (has_none reply has) };
 }
 
+-- before the first step, values without programs and replies are those of the logs
 pub values-of-start : (script : Script) (machines : MachinesView) → machines.state ≡ start_state script → machines.values ≡ replicate 64 no_values → AreAllByLog script machines.state.account machines.values
 values-of-start script machines is values-are =
     subst (λ (state : CoreState). AreAllByLog script state.account machines.values) (sym is) (subst (λ (values : List SessionValues). AreAllByLog script (start_state script).account values) (sym values-are) (record {

@@ -10,8 +10,8 @@ use Rattle.weave_entries.specs.declared.oracle_log.OracleEntry.{OracleEntry}
 use Rattle.weave_entries.specs.declared.shard_log.ShardEntry.{ShardEntry}
 use Rattle.weave_entries.specs.declared.store_log.StoreEntry.{StoreEntry}
 use Rattle.report_rules.specs.declared.report.Pair.{Pair}
-use Rattle.weaver_core.specs.Marks.{AddsVisits, all_visits, is_in, mark_of, was_asked}
-use Rattle.weaver_core.specs.Reporting.{HasRequests, all_pairs_found, found_in, key_of, request_from, request_with, same_key}
+use Rattle.weaver_core.specs.Marks.{AddsVisits, all_visits, has_mark, mark_of, was_asked}
+use Rattle.weaver_core.specs.Reporting.{HasRequests, all_pairs_found, found_in, key_of, request_with_id, request_with, same_key}
 
 -- one request more, before all others
 pub table-more : (stamps : List (Option Stamp)) (n : ℕ) (stamp : Stamp) (written : ℕ × ℕ × ℕ) (es fs : List ((ℕ × ℕ × ℕ) × ℕ)) → n < length stamps → get_or stamps n None ≡ Some stamp → written ≡ key_of (id_of stamp)
@@ -19,8 +19,8 @@ pub table-more : (stamps : List (Option Stamp)) (n : ℕ) (stamp : Stamp) (writt
 table-more stamps n stamp written es fs within at is has writes id =
     writes (key_of id)
     ∙ (λ i. cond (same_key (is i) (key_of id)) (Some n) (has id i))
-    ∙ ap (λ (o : Option Stamp). request_from n id (o ∷ drop (suc n) stamps)) (sym at)
-    ∙ sym (ap (request_from n id) (drop-cons stamps n None within))
+    ∙ ap (λ (o : Option Stamp). request_with_id n id (o ∷ drop (suc n) stamps)) (sym at)
+    ∙ sym (ap (request_with_id n id) (drop-cons stamps n None within))
 
 -- the pairs by the requests of stamps, and by which visits there were
 abbrev pairs-by : (Stamp → Option ℕ) → (ℕ × Name × ℕ → Bool) → List StoreEntry → List OracleEntry → List Pair
@@ -30,6 +30,6 @@ pairs-by request_of visited store oracle = all_pairs_found request_of store (mar
 pub all-found : {X : Type 0} (entries : List ((ℕ × ℕ × ℕ) × ℕ)) (stamps : List (Option Stamp)) → HasRequests 0 stamps entries
     → (visits : List ((ℕ × Name × ℕ) × X)) (logs : List (List ShardEntry)) → AddsVisits {X = X} [] visits (all_visits logs)
     → (store : List StoreEntry) (oracle : List OracleEntry)
-    → pairs-by (found_in entries) (is_in visits) store oracle ≡ pairs-by (request_with stamps) (was_asked (all_visits logs)) store oracle
+    → pairs-by (found_in entries) (has_mark visits) store oracle ≡ pairs-by (request_with stamps) (was_asked (all_visits logs)) store oracle
 all-found entries stamps has visits logs adds store oracle =
     λ i. pairs-by (λ (event : Stamp). has (id_of event) i) (λ (key : ℕ × Name × ℕ). (adds key ∙ or-false (was_asked (all_visits logs) key)) i) store oracle

@@ -14,11 +14,11 @@ use Rattle.std.proofs.lemmas.Map.Keys.{sorted_tail}
 use Rattle.std.proofs.lemmas.Bool.{leb-false}
 use Rattle.std.proofs.lemmas.Option.{none-some}
 use Rattle.weave_data.specs.Names.{name_cmp}
-use Rattle.weave_data.specs.Pairs.{IsRising, at_key, has, is_full, put, without}
+use Rattle.weave_data.specs.Pairs.{IsRising, at_key, has, is_full, put, without_key}
 use Rattle.weave_data.specs.declared.name.Name.{Name}
 use Rattle.weave_data.proofs.Changing.{none_rise, rising_put, rising_without}
-use Rattle.graph_ops.specs.Operations.{State, applied, target_of}
-use Rattle.graph_ops.specs.VertexOps.{state_after, state_left}
+use Rattle.graph_ops.specs.Operations.{State, outcome_of_op, target_of}
+use Rattle.graph_ops.specs.VertexOps.{state_after_ops, state_left}
 use Rattle.graph_ops.specs.declared.op.Op.{Op}
 use Rattle.graph_ops.specs.declared.record.Edge.{Edge}
 use Rattle.graph_ops.specs.declared.record.Record.{Record}
@@ -46,11 +46,11 @@ length-put-has {X} key value there (e ∷ es) rising is =
       | Greater ↦ λ greater h. ap suc (length-put-has key value there es (sorted_tail name_cmp e.0 (keys_of es) rising) h)
     ] refl is
 
-length-without : {X : Type 0} (key : Name) (es : List (Name × X)) → length (without key es) ≤ length es
+length-without : {X : Type 0} (key : Name) (es : List (Name × X)) → length (without_key key es) ≤ length es
 length-without key [] = omega arith
 length-without {X} key (e ∷ es) = by (length-without key es) (is_at (name_cmp key) e.0)
   where
-    by : length (without key es) ≤ length es → (b : Bool) → length (cond b es (e ∷ without key es)) ≤ length (e ∷ es)
+    by : length (without_key key es) ≤ length es → (b : Bool) → length (cond b es (e ∷ without_key key es)) ≤ length (e ∷ es)
     by rest true = omega arith
     by rest false = omega (arith, rest)
 
@@ -86,16 +86,16 @@ any-target : (o : Option Name) → IfSome o (λ target. ⊤)
 any-target None = tt
 any-target (Some target) = tt
 
-good-left : (op : Op) (state : State) → IsGood state → IsGood (state_left state (applied op state))
+good-left : (op : Op) (state : State) → IsGood state → IsGood (state_left state (outcome_of_op op state))
 good-left op state good = edges-kept AreGood (λ target. ⊤) good-kept op state good (any-target (target_of op))
 
-good-after : (ops : List Op) (state : State) → IsGood state → IsGood (state_after ops state)
+good-after : (ops : List Op) (state : State) → IsGood state → IsGood (state_after_ops ops state)
 good-after [] state good = good
-good-after (op ∷ ops) state good = good-after ops (state_left state (applied op state)) (good-left op state good)
+good-after (op ∷ ops) state good = good-after ops (state_left state (outcome_of_op op state)) (good-left op state good)
 
-good-updates : (updates : List Update) (state : State) → IsGood state → IsGood (fold (λ now (update : Update). state_after update.ops now) state updates)
+good-updates : (updates : List Update) (state : State) → IsGood state → IsGood (fold (λ now (update : Update). state_after_ops update.ops now) state updates)
 good-updates [] state good = good
-good-updates (update ∷ updates) state good = good-updates updates (state_after update.ops state) (good-after update.ops state good)
+good-updates (update ∷ updates) state good = good-updates updates (state_after_ops update.ops state) (good-after update.ops state good)
 
 -- a state that updates made has few edges
 pub few-edges : (updates : List Update) → IfSome (state_of_updates updates) (λ (found : Record). length found.edges ≤ 1000)

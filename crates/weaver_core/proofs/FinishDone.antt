@@ -31,7 +31,7 @@ use Rattle.step_rules.specs.Answers.{answer_of, answer_of_reply, for_request}
 use Rattle.step_rules.specs.CoreState.{with_gate_deed, with_session_deed}
 use Rattle.step_rules.specs.Entries.{after_reply, after_work, at_request, with_finish}
 use Rattle.step_rules.specs.Requests.{has_begun, has_ended, has_reply, is_answered}
-use Rattle.weaver_core.specs.Clients as clients
+use Rattle.weaver_core.specs.Sessions as clients
 use Rattle.weaver_core.specs.Cores.{AreOf, MachinesDo, MachinesView, machines_of}
 use Rattle.weaver_core.specs.Finishing.{AreSameParts, CanBeFinished, FinishesInSession, IsFinished, IsRunningOn, last_author}
 use Rattle.weaver_core.specs.GateTable as gates
@@ -97,6 +97,7 @@ module _ (script : Script) (old : gates.GateTable) (store : List StoreEntry) (or
   author-is : (running : Running) (runs : IsRunningIn script account r running) → last_author r log ≡ runs.runs.author
   author-is running runs = last-author-is script account are.core.account request.gate r (record { author = runs.runs.author; request = r; stamp = running.stamp }) (begun-here running runs)
 
+  -- if the values are those of the logs, the program can be finished, if its session waits for the reply
   pub can-be-finished : AreAllByLog script account was.values → CanBeFinished old was request.gate request.session r
   can-be-finished all =
       let home = are.limits.homes r request request-is in
@@ -131,6 +132,7 @@ module _ (script : Script) (old : gates.GateTable) (store : List StoreEntry) (or
     abbrev after : MachinesView
     after = machines_of new store oracle shards is notices
 
+    -- if nothing but the room of a session differs, the machines are the same
     pub same-parts : AreSameParts old new was is → after ≡ before
     same-parts same = ap (λ (t : gates.GateTable). machines_of t store oracle shards is notices) same.gates_are ∙ same-sessions old store oracle shards was notices is same.clients_are
 
@@ -187,6 +189,7 @@ module _ (script : Script) (old : gates.GateTable) (store : List StoreEntry) (or
         let going : is_some next ≡ true = ap is_some (sym (its-next running runs on.going.asks)) ∙ on.going.next in
         is-open (has_begun account r request) (has_reply account r request) (not (is_answered account r request request.work)) on.is_open ∙ ap not answered-is ∙ ap (λ b. not (not b)) going
 
+    -- by what gatekeeper, session and program did at `reply`, the machines did this step, with the same answer
     pub finish-done : (a : StepAnswer) → FinishesInSession old new was is request.gate request.session r a → MachinesDo script (step.Reply r) before after a
     finish-done answer.Ok did = finished-done did
     finish-done answer.Idle did = elim did.1 [
@@ -227,5 +230,6 @@ module _ (script : Script) (old : gates.GateTable) (store : List StoreEntry) (or
     values-one (answer.Waits v) none = absurd none
     values-one (answer.Again s g) none = absurd none
 
+    -- and the values of the sessions are those that `reply` of a program leaves
     pub finish-values : (a : StepAnswer) → FinishesInSession old new was is request.gate request.session r a → RepliesToProgram script r before after a
     finish-values a did other at = subst (λ (one : Request). ValuesAfterFinish before after one.session r a) (same_Some request other (sym request-is ∙ at)) (values-one a did)

@@ -18,7 +18,7 @@ use Rattle.weave_entries.specs.SessionReplay.{has_reply_in, replied_count, sessi
 use Rattle.weave_account.specs.declared.account.Account.{Account}
 use Rattle.weave_account.specs.Sessions.{requests_of_session}
 use Rattle.step_rules.specs.Requests.{has_reply}
-use Rattle.weaver_core.specs.Clients.{ClientTable, IsFirstUnanswered, log_at, requests_at, unanswered_at, unanswered_in}
+use Rattle.weaver_core.specs.Sessions.{ClientTable, IsFirstUnanswered, session_log_at, requests_at, unanswered_at, unanswered_in}
 use Rattle.weaver_core.specs.Cores.{AreOf, machines_of}
 use Rattle.weaver_core.specs.GateTable.{GateTable}
 use Rattle.weaver_core.specs.ShardTable.{ShardTable}
@@ -45,23 +45,23 @@ module _ (script : Script) (old : GateTable) (store : List StoreEntry) (oracle :
 
   -- how many requests of a session have their replies
   abbrev count : ℕ → ℕ
-  count s = replied_count (session_of (requests s) (log_at was s))
+  count s = replied_count (session_of (requests s) (session_log_at was s))
 
-  replied-is : (s i r : ℕ) → slice_get (requests s) i ≡ Some r → i < count s → has_reply_in r (log_at was s) ≡ true
-  replied-is s i r at less = reply-is sessions s (requests s) (log_at was s) (are.core.account.sessions.logs s) (laws.rise script s) i r at ∙ lt-ltb i (count s) less
+  replied-is : (s i r : ℕ) → slice_get (requests s) i ≡ Some r → i < count s → has_reply_in r (session_log_at was s) ≡ true
+  replied-is s i r at less = reply-is sessions s (requests s) (session_log_at was s) (are.core.account.sessions.logs s) (laws.rise script s) i r at ∙ lt-ltb i (count s) less
 
-  no-reply-is : (s i r : ℕ) → slice_get (requests s) i ≡ Some r → count s ≤ i → has_reply_in r (log_at was s) ≡ false
-  no-reply-is s i r at over = reply-is sessions s (requests s) (log_at was s) (are.core.account.sessions.logs s) (laws.rise script s) i r at ∙ le-ltb i (count s) over
+  no-reply-is : (s i r : ℕ) → slice_get (requests s) i ≡ Some r → count s ≤ i → has_reply_in r (session_log_at was s) ≡ false
+  no-reply-is s i r at over = reply-is sessions s (requests s) (session_log_at was s) (are.core.account.sessions.logs s) (laws.rise script s) i r at ∙ le-ltb i (count s) over
 
   unanswered-is : (s : ℕ) → s < 64 → unanswered_at was s ≡ slice_get (requests s) (count s)
-  unanswered-is s below = ap (λ (rs : List ℕ). unanswered_in rs (log_at was s)) (requests-are script old store oracle shards was notices are 0 s below)
+  unanswered-is s below = ap (λ (rs : List ℕ). unanswered_in rs (session_log_at was s)) (requests-are script old store oracle shards was notices are 0 s below)
 
   -- there are 64 sessions
   none-past : (s r : ℕ) → 64 ≤ s → unanswered_at was s ≡ Some r → ⊥
   none-past s r past is =
       let many : length was.requests ≡ 64 = ap length are.frame.requests ∙ length-map-range_with_len (requests_of_session script) 0 64 in
       let none : requests_at was s ≡ [] = get_or_past was.requests s [] (omega (arith, past, many)) in
-      none-some r (sym (ap (λ (rs : List ℕ). unanswered_in rs (log_at was s)) none) ∙ is)
+      none-some r (sym (ap (λ (rs : List ℕ). unanswered_in rs (session_log_at was s)) none) ∙ is)
 
   module _ (first : ℕ) (is : IsFirstUnanswered was (length script.requests) first) where
     -- each one before it has its reply
@@ -88,6 +88,6 @@ module _ (script : Script) (old : GateTable) (store : List StoreEntry) (oracle :
               let there = sym (unanswered-is s below) ∙ one.at in
               let of = filter_has (λ r. is_some_and (λ (q : Request). q.session == s) (request_at script r)) (range_with_len 0 (length script.requests)) first (at-place (requests s) (count s) first there) in
               let same = eqb-true request.session s (sym (ap (is_some_and (λ (q : Request). q.session == s)) at) ∙ of.1) in
-              ap (λ n. has_reply_in first (log_at was n)) same ∙ no-reply-is s (count s) first there (omega arith)
+              ap (λ n. has_reply_in first (session_log_at was n)) same ∙ no-reply-is s (count s) first there (omega arith)
           | inr past ↦ absurd (none-past s first past one.at)
         ]

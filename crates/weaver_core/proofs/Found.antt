@@ -18,14 +18,14 @@ use Rattle.report_rules.specs.Lookups.{is_some_and}
 use Rattle.weave_entries.specs.declared.gate_log.GateEntry.{GateEntry}
 use Rattle.weave_entries.specs.declared.gate_log.GateDeed.{GateDeed}
 use Rattle.weave_entries.specs.declared.gate_log.GateDeed.TheVariants.{BeganTx, BeganProgram, Sent, Nop, Heard, Raised, Finished}
-use Rattle.weave_entries.specs.GateReplay.{Begun, begun_by, begun_in}
+use Rattle.weave_entries.specs.GateReplay.{BegunRequest, begun_by, begun_in}
 use Rattle.weave_entries.specs.StoreReplay.{Judgement, judgement_of, judgements_of}
 use Rattle.weave_account.specs.declared.account.Account.{Account}
 use Rattle.weave_account.specs.Account.{IsBegunStamp, all_begun, gate_log, stamp_of}
 use Rattle.weave_account.specs.Gatekeepers.{BeginsAs}
 use Rattle.weave_account.specs.IsAccount.{IsAccount}
 use Rattle.weave_account.specs.PairsByPlace.{request_stamped}
-use Rattle.weaver_core.specs.Reporting.{AreStampsOf, key_of, request_from, request_with, same_key}
+use Rattle.weaver_core.specs.Reporting.{AreStampsOf, key_of, request_with_id, request_with, same_key}
 use Rattle.weaver_core.proofs.Turns.{place-of}
 
 -- The first of a list
@@ -43,23 +43,23 @@ key-same a b same =
 
 -- the place of the first stamp of an id
 first-with : (id : EventId) (stamps : List (Option Stamp)) (n place : ℕ) (stamp : Stamp) → place < length stamps → get_or stamps place None ≡ Some stamp → id_of stamp ≡ id
-    → ((q : ℕ) (other : Stamp) → q < place → get_or stamps q None ≡ Some other → id_of other ≢ id) → request_from n id stamps ≡ Some (n + place)
+    → ((q : ℕ) (other : Stamp) → q < place → get_or stamps q None ≡ Some other → id_of other ≢ id) → request_with_id n id stamps ≡ Some (n + place)
 first-with id [] n place stamp within at is apart = absurd (omega (arith, within))
 first-with id (None ∷ stamps) n zero stamp within at is apart = absurd (none-some stamp at)
 first-with id (Some one ∷ stamps) n zero stamp within at is apart =
     let same : one ≡ stamp = same_Some one stamp at in
     let key : same_key (key_of (id_of one)) (key_of id) ≡ true = same-key (id_of one) id (ap id_of same ∙ is) in
-    ap (λ b. cond b (Some n) (request_from (suc n) id stamps)) key ∙ ap Some (omega arith)
+    ap (λ b. cond b (Some n) (request_with_id (suc n) id stamps)) key ∙ ap Some (omega arith)
 first-with id (None ∷ stamps) n (suc place) stamp within at is apart =
     first-with id stamps (suc n) place stamp (omega (arith, within)) at is (λ q other less there. apart (suc q) other (omega (arith, less)) there) ∙ ap Some (omega arith)
 first-with id (Some one ∷ stamps) n (suc place) stamp within at is apart =
     by (cases_Bool (same_key (key_of (id_of one)) (key_of id)))
     (first-with id stamps (suc n) place stamp (omega (arith, within)) at is (λ q other less there. apart (suc q) other (omega (arith, less)) there))
   where
-    by : (same_key (key_of (id_of one)) (key_of id) ≡ true) ⊎ (same_key (key_of (id_of one)) (key_of id) ≡ false) → request_from (suc n) id stamps ≡ Some (suc n + place)
-        → cond (same_key (key_of (id_of one)) (key_of id)) (Some n) (request_from (suc n) id stamps) ≡ Some (n + suc place)
+    by : (same_key (key_of (id_of one)) (key_of id) ≡ true) ⊎ (same_key (key_of (id_of one)) (key_of id) ≡ false) → request_with_id (suc n) id stamps ≡ Some (suc n + place)
+        → cond (same_key (key_of (id_of one)) (key_of id)) (Some n) (request_with_id (suc n) id stamps) ≡ Some (n + suc place)
     by (inl same) rest = absurd (apart 0 one (omega arith) refl (key-same (id_of one) id same))
-    by (inr differ) rest = ap (λ b. cond b (Some n) (request_from (suc n) id stamps)) differ ∙ rest ∙ ap Some (omega arith)
+    by (inr differ) rest = ap (λ b. cond b (Some n) (request_with_id (suc n) id stamps)) differ ∙ rest ∙ ap Some (omega arith)
 
 -- tests that agree on all members find the same one
 find-same : {A : Type 0} (p q : A → Bool) (xs : List A) → ((x : A) → Contains xs x → p x ≡ q x) → find p xs ≡ find q xs
@@ -76,13 +76,13 @@ is-there {A = A} p xs r passes = by (slice_get xs r) refl passes
     by (Some x) at passes = slice_get_within xs r x at
 
 -- what a deed began is a request of the script
-of-script : (script : Script) (account : Account) (home : ℕ) (before : List GateEntry) (author : ℕ) (deed : GateDeed) (b : Begun) → BeginsAs script account home before deed → Contains (begun_by author deed) b → b.request < length script.requests
+of-script : (script : Script) (account : Account) (home : ℕ) (before : List GateEntry) (author : ℕ) (deed : GateDeed) (b : BegunRequest) → BeginsAs script account home before deed → Contains (begun_by author deed) b → b.request < length script.requests
 of-script script account home before author (BeganTx r stamp) b begins h = elim (has_read _ [] b h) [
-  | inl same ↦ subst (λ (one : Begun). one.request < length script.requests) same (is-there (λ (request : Request). (request.gate == home) && is_change request.work) script.requests r begins.own)
+  | inl same ↦ subst (λ (one : BegunRequest). one.request < length script.requests) same (is-there (λ (request : Request). (request.gate == home) && is_change request.work) script.requests r begins.own)
   | inr none ↦ absurd (has_none b none)
 ]
 of-script script account home before author (BeganProgram r stamp) b begins h = elim (has_read _ [] b h) [
-  | inl same ↦ subst (λ (one : Begun). one.request < length script.requests) same (is-there (λ (request : Request). (request.gate == home) && is_look request.work) script.requests r begins.own)
+  | inl same ↦ subst (λ (one : BegunRequest). one.request < length script.requests) same (is-there (λ (request : Request). (request.gate == home) && is_look request.work) script.requests r begins.own)
   | inr none ↦ absurd (has_none b none)
 ]
 of-script script account home before author (Sent r messages) b begins h = absurd (has_none b h)
@@ -92,7 +92,7 @@ of-script script account home before author (Raised epoch) b begins h = absurd (
 of-script script account home before author (Finished r) b begins h = absurd (has_none b h)
 
 module _ (script : Script) (account : Account) (is : IsAccount script account) where
-  begun-of-script : (b : Begun) → Contains (all_begun account) b → b.request < length script.requests
+  begun-of-script : (b : BegunRequest) → Contains (all_begun account) b → b.request < length script.requests
   begun-of-script b h =
       let from = flat_has begun_in account.gates b h in
       let home = place-of account.gates from.0 from.1 in
@@ -102,35 +102,35 @@ module _ (script : Script) (account : Account) (is : IsAccount script account) w
       of-script script account home.0 cut.before entry.0.author entry.0.deed b (is.gatekeepers.begins home.0 cut.before entry.0 cut.after (log-is ∙ cut.is)) entry.2
 
   -- the stamp of a begun request
-  pub stamp-of-begun : (b : Begun) → Contains (all_begun account) b → stamp_of account b.request ≡ Some b.stamp
-  stamp-of-begun b h = ap (option_map (λ (one : Begun). one.stamp)) (find_by_key (λ (one : Begun). one.request) (all_begun account) b is.gatekeepers.once h)
+  pub stamp-of-begun : (b : BegunRequest) → Contains (all_begun account) b → stamp_of account b.request ≡ Some b.stamp
+  stamp-of-begun b h = ap (option_map (λ (one : BegunRequest). one.stamp)) (find_by_key (λ (one : BegunRequest). one.request) (all_begun account) b is.gatekeepers.once h)
 
-  one-begun : (a b : Begun) → Contains (all_begun account) a → Contains (all_begun account) b → a.request ≡ b.request → a ≡ b
-  one-begun a b ha hb same = elim (pairs_cases (λ (x y : Begun). x.request ≢ y.request) (all_begun account) is.gatekeepers.once a b ha hb) [
+  one-begun : (a b : BegunRequest) → Contains (all_begun account) a → Contains (all_begun account) b → a.request ≡ b.request → a ≡ b
+  one-begun a b ha hb same = elim (pairs_cases (λ (x y : BegunRequest). x.request ≢ y.request) (all_begun account) is.gatekeepers.once a b ha hb) [
     | inl one ↦ one
     | inr (inl differ) ↦ absurd (differ same)
     | inr (inr differ) ↦ absurd (differ (sym same))
   ]
 
   -- a stamp of the account is that of a begun request
-  pub begun-with : (r : ℕ) (stamp : Stamp) → stamp_of account r ≡ Some stamp → (b : Begun) × (Contains (all_begun account) b × ((b.request ≡ r) × (b.stamp ≡ stamp)))
-  begun-with r stamp e = by (find (λ (b : Begun). b.request == r) (all_begun account)) refl e
+  pub begun-with : (r : ℕ) (stamp : Stamp) → stamp_of account r ≡ Some stamp → (b : BegunRequest) × (Contains (all_begun account) b × ((b.request ≡ r) × (b.stamp ≡ stamp)))
+  begun-with r stamp e = by (find (λ (b : BegunRequest). b.request == r) (all_begun account)) refl e
     where
-      by : (o : Option Begun) → find (λ (b : Begun). b.request == r) (all_begun account) ≡ o → option_map (λ (b : Begun). b.stamp) o ≡ Some stamp
-          → (b : Begun) × (Contains (all_begun account) b × ((b.request ≡ r) × (b.stamp ≡ stamp)))
+      by : (o : Option BegunRequest) → find (λ (b : BegunRequest). b.request == r) (all_begun account) ≡ o → option_map (λ (b : BegunRequest). b.stamp) o ≡ Some stamp
+          → (b : BegunRequest) × (Contains (all_begun account) b × ((b.request ≡ r) × (b.stamp ≡ stamp)))
       by None at none = absurd (none-some stamp none)
       by (Some b) at some =
-          let found = find_has (λ (one : Begun). one.request == r) (all_begun account) b at in
+          let found = find_has (λ (one : BegunRequest). one.request == r) (all_begun account) b at in
           (b, (found.0, (eqb-true b.request r found.1, same_Some b.stamp stamp some)))
 
   module _ (same-stamps : (a b : Stamp) → IsTrue (same_stamp a b) ↔ (a ≡ b))
-      (differ : (a b : Begun) → Contains (all_begun account) a → Contains (all_begun account) b → a.request ≢ b.request → id_of a.stamp ≢ id_of b.stamp) where
+      (differ : (a b : BegunRequest) → Contains (all_begun account) a → Contains (all_begun account) b → a.request ≢ b.request → id_of a.stamp ≢ id_of b.stamp) where
     -- the request of an event is that of a begin
-    stamped : (event : Stamp) (o : Option Begun) → find (λ (b : Begun). same_stamp b.stamp event) (all_begun account) ≡ o → (r : ℕ) → option_map (λ (b : Begun). b.request) o ≡ Some r
-        → (b : Begun) × (Contains (all_begun account) b × ((b.request ≡ r) × (b.stamp ≡ event)))
+    stamped : (event : Stamp) (o : Option BegunRequest) → find (λ (b : BegunRequest). same_stamp b.stamp event) (all_begun account) ≡ o → (r : ℕ) → option_map (λ (b : BegunRequest). b.request) o ≡ Some r
+        → (b : BegunRequest) × (Contains (all_begun account) b × ((b.request ≡ r) × (b.stamp ≡ event)))
     stamped event None at r is = absurd (none-some r is)
     stamped event (Some b) at r is =
-        let found = find_has (λ (one : Begun). same_stamp one.stamp event) (all_begun account) b at in
+        let found = find_has (λ (one : BegunRequest). same_stamp one.stamp event) (all_begun account) b at in
         (b, (found.0, (same_Some b.request r is, (same-stamps b.stamp event).0 found.1)))
 
     -- the judgement with a stamp is that of its request
@@ -138,28 +138,28 @@ module _ (script : Script) (account : Account) (is : IsAccount script account) w
         → (event : Stamp) (r : ℕ) → request_stamped account event ≡ Some r → find (λ (one : Judgement). same_stamp one.stamp event) (judgements_of account.store) ≡ judgement_of r account.store
     judged-with begun event r is = find-same (λ (one : Judgement). same_stamp one.stamp event) (λ (one : Judgement). one.request == r) (judgements_of account.store) agree
       where
-        of : (b : Begun) × (Contains (all_begun account) b × ((b.request ≡ r) × (b.stamp ≡ event)))
-        of = stamped event (find (λ (b : Begun). same_stamp b.stamp event) (all_begun account)) refl r is
+        of : (b : BegunRequest) × (Contains (all_begun account) b × ((b.request ≡ r) × (b.stamp ≡ event)))
+        of = stamped event (find (λ (b : BegunRequest). same_stamp b.stamp event) (all_begun account)) refl r is
 
         agree : (one : Judgement) → Contains (judgements_of account.store) one → same_stamp one.stamp event ≡ (one.request == r)
         agree one h =
-            let b : Begun = record { author = one.author; request = one.request; stamp = one.stamp } in
+            let b : BegunRequest = record { author = one.author; request = one.request; stamp = one.stamp } in
             elim (cases_eq one.request r) [
-              | inl same ↦ (same-stamps one.stamp event).1 (ap (λ (k : Begun). k.stamp) (one-begun b of.0 (begun one h) of.1.0 (same ∙ sym of.1.1.0)) ∙ of.1.1.1) ∙ sym (eq-eqb one.request r same)
+              | inl same ↦ (same-stamps one.stamp event).1 (ap (λ (k : BegunRequest). k.stamp) (one-begun b of.0 (begun one h) of.1.0 (same ∙ sym of.1.1.0)) ∙ of.1.1.1) ∙ sym (eq-eqb one.request r same)
               | inr other ↦ by-id one h other
             ]
           where
             by-id : (one : Judgement) → Contains (judgements_of account.store) one → one.request ≢ r → same_stamp one.stamp event ≡ (one.request == r)
             by-id one h other = elim (cases_Bool (same_stamp one.stamp event)) [
               | inl same ↦
-                  let b : Begun = record { author = one.author; request = one.request; stamp = one.stamp } in
+                  let b : BegunRequest = record { author = one.author; request = one.request; stamp = one.stamp } in
                   absurd (differ b of.0 (begun one h) of.1.0 (λ (e : one.request ≡ of.0.request). other (e ∙ of.1.1.0)) (ap id_of ((same-stamps one.stamp event).0 same ∙ sym of.1.1.1)))
               | inr apart ↦ apart ∙ sym (ne_eqb one.request r other)
             ]
 
     module _ (stamps : List (Option Stamp)) (stamps-are : AreStampsOf account stamps) (many : length stamps ≡ length script.requests) where
       -- the stamps by request find the request of a begun stamp
-      pub found-at : (b : Begun) → Contains (all_begun account) b → request_with stamps b.stamp ≡ Some b.request
+      pub found-at : (b : BegunRequest) → Contains (all_begun account) b → request_with stamps b.stamp ≡ Some b.request
       found-at b h =
           let within = begun-of-script b h in
           first-with (id_of b.stamp) stamps 0 b.request b.stamp (omega (arith, within, many)) (stamps-are b.request (omega (arith, within, many)) ∙ stamp-of-begun b h) refl others ∙ ap Some (omega arith)
@@ -171,14 +171,15 @@ module _ (script : Script) (account : Account) (is : IsAccount script account) w
               let apart : k.0.request ≢ b.request = λ e. absurd (let is = k.1.1.0 in omega (arith, less, e, is)) in
               subst (λ (s : Stamp). id_of s ≢ id_of b.stamp) k.1.1.1 (differ k.0 b k.1.0 h apart)
 
+      -- and it is the request that the account finds for that stamp
       pub request-found : (event : Stamp) → IsBegunStamp account event → request_with stamps event ≡ request_stamped account event
       request-found event h =
-          let from = map_has (λ (b : Begun). b.stamp) (all_begun account) event h in
-          by from.0 from.1 from.2 (find (λ (b : Begun). same_stamp b.stamp event) (all_begun account)) refl
+          let from = map_has (λ (b : BegunRequest). b.stamp) (all_begun account) event h in
+          by from.0 from.1 from.2 (find (λ (b : BegunRequest). same_stamp b.stamp event) (all_begun account)) refl
         where
-          by : (b : Begun) → Contains (all_begun account) b → b.stamp ≡ event → (o : Option Begun) → find (λ (one : Begun). same_stamp one.stamp event) (all_begun account) ≡ o
-              → request_with stamps event ≡ option_map (λ (one : Begun). one.request) o
-          by b there is None at = absurd (find_lacks (λ (one : Begun). same_stamp one.stamp event) (all_begun account) b at there ((same-stamps b.stamp event).1 is))
+          by : (b : BegunRequest) → Contains (all_begun account) b → b.stamp ≡ event → (o : Option BegunRequest) → find (λ (one : BegunRequest). same_stamp one.stamp event) (all_begun account) ≡ o
+              → request_with stamps event ≡ option_map (λ (one : BegunRequest). one.request) o
+          by b there is None at = absurd (find_lacks (λ (one : BegunRequest). same_stamp one.stamp event) (all_begun account) b at there ((same-stamps b.stamp event).1 is))
           by b there is (Some k) at =
-              let found = find_has (λ (one : Begun). same_stamp one.stamp event) (all_begun account) k at in
+              let found = find_has (λ (one : BegunRequest). same_stamp one.stamp event) (all_begun account) k at in
               ap (request_with stamps) (sym ((same-stamps k.stamp event).0 found.1)) ∙ found-at k found.0

@@ -18,7 +18,7 @@ use Rattle.program_defs.specs.declared.script.Work.{Work}
 use Rattle.program_defs.specs.declared.script.Work.TheVariants.{Change, Look}
 use Rattle.report_rules.specs.Lookups.{request_at}
 use Rattle.report_rules.specs.declared.report.StepAnswer.TheVariants.{Idle}
-use Rattle.weave_entries.specs.GateReplay.{Begun, begun_in, program_begun, programs_of}
+use Rattle.weave_entries.specs.GateReplay.{BegunRequest, begun_in, program_begun, programs_of}
 use Rattle.weave_entries.specs.SessionReplay.{has_begun_in, has_reply_in}
 use Rattle.weave_account.specs.declared.account.Account.{Account}
 use Rattle.weave_account.specs.Account.{all_begun, gate_log, session_log, stamp_of}
@@ -26,13 +26,13 @@ use Rattle.weave_account.specs.IsAccount.{IsAccount}
 use Rattle.step_rules.specs.Answers.{answer_of, answer_of_visit, for_request}
 use Rattle.step_rules.specs.Requests.{next_vertex}
 use Rattle.weave_entries.proofs.OwnStamps.{program-begun}
-use Rattle.weaver_core.specs.Clients.{is_open_in}
+use Rattle.weaver_core.specs.Sessions.{is_open_in}
 use Rattle.weaver_core.specs.Cores.{AreOf, MachinesDo, MachinesView}
 use Rattle.weaver_core.specs.Staying.{StayLaws}
 use Rattle.weaver_core.proofs.NoStamp.{stamp-begun}
 use Rattle.weaver_core.proofs.Resting.{rests}
 
-no-next : (script : Script) (account : Account) (o : Option Begun) → answer_of_visit script account o None ≡ Idle
+no-next : (script : Script) (account : Account) (o : Option BegunRequest) → answer_of_visit script account o None ≡ Idle
 no-next script account None = refl
 no-next script account (Some begun) = refl
 
@@ -40,14 +40,14 @@ no-next script account (Some begun) = refl
 pub not-begun : (script : Script) (account : Account) → IsWithinLimits script → IsAccount script account → (r : ℕ) (request : Request) → request_at script r ≡ Some request → stamp_of account r ≡ None → program_begun r (gate_log account request.gate) ≡ None
 not-begun script account limits is r request at none = by (program_begun r (gate_log account request.gate)) refl
   where
-    by : (o : Option Begun) → program_begun r (gate_log account request.gate) ≡ o → program_begun r (gate_log account request.gate) ≡ None
+    by : (o : Option BegunRequest) → program_begun r (gate_log account request.gate) ≡ o → program_begun r (gate_log account request.gate) ≡ None
     by None e = e
     by (Some b) e =
-        let found = find_has (λ (one : Begun). one.request == r) (programs_of (gate_log account request.gate)) b e in
+        let found = find_has (λ (one : BegunRequest). one.request == r) (programs_of (gate_log account request.gate)) b e in
         let home = limits.homes r request at in
         let many = is.gatekeepers.as_many in
         let there = has_flat begun_in account.gates (gate_log account request.gate) b (Contains-get_or account.gates request.gate [] (omega (arith, home, many))) (program-begun (gate_log account request.gate) b found.0) in
-        let stamped : stamp_of account b.request ≡ Some b.stamp = ap (option_map (λ (one : Begun). one.stamp)) (find_by_key (λ (one : Begun). one.request) (all_begun account) b is.gatekeepers.once there) in
+        let stamped : stamp_of account b.request ≡ Some b.stamp = ap (option_map (λ (one : BegunRequest). one.stamp)) (find_by_key (λ (one : BegunRequest). one.request) (all_begun account) b is.gatekeepers.once there) in
         absurd (none-some b.stamp (sym none ∙ ap (stamp_of account) (sym (eqb-true b.request r found.1)) ∙ stamped))
 
 -- what does not wait has not begun, or has its reply
@@ -74,18 +74,21 @@ module _ (stay : StayLaws) (script : Script) (machines : MachinesView) (are : Ar
   look-idle (Look program) is closed = elim (closed-cases (has_begun_in r (session_log account request.session)) (has_reply_in r (session_log account request.session)) closed) [
     | inl new ↦
         let none : stamp_of account r ≡ None = sym (are.core.account.sessions.stamps r request at) ∙ stamp-begun r (session_log account request.session) new in
-        told (next_vertex account r request.work) refl ∙ ap (λ (o : Option Begun). answer_of_visit script account o (next_vertex account r request.work)) (not-begun script account are.limits are.core.account r request at none)
+        told (next_vertex account r request.work) refl ∙ ap (λ (o : Option BegunRequest). answer_of_visit script account o (next_vertex account r request.work)) (not-begun script account are.limits are.core.account r request at none)
     | inr replied ↦
         let ended = (stay.replied script account are.limits are.core.account r request at (ap is_look is)).1 replied in
         let over = (are.core.account.programs r request program at is).whole ended in
         told None (ap (next_vertex account r) is ∙ over) ∙ no-next script account (program_begun r (gate_log account request.gate))
   ]
 
+  -- `visit` of a request that doesn't wait for its reply answers `idle`
   pub closed-idle : is_open_in r (session_log account request.session) ≡ false → answer_of script machines.state (Visit r) ≡ Idle
   closed-idle = look-idle request.work refl
 
+  -- and so does `visit` of a transaction
   pub no-program-idle : is_look request.work ≡ false → answer_of script machines.state (Visit r) ≡ Idle
   no-program-idle = change-idle request.work refl
 
+  -- `visit` of a request that doesn't wait for its reply is a step that changes nothing
   pub closed-done : is_open_in r (session_log account request.session) ≡ false → MachinesDo script (Visit r) machines machines Idle
   closed-done closed = rests script (Visit r) machines machines Idle (closed-idle closed) refl refl

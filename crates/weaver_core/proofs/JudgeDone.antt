@@ -22,7 +22,7 @@ use Rattle.weave_entries.specs.declared.oracle_log.OracleEntry.{OracleEntry}
 use Rattle.weave_entries.proofs.OwnStamps.{tx-begun}
 use Rattle.weaver_core.specs.ShardTable.{ShardTable}
 use Rattle.weave_entries.specs.declared.store_log.StoreEntry.{StoreEntry}
-use Rattle.weave_entries.specs.GateReplay.{Begun, begun_in, flight_of}
+use Rattle.weave_entries.specs.GateReplay.{BegunRequest, begun_in, flight_of}
 use Rattle.weave_entries.specs.OracleReplay.{pairs_of_log}
 use Rattle.weave_entries.specs.StoreReplay.{Judgement, commits_of, judgement_of, judgements_of}
 use Rattle.weave_entries.specs.StoreRule.{stamps_judged}
@@ -33,9 +33,9 @@ use Rattle.weave_account.specs.IsAccount.{IsAccount}
 use Rattle.step_rules.specs.Answers.{answer_of_judge}
 use Rattle.step_rules.specs.Entries.{after_judge}
 use Rattle.step_rules.specs.Requests.{ops_in}
-use Rattle.weaver_core.specs.Clients.{ClientTable}
+use Rattle.weaver_core.specs.Sessions.{ClientTable}
 use Rattle.weaver_core.specs.Cores.{AreOf, MachinesDo, MachinesView, machines_of}
-use Rattle.weaver_core.specs.GateTable.{GateTable, log_at}
+use Rattle.weaver_core.specs.GateTable.{GateTable, gate_log_at}
 use Rattle.weaver_core.specs.Judging.{CanBeJudged, HasVerdict, IsJudgedNow, JudgesFlight}
 use Rattle.weaver_core.proofs.CitedLaws.{AskedLaws, BegunLaws, RunLaws}
 use Rattle.weaver_core.proofs.Resting.{done, rests}
@@ -46,7 +46,7 @@ pub record JudgeLaws : Type 0 where
   pub asked : AskedLaws
   pub run : RunLaws
   -- requests_end_or_go_on
-  pub flights : (script : Script) (account : Account) → IsWithinLimits script → IsAccount script account → (home : ℕ) (flight : Begun) → flight_of (gate_log account home) ≡ Some flight
+  pub flights : (script : Script) (account : Account) → IsWithinLimits script → IsAccount script account → (home : ℕ) (flight : BegunRequest) → flight_of (gate_log account home) ≡ Some flight
       → IsSomeAnd (request_at script flight.request) (λ (request : Request). (request.gate ≡ home) × IsTrue (is_change request.work))
   -- stamps_are_begun
   pub judged : (script : Script) (account : Account) → IsWithinLimits script → IsAccount script account → (judged : Judgement) → Contains (judgements_of account.store) judged → IsBegunStamp account judged.stamp
@@ -66,12 +66,12 @@ module _ (script : Script) (gates : GateTable) (store : List StoreEntry) (oracle
   account = before.state.account
 
   -- what the store asks for
-  module _ (laws : JudgeLaws) (below : g < script.gates) (flight : Begun) (flies : flight_of (log_at gates g) ≡ Some flight) (unjudged : judgement_of flight.request store ≡ None) where
+  module _ (laws : JudgeLaws) (below : g < script.gates) (flight : BegunRequest) (flies : flight_of (gate_log_at gates g) ≡ Some flight) (unjudged : judgement_of flight.request store ≡ None) where
     begun : Contains (all_begun account) flight
     begun =
-        let tx = (laws.run.flight g script.shards (log_at gates g) (are.core.account.gatekeepers.logs g) (laws.run.once script account are.limits are.core.account g) flight).0 flies in
+        let tx = (laws.run.flight g script.shards (gate_log_at gates g) (are.core.account.gatekeepers.logs g) (laws.run.once script account are.limits are.core.account g) flight).0 flies in
         let many = are.frame.gates in
-        has_flat begun_in gates.logs (log_at gates g) flight (Contains-get_or gates.logs g [] (omega (arith, below, many))) (tx-begun (log_at gates g) flight tx.0)
+        has_flat begun_in gates.logs (gate_log_at gates g) flight (Contains-get_or gates.logs g [] (omega (arith, below, many))) (tx-begun (gate_log_at gates g) flight tx.0)
 
     -- no other request's stamp has its id
     differs : (stamp : Stamp) → Contains (stamps_judged store) stamp → id_of stamp ≢ id_of flight.stamp
@@ -85,7 +85,7 @@ module _ (script : Script) (gates : GateTable) (store : List StoreEntry) (oracle
     -- what the judge is asked of was begun
     known : (stamp : Stamp) → Contains (flight.stamp ∷ stamps_kept (commits_of store) ++ ends_of (pairs_of_log oracle)) stamp → Contains (begun_stamps account) stamp
     known stamp h = elim (has_read flight.stamp (stamps_kept (commits_of store) ++ ends_of (pairs_of_log oracle)) stamp h) [
-      | inl same ↦ subst (λ (s : Stamp). Contains (begun_stamps account) s) same (has_map (λ (b : Begun). b.stamp) (all_begun account) flight begun)
+      | inl same ↦ subst (λ (s : Stamp). Contains (begun_stamps account) s) same (has_map (λ (b : BegunRequest). b.stamp) (all_begun account) flight begun)
       | inr rest ↦ elim (Contains-append_cases (stamps_kept (commits_of store)) (ends_of (pairs_of_log oracle)) stamp rest) [
         | inl kept ↦
             let from = map_has (λ (judged : Judgement). judged.stamp) (judgements_of store) stamp (laws.kept store stamp kept) in
@@ -104,6 +104,7 @@ module _ (script : Script) (gates : GateTable) (store : List StoreEntry) (oracle
     few None is = omega arith
     few (Some request) is = let most = are.limits.few_ops flight.request request is in omega (arith, most)
 
+    -- the store can be asked for a verdict on a flight that has none
     pub can-be-judged : CanBeJudged script store oracle flight
     can-be-judged = record {
       there = some-from (request_at script flight.request) _ (laws.flights script account are.limits are.core.account g flight flies);
@@ -124,10 +125,11 @@ module _ (script : Script) (gates : GateTable) (store : List StoreEntry) (oracle
         (ap (λ (all : Account). record { account = all; notices = notices }) ((λ i. record account { store = did.store_is i; oracle = did.oracle_is i }) ∙ sym (ap (after_judge script account) did.flies)))
         refl tt
 
-    idle-is : (flight_of (log_at gates g) ≡ None) ⊎ HasVerdict gates store g → answer_of_judge account (flight_of (log_at gates g)) ≡ answer.Idle
+    idle-is : (flight_of (gate_log_at gates g) ≡ None) ⊎ HasVerdict gates store g → answer_of_judge account (flight_of (gate_log_at gates g)) ≡ answer.Idle
     idle-is (inl none) = ap (answer_of_judge account) none
     idle-is (inr has) = ap (answer_of_judge account) has.flies ∙ ap (λ b. if b then answer.Idle else answer.Ok) has.judged
 
+    -- by what store and oracle did at `judge`, the machines did this step, with the same answer
     pub judge-done : (a : StepAnswer) → JudgesFlight script gates store then_store oracle then_oracle g a → MachinesDo script (step.Judge g) before after a
     judge-done answer.Ok did = judged-done did
     judge-done answer.Idle did = rests script (step.Judge g) before after answer.Idle (idle-is did.2) refl (λ i. machines_of gates (did.0 i) (did.1 i) shards was notices)

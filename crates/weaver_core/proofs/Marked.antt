@@ -11,7 +11,7 @@ use Rattle.weave_data.proofs.Members.{cut_at, flat_has, has_flat, has_head, has_
 use Rattle.weave_data.specs.declared.name.Name.{Name}
 use Rattle.vector_stamp.specs.declared.clock.Stamp.{Stamp}
 use Rattle.vector_stamp.specs.Order.{id_of, same_stamp}
-use Rattle.vector_stamp.specs.Precedence.{Given}
+use Rattle.vector_stamp.specs.Precedence.{GivenPair}
 use Rattle.vector_stamp.specs.Settling.{SettledEntry}
 use Rattle.program_defs.specs.Limits.{IsWithinLimits}
 use Rattle.program_defs.specs.Works.{is_change, is_look}
@@ -29,7 +29,7 @@ use Rattle.weave_entries.specs.declared.shard_log.ShardEntry.{ShardEntry}
 use Rattle.weave_entries.specs.declared.shard_log.ShardDeed.{ShardDeed}
 use Rattle.weave_entries.specs.declared.shard_log.ShardDeed.TheVariants.{Arrived, Applied, Visited, Collected}
 use Rattle.weave_entries.specs.declared.store_log.StoreEntry.{StoreEntry}
-use Rattle.weave_entries.specs.GateReplay.{Begun, program_by, programs_of}
+use Rattle.weave_entries.specs.GateReplay.{BegunRequest, program_by, programs_of}
 use Rattle.weave_entries.specs.OracleReplay.{pairs_of_entry, pairs_of_log, settled_entry}
 use Rattle.weave_entries.specs.ShardReplay.{Visit, visit_by, visits_of}
 use Rattle.weave_entries.specs.StoreReplay.{Judgement, commit_by, commits_of, judgements_of}
@@ -49,13 +49,13 @@ use Rattle.weave_account.proofs.PlacedPairs.{are-append}
 
 -- Pairs one by one
 
-are-length : (account : Account) (ps : List Pair) (gs : List Given) → ArePairsOf account ps gs → length ps ≡ length gs
+are-length : (account : Account) (ps : List Pair) (gs : List GivenPair) → ArePairsOf account ps gs → length ps ≡ length gs
 are-length account [] [] are = refl
 are-length account [] (g ∷ gs) are = absurd are
 are-length account (p ∷ ps) [] are = absurd are
 are-length account (p ∷ ps) (g ∷ gs) are = ap suc (are-length account ps gs are.1)
 
-are-split : (account : Account) (ps qs : List Pair) (gs hs : List Given) → length ps ≤ length gs → length qs ≤ length hs → ArePairsOf account (ps ++ qs) (gs ++ hs) → ArePairsOf account ps gs × ArePairsOf account qs hs
+are-split : (account : Account) (ps qs : List Pair) (gs hs : List GivenPair) → length ps ≤ length gs → length qs ≤ length hs → ArePairsOf account (ps ++ qs) (gs ++ hs) → ArePairsOf account ps gs × ArePairsOf account qs hs
 are-split account [] qs [] hs few less are = (tt, are)
 are-split account [] qs (g ∷ gs) hs few less are =
     let same = are-length account qs (g ∷ gs ++ hs) are in
@@ -78,10 +78,10 @@ filter-fewer {B = B} {C = C} f g fewer (x ∷ xs) = by (f x) (g x) (fewer x) (fi
 
 module _ (account : Account) where
   placed-fewer : (entry : SettledEntry) → length (placed_by account entry) ≤ length (pairs_of_entry entry)
-  placed-fewer entry = filter-fewer (λ (place : ℕ). option_and_then (λ (event : Stamp). placed_pair account place (event, entry.later)) (slice_get entry.earlier place)) (λ (place : ℕ). option_map {U = Given} (λ (event : Stamp). (event, entry.later)) (slice_get entry.earlier place))
+  placed-fewer entry = filter-fewer (λ (place : ℕ). option_and_then (λ (event : Stamp). placed_pair account place (event, entry.later)) (slice_get entry.earlier place)) (λ (place : ℕ). option_map {U = GivenPair} (λ (event : Stamp). (event, entry.later)) (slice_get entry.earlier place))
       (λ place. by place (slice_get entry.earlier place)) entry.places
     where
-      by : (place : ℕ) (o : Option Stamp) → option_map {U = Given} (λ (event : Stamp). (event, entry.later)) o ≡ None → option_and_then (λ (event : Stamp). placed_pair account place (event, entry.later)) o ≡ None
+      by : (place : ℕ) (o : Option Stamp) → option_map {U = GivenPair} (λ (event : Stamp). (event, entry.later)) o ≡ None → option_and_then (λ (event : Stamp). placed_pair account place (event, entry.later)) o ≡ None
       by place None none = refl
       by place (Some event) none = absurd (none-some (event, entry.later) (sym none))
 
@@ -113,14 +113,15 @@ module _ (account : Account) where
         ∙ (λ i. filter_map (pair_found request_of (marked.earlier_is i) (v ∷ []) pair.later) (marked.places_are i))
         ∙ ap (λ (o : Option ℕ). cons_option (option_and_then (λ (r : ℕ). Some (record { vertex = v; earlier = r; later = pair.later })) o) []) (found pair.earlier e marked.is_pair.earlier_is)
         ∙ (λ i. record { vertex = sym marked.vertex_is i; earlier = pair.earlier; later = pair.later } ∷ []) in
-        let given : pairs_of_entry settled ≡ (e, settled.later) ∷ [] = λ i. filter_map (λ (place : ℕ). option_map {U = Given} (λ (event : Stamp). (event, settled.later)) (slice_get (marked.earlier_is i) place)) (marked.places_are i) in
-        subst (λ (ps : List Pair). ArePairsOf account ps (pairs_of_entry settled)) (sym mine) (subst (λ (gs : List Given). ArePairsOf account (pair ∷ []) gs) (sym given) (marked.is_pair, tt))
+        let given : pairs_of_entry settled ≡ (e, settled.later) ∷ [] = λ i. filter_map (λ (place : ℕ). option_map {U = GivenPair} (λ (event : Stamp). (event, settled.later)) (slice_get (marked.earlier_is i) place)) (marked.places_are i) in
+        subst (λ (ps : List Pair). ArePairsOf account ps (pairs_of_entry settled)) (sym mine) (subst (λ (gs : List GivenPair). ArePairsOf account (pair ∷ []) gs) (sym given) (marked.is_pair, tt))
 
     module _ (placed : (settled : SettledEntry) → IsAskedByCommit account settled → HasBegunStamps settled → pairs_found request_of account.store None settled ≡ placed_by account settled) where
       entry-are : (settled : SettledEntry) → HasBegunStamps settled → (mark : Option Name) → IsMarkedAs account settled mark → ArePairsOf account (placed_by account settled) (pairs_of_entry settled) → ArePairsOf account (pairs_found request_of account.store mark settled) (pairs_of_entry settled)
       entry-are settled begun None asked are = subst (λ (ps : List Pair). ArePairsOf account ps (pairs_of_entry settled)) (sym (placed settled asked begun)) are
       entry-are settled begun (Some v) marked are = marked-are settled v marked
 
+      -- if each mark is right, and the pairs by places are the log's, the pairs found by the marks are the log's, too
       pub all-are : (mark : SettledEntry → Option Name) (log : List OracleEntry)
           → ((entry : OracleEntry) → Contains log entry → HasBegunStamps (settled_entry entry))
           → ((entry : OracleEntry) → Contains log entry → IsMarkedAs account (settled_entry entry) (mark (settled_entry entry)))
@@ -142,8 +143,8 @@ no-look (Change ops) look change = let e : false ≡ true = look in cc
 no-look (Look program) look change = let e : false ≡ true = change in cc
 
 -- what a deed began as a program is one
-program-own : (script : Script) (account : Account) (home : ℕ) (before : List GateEntry) (author : ℕ) (deed : GateDeed) (b : Begun) → BeginsAs script account home before deed → Contains (program_by author deed) b → IsTrue (is_some_and (λ (request : Request). (request.gate == home) && is_look request.work) (request_at script b.request))
-program-own script account home before author (BeganProgram r stamp) b begins h = subst (λ (one : Begun). IsTrue (is_some_and (λ (request : Request). (request.gate == home) && is_look request.work) (request_at script one.request))) (only (record { author = author; request = r; stamp = stamp }) b h) begins.own
+program-own : (script : Script) (account : Account) (home : ℕ) (before : List GateEntry) (author : ℕ) (deed : GateDeed) (b : BegunRequest) → BeginsAs script account home before deed → Contains (program_by author deed) b → IsTrue (is_some_and (λ (request : Request). (request.gate == home) && is_look request.work) (request_at script b.request))
+program-own script account home before author (BeganProgram r stamp) b begins h = subst (λ (one : BegunRequest). IsTrue (is_some_and (λ (request : Request). (request.gate == home) && is_look request.work) (request_at script one.request))) (only (record { author = author; request = r; stamp = stamp }) b h) begins.own
 program-own script account home before author (BeganTx r stamp) b begins h = absurd (has_none b h)
 program-own script account home before author (Sent r messages) b begins h = absurd (has_none b h)
 program-own script account home before author (Nop shard number stamp low) b begins h = absurd (has_none b h)
@@ -152,30 +153,32 @@ program-own script account home before author (Raised epoch) b begins h = absurd
 program-own script account home before author (Finished r) b begins h = absurd (has_none b h)
 
 -- and what was begun as a program
-pub begun-looks : (script : Script) (account : Account) → IsAccount script account → (home : ℕ) (b : Begun) → Contains (programs_of (gate_log account home)) b → IsTrue (is_some_and (λ (request : Request). (request.gate == home) && is_look request.work) (request_at script b.request))
+pub begun-looks : (script : Script) (account : Account) → IsAccount script account → (home : ℕ) (b : BegunRequest) → Contains (programs_of (gate_log account home)) b → IsTrue (is_some_and (λ (request : Request). (request.gate == home) && is_look request.work) (request_at script b.request))
 begun-looks script account is home b h =
     let from = flat_has (λ (entry : GateEntry). program_by entry.author entry.deed) (gate_log account home) b h in
     let cut = cut_at (gate_log account home) from.0 from.1 in
     program-own script account home cut.before from.0.author from.0.deed b (is.gatekeepers.begins home cut.before from.0 cut.after cut.is) from.2
 
+-- no request is both a program and what was judged
 pub not-both : (home : ℕ) (o : Option Request) (judged : Judgement) → IsTrue (is_some_and (λ (request : Request). (request.gate == home) && is_look request.work) o) → IsSomeAnd o (λ (request : Request). request.work ≡ Change judged.ops) → ⊥
 not-both home None judged look change = absurd change
 not-both home (Some request) judged look change = no-look request.work (and_parts (request.gate == home) (is_look request.work) look).1 (ap is_change change)
 
+-- if no element of a list passes a test, none is found
 pub find-none : {A : Type 0} (p : A → Bool) (xs : List A) → ((x : A) → Contains xs x → p x ≡ false) → find p xs ≡ None
 find-none p [] none = refl
 find-none p (x ∷ xs) none = ap (λ b. cond b (Some x) (find p xs)) (none x (has_head x xs)) ∙ find-none p xs (λ y h. none y (has_tail x xs y h))
 
 module _ (script : Script) (account : Account) (limits : IsWithinLimits script) (is : IsAccount script account) (same-stamps : (a b : Stamp) → IsTrue (same_stamp a b) ↔ (a ≡ b))
-    (differ : (a b : Begun) → Contains (all_begun account) a → Contains (all_begun account) b → a.request ≢ b.request → id_of a.stamp ≢ id_of b.stamp)
+    (differ : (a b : BegunRequest) → Contains (all_begun account) a → Contains (all_begun account) b → a.request ≢ b.request → id_of a.stamp ≢ id_of b.stamp)
     (work : (judged : Judgement) → Contains (judgements_of account.store) judged → IsSomeAnd (request_at script judged.request) (λ (request : Request). request.work ≡ Change judged.ops))
     (begun : (judged : Judgement) → Contains (judgements_of account.store) judged → Contains (all_begun account) (record { author = judged.author; request = judged.request; stamp = judged.stamp })) where
-  apart : (settled : SettledEntry) → IsAskedByCommit account settled → (home : ℕ) (b : Begun) → Contains (programs_of (gate_log account home)) b → b.stamp ≢ settled.later
+  apart : (settled : SettledEntry) → IsAskedByCommit account settled → (home : ℕ) (b : BegunRequest) → Contains (programs_of (gate_log account home)) b → b.stamp ≢ settled.later
   apart settled asked home b h same =
       let c = asked.commit in
       let in-commits : Contains (commits_of account.store) c = has_flat (λ (entry : StoreEntry). commit_by entry.deed) account.store asked.entry c (subst (λ (store : List StoreEntry). Contains store asked.entry) (sym asked.at) (middle asked.before asked.entry asked.after)) (subst (λ cs. Contains cs c) (sym asked.commit_is) (has_head c [])) in
       let judged = commit-judged account.store c in-commits in
-      let j : Begun = record { author = judged.0.author; request = judged.0.request; stamp = judged.0.stamp } in
+      let j : BegunRequest = record { author = judged.0.author; request = judged.0.request; stamp = judged.0.stamp } in
       let look = begun-looks script account is home b h in
       let stamps : j.stamp ≡ b.stamp = judged.1.1.1 ∙ sym asked.later_is ∙ sym same in
       elim (cases_eq j.request b.request) [
@@ -215,5 +218,6 @@ module _ (script : Script) (account : Account) (limits : IsWithinLimits script) 
   none-visited settled asked event (log ∷ logs) all =
       λ i. option_or (none-in settled asked event log (all log (has_head log logs)) i) (none-visited settled asked event logs (λ one h. all one (has_tail log logs one h)) i)
 
+  -- no visit of a vertex is found for an entry of the oracle that a commit asked for
   pub unvisited-by : (settled : SettledEntry) → IsAskedByCommit account settled → (event : Stamp) → vertex_visited account.shards event settled.later ≡ None
   unvisited-by settled asked event = none-visited settled asked event account.shards (λ log h. h)

@@ -14,7 +14,7 @@ use Rattle.weave_data.specs.Names.{one_name, same_name, shard_of}
 use Rattle.weave_data.specs.declared.name.Name.{Name}
 use Rattle.graph_ops.proofs.Vertices.{itself}
 use Rattle.vector_stamp.specs.declared.clock.Stamp.{Stamp}
-use Rattle.vector_stamp.specs.Precedence.{Given, precedes}
+use Rattle.vector_stamp.specs.Precedence.{GivenPair, precedes}
 use Rattle.vector_stamp.specs.Seeing.{last_seen}
 use Rattle.vector_stamp.specs.Settling.{SettledEntry, additions_from, places_of}
 use Rattle.graph_ops.specs.Mentions.{named_by}
@@ -31,7 +31,7 @@ use Rattle.weave_entries.specs.declared.store_log.StoreDeed.{StoreDeed}
 use Rattle.weave_entries.specs.declared.store_log.StoreDeed.TheVariants.{Judged}
 use Rattle.weave_entries.specs.declared.verdict.Counted.{Counted}
 use Rattle.weave_entries.specs.declared.verdict.Verdict.TheVariants.{Committed, Conflict, Refused}
-use Rattle.weave_entries.specs.GateReplay.{Begun}
+use Rattle.weave_entries.specs.GateReplay.{BegunRequest}
 use Rattle.weave_entries.specs.OracleReplay.{pairs_of_entry, settled_entry}
 use Rattle.weave_entries.specs.OracleRules.{IsRightEntry, IsRightFrom}
 use Rattle.weave_entries.specs.ShardReplay.{Update, Visit, updates_of, visit_by, visits_of}
@@ -43,7 +43,7 @@ use Rattle.weave_account.specs.IsAccount.{IsAccount}
 use Rattle.weave_account.specs.Oracle.{IsAskedByCommit, IsAskedByVisit, seen_last}
 use Rattle.weave_account.specs.Shards.{IsRightVisit, ShardFitsAs, update_of}
 use Rattle.weave_account.specs.Store.{Judges}
-use Rattle.weaver_core.specs.Marks.{IsMarkOf, IsMarkedAs, adds_visit, all_visits, counts_by, counts_if, counts_in, first_seen, mark_of, same_visit, was_asked}
+use Rattle.weaver_core.specs.Marks.{IsMarkOf, IsMarkedAs, adds_visit, all_visits, counts_by, counts_if, counts_of_verdict, first_seen, mark_of, same_visit, was_asked}
 use Rattle.weaver_core.proofs.CanVisit.{commit-judged, inside}
 use Rattle.weaver_core.proofs.Found.{stamp-of-begun}
 use Rattle.weaver_core.proofs.Marked.{begun-looks, find-none, not-both}
@@ -53,7 +53,7 @@ use Rattle.vector_stamp.proofs.Seen.{last-cases}
 -- The oracle's rule
 
 -- an entry of a log that keeps the rule keeps it after some pairs
-right-entry : (pairs : List Given) (log : List OracleEntry) → IsRightFrom pairs log → (entry : OracleEntry) → Contains log entry → (before : List Given) × IsRightEntry before (settled_entry entry)
+right-entry : (pairs : List GivenPair) (log : List OracleEntry) → IsRightFrom pairs log → (entry : OracleEntry) → Contains log entry → (before : List GivenPair) × IsRightEntry before (settled_entry entry)
 right-entry pairs [] right entry h = absurd (has_none entry h)
 right-entry pairs (one ∷ log) right entry h = elim (has_read one log entry h) [
   | inl same ↦ (pairs, subst (λ (e : OracleEntry). IsRightEntry pairs (settled_entry e)) same right.0)
@@ -61,7 +61,7 @@ right-entry pairs (one ∷ log) right entry h = elim (has_read one log entry h) 
 ]
 
 -- an entry for what was seen last is for one event, at one place
-one-place : (before : List Given) (settled : SettledEntry) → IsRightEntry before settled → (seen : List Stamp) → settled.earlier ≡ seen → (seen ≡ []) ⊎ ((u : Stamp) × (seen ≡ u ∷ []))
+one-place : (before : List GivenPair) (settled : SettledEntry) → IsRightEntry before settled → (seen : List Stamp) → settled.earlier ≡ seen → (seen ≡ []) ⊎ ((u : Stamp) × (seen ≡ u ∷ []))
     → (u : Stamp) × ((settled.earlier ≡ u ∷ []) × (settled.places ≡ 0 ∷ []))
 one-place before settled right seen is (inl none) = absurd (right.some (right.added ∙ ap (λ (events : List Stamp). places_of (additions_from 0 before events settled.later)) (is ∙ none)))
 one-place before settled right seen is (inr one) =
@@ -161,7 +161,7 @@ abbrev counted-at : List Commit → Name → Counted
 counted-at commits v = record { vertex = v; before = count_naming v commits }
 
 counts-are : (script : Script) (account : Account) (before : List StoreEntry) (author : ℕ) (deed : StoreDeed) (c : Commit) → Judges script account before (judged_by author deed) → commit_by deed ≡ c ∷ []
-    → (counts_in (judged_by author deed).verdict ≡ counts_of c.ops (commits_of before)) × (((judged_by author deed).request ≡ c.request) × ((judged_by author deed).stamp ≡ c.stamp))
+    → (counts_of_verdict (judged_by author deed).verdict ≡ counts_of c.ops (commits_of before)) × (((judged_by author deed).request ≡ c.request) × ((judged_by author deed).stamp ≡ c.stamp))
 counts-are script account before author (Judged r stamp ops asked (Committed number answers counts)) c judges is =
     let one : Commit = record { request = r; stamp = stamp; ops = ops } in
     let same : one ≡ c = head-is one c is in
@@ -170,7 +170,7 @@ counts-are script account before author (Judged r stamp ops asked (Conflict v ne
 counts-are script account before author (Judged r stamp ops asked (Refused op reason at)) c judges is = absurd (no-head c is)
 
 -- what is counted is a vertex that the commit names, with the commits before that name it
-counted-commit : (script : Script) (account : Account) (before : List StoreEntry) (author : ℕ) (deed : StoreDeed) (counted : Counted) → Judges script account before (judged_by author deed) → Contains (counts_in (judged_by author deed).verdict) counted
+counted-commit : (script : Script) (account : Account) (before : List StoreEntry) (author : ℕ) (deed : StoreDeed) (counted : Counted) → Judges script account before (judged_by author deed) → Contains (counts_of_verdict (judged_by author deed).verdict) counted
     → (c : Commit) × ((commit_by deed ≡ c ∷ []) × ((c.request ≡ (judged_by author deed).request) × (IsTrue (names_vertex counted.vertex c) × (counted.before ≡ count_naming counted.vertex (commits_of before)))))
 counted-commit script account before author (Judged r stamp ops asked (Committed number answers counts)) counted judges h =
     let one : Commit = record { request = r; stamp = stamp; ops = ops } in
@@ -213,7 +213,7 @@ module _ (script : Script) (account : Account) (is : IsAccount script account)
     (work : (judged : Judgement) → Contains (judgements_of account.store) judged → IsSomeAnd (request_at script judged.request) (λ (request : Request). request.work ≡ Change judged.ops))
     (begun : (judged : Judgement) → Contains (judgements_of account.store) judged → Contains (all_begun account) (record { author = judged.author; request = judged.request; stamp = judged.stamp }))
     (whole : (v : Name) → let updates = updates_of v (shard_log account (shard_of v script.shards)) in updates ≡ map (update_of v) (take (length updates) (commits_naming v (commits_in account))))
-    (request_of : Stamp → Option ℕ) (found : (b : Begun) → Contains (all_begun account) b → request_of b.stamp ≡ Some b.request) where
+    (request_of : Stamp → Option ℕ) (found : (b : BegunRequest) → Contains (all_begun account) b → request_of b.stamp ≡ Some b.request) where
   abbrev asked : ℕ × Name × ℕ → Bool
   asked = was_asked (all_visits account.shards)
 
@@ -307,7 +307,7 @@ module _ (script : Script) (account : Account) (is : IsAccount script account)
           let from = find_has (λ (one : Judgement). one.request == a) (judgements_of account.store) judged at in
           let entry = map_has (λ (e : StoreEntry). judged_by e.author e.deed) account.store judged from.0 in
           let cut = cut_at account.store entry.0 entry.1 in
-          let c = counted-commit script account cut.before entry.0.author entry.0.deed counted (is.store.judges cut.before entry.0 cut.after cut.is) (subst (λ (one : Judgement). Contains (counts_in one.verdict) counted) (sym entry.2) has) in (
+          let c = counted-commit script account cut.before entry.0.author entry.0.deed counted (is.store.judges cut.before entry.0 cut.after cut.is) (subst (λ (one : Judgement). Contains (counts_of_verdict one.verdict) counted) (sym entry.2) has) in (
             c.0,
             (
               (λ i. slice_get (naming counted.vertex (cut.is i)) (c.1.1.1.1 i)) ∙ at-count counted.vertex cut.before cut.after entry.0 c.0 c.1.0 c.1.1.1.0,
@@ -391,10 +391,10 @@ module _ (script : Script) (account : Account) (is : IsAccount script account)
     has-judged : Contains (judgements_of account.store) judged
     has-judged = has_map (λ (e : StoreEntry). judged_by e.author e.deed) account.store at.entry (subst (λ (store : List StoreEntry). Contains store at.entry) (sym at.at) (has_cut at.before at.entry at.after))
 
-    abbrev its : Begun
+    abbrev its : BegunRequest
     its = record { author = judged.author; request = judged.request; stamp = judged.stamp }
 
-    counts : (counts_in judged.verdict ≡ counts_of seen.0.ops (commits_of at.before)) × ((judged.request ≡ seen.0.request) × (judged.stamp ≡ seen.0.stamp))
+    counts : (counts_of_verdict judged.verdict ≡ counts_of seen.0.ops (commits_of at.before)) × ((judged.request ≡ seen.0.request) × (judged.stamp ≡ seen.0.stamp))
     counts = counts-are script account at.before at.entry.author at.entry.deed seen.0 (is.store.judges at.before at.entry at.after at.at) at.commit_is
 
     stamp-is : judged.stamp ≡ one.0

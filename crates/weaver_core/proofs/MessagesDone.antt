@@ -28,9 +28,9 @@ use Rattle.weave_account.specs.IsAccount.{IsAccount}
 use Rattle.step_rules.specs.Answers.{answer_of_apply, answer_of_deliver, waits_or_ok}
 use Rattle.step_rules.specs.CoreState.{CoreState, with_shard_deed}
 use Rattle.step_rules.specs.Entries.{after_deliver}
-use Rattle.weaver_core.specs.Clients.{ClientTable}
+use Rattle.weaver_core.specs.Sessions.{ClientTable}
 use Rattle.weaver_core.specs.Cores.{AreOf, MachinesDo, MachinesView, machines_of}
-use Rattle.weaver_core.specs.GateTable.{GateTable, log_at}
+use Rattle.weaver_core.specs.GateTable.{GateTable, gate_log_at}
 use Rattle.weaver_core.specs.Messages.{AppliesAtShard, DeliversToShard, DoesNop, nop_deed}
 use Rattle.weaver_core.specs.ShardTable.{AddsToShard, ShardTable}
 use Rattle.weaver_core.proofs.Resting.{done, gate-frame, gate-gains, rests, same-gates, same-shards, shard-frame, shard-gains}
@@ -61,9 +61,10 @@ module _ (script : Script) (old : GateTable) (store : List StoreEntry) (oracle :
   abbrev nop-answer : Bool → StepAnswer
   nop-answer busy = if busy then answer.Busy else answer.Ok
 
+  -- by what the gatekeepers did at `nop`, the machines did this step, with the same answer
   pub nop-done : (new : GateTable) (g s : ℕ) (a : StepAnswer) → DoesNop old new g s a → MachinesDo script (step.Nop g s) before (machines_of new store oracle shards was notices) a
   nop-done new g s answer.Ok did =
-      let deed = nop_deed g s (log_at old g) in
+      let deed = nop_deed g s (gate_log_at old g) in
       done script (step.Nop g s) before _ (ap nop-answer did.1) (ap state-of (gate-gains old store oracle shards was notices new g 0 deed did.0))
       (gate-frame old store oracle shards was notices new g 0 deed did.0) tt
   nop-done new g s answer.Busy did = rests script (step.Nop g s) before _ answer.Busy (ap nop-answer did.1) refl (same-gates old store oracle shards was notices new did.0)
@@ -82,10 +83,10 @@ module _ (script : Script) (old : GateTable) (store : List StoreEntry) (oracle :
   -- what was sent can be taken
   pub can-be-taken : ((one : Script) (all : Account) → IsWithinLimits one → IsAccount one all → length (commits_in all) < 2 ^ 64 - 1 → (shard home : ℕ) (addressed : Addressed)
       → Contains (addressed_to shard (gate_log all home)) addressed → IsTakable addressed.message)
-      → AreOf script before → length (commits_in account) < 2 ^ 64 - 1 → (g s n : ℕ) → ForSome (sent_as n (channel_of s (log_at old g))) IsTakable
+      → AreOf script before → length (commits_in account) < 2 ^ 64 - 1 → (g s n : ℕ) → ForSome (sent_as n (channel_of s (gate_log_at old g))) IsTakable
   can-be-taken takable are few g s n message is =
-      let among = get-has (channel_of s (log_at old g)) (n - 1) message (sent-there n (channel_of s (log_at old g)) message is) in
-      let from = map_has (λ (addressed : Addressed). addressed.message) (addressed_to s (log_at old g)) message among in
+      let among = get-has (channel_of s (gate_log_at old g)) (n - 1) message (sent-there n (channel_of s (gate_log_at old g)) message is) in
+      let from = map_has (λ (addressed : Addressed). addressed.message) (addressed_to s (gate_log_at old g)) message among in
       subst IsTakable from.2 (takable script account are.limits are.core.account few s g from.0 from.1)
 
   -- the answer by the message that was sent and the one that arrived before
@@ -98,6 +99,7 @@ module _ (script : Script) (old : GateTable) (store : List StoreEntry) (oracle :
   unknown-answer None arrived is = refl
   unknown-answer (Some one) arrived is = absurd (none-some one (sym is))
 
+  -- by what the shards did at `deliver`, the machines did this step, with the same answer
   pub deliver-done : (new : ShardTable) (g s n : ℕ) (a : StepAnswer) → DeliversToShard old shards new g s n a → MachinesDo script (step.Deliver g s n) before (machines_of old store oracle new was notices) a
   deliver-done new g s n answer.Ok did =
       let sent = sent_as n (channel_of s (gate_log account g)) in
@@ -130,6 +132,7 @@ module _ (script : Script) (old : GateTable) (store : List StoreEntry) (oracle :
   abbrev apply-answer : ℕ → Option Message → StepAnswer
   apply-answer s head = answer_of_apply account s head
 
+  -- the same of `apply`
   pub apply-done : (new : ShardTable) (s g : ℕ) (a : StepAnswer) → AppliesAtShard shards new s g a → MachinesDo script (step.Apply s g) before (machines_of old store oracle new was notices) a
   apply-done new s g answer.Ok did =
       let applied = deed.Applied g (processed_count g (shard_log account s) + 1) in
@@ -152,6 +155,7 @@ module _ (script : Script) (old : GateTable) (store : List StoreEntry) (oracle :
   abbrev collected : Account → ℕ → ℕ → Account
   collected all s gates = with_shard_deed all s (deed.Collected (bound_of gates (shard_log all s)))
 
+  -- and of `collect`, which is always done
   pub collect-done : AreOf script before → (new : ShardTable) (s : ℕ) → AddsToShard shards new s (deed.Collected (bound_of shards.gates (shard_log account s))) → MachinesDo script (step.Collect s) before (machines_of old store oracle new was notices) answer.Ok
   collect-done are new s adds =
       let entry = deed.Collected (bound_of shards.gates (shard_log account s)) in

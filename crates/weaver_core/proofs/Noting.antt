@@ -12,8 +12,8 @@ use Rattle.weave_entries.specs.declared.session_log.SessionEntry.{SessionEntry}
 use Rattle.weave_entries.specs.declared.session_log.SessionDeed.{SessionDeed}
 use Rattle.weave_entries.specs.declared.session_log.SessionDeed.TheVariants.{Begun, Replied}
 use Rattle.weave_entries.specs.SessionReplay.{begin_by, begins_in, session_stamp_of}
-use Rattle.weaver_core.specs.Clients.{stamp_in}
-use Rattle.weaver_core.specs.Noting.{all_noted, noted, noted_all, noted_by}
+use Rattle.weaver_core.specs.Sessions.{stamp_logged}
+use Rattle.weaver_core.specs.Noting.{all_noted, with_stamp_noted, noted_all, noted_by}
 
 -- Options
 
@@ -45,7 +45,7 @@ after-deed stamps (Replied r) q within = sym (or_none (get_or stamps q None))
 after-deed stamps (Begun r stamp) q within = elim (cases_eq r q) [
   | inl same ↦
       let found : stamp_by q (Begun r stamp) ≡ Some stamp = ap (λ b. option_map (λ (begun : ℕ × Stamp). begun.1) (cond b (Some (r, stamp)) None)) (eq-eqb r q same) in
-      ap (λ n. get_or (noted stamps n stamp) q None) same ∙ get_or-set_same stamps q (option_or (get_or stamps q None) (Some stamp)) None within ∙ ap (option_or (get_or stamps q None)) (sym found)
+      ap (λ n. get_or (with_stamp_noted stamps n stamp) q None) same ∙ get_or-set_same stamps q (option_or (get_or stamps q None) (Some stamp)) None within ∙ ap (option_or (get_or stamps q None)) (sym found)
   | inr differ ↦
       let none : stamp_by q (Begun r stamp) ≡ None = ap (λ b. option_map (λ (begun : ℕ × Stamp). begun.1) (cond b (Some (r, stamp)) None)) (ne_eqb r q differ) in
       get_or-set_other stamps r q (option_or (get_or stamps r None) (Some stamp)) None (λ e. differ (sym e)) ∙ sym (or_none (get_or stamps q None)) ∙ ap (option_or (get_or stamps q None)) (sym none)
@@ -73,26 +73,28 @@ after-log (entry ∷ log) stamps q within =
 
 -- All logs
 
-pub stamp-in-more : (log : List SessionEntry) (logs : List (List SessionEntry)) (q : ℕ) → stamp_in (log ∷ logs) q ≡ option_or (session_stamp_of q log) (stamp_in logs q)
+-- the stamp of a request in the logs is that in the first of them, or else that in the rest
+pub stamp-in-more : (log : List SessionEntry) (logs : List (List SessionEntry)) (q : ℕ) → stamp_logged (log ∷ logs) q ≡ option_or (session_stamp_of q log) (stamp_logged logs q)
 stamp-in-more log logs q =
     ap (option_map (λ (begun : ℕ × Stamp). begun.1)) (find-both (λ (begun : ℕ × Stamp). begun.0 == q) (begins_in log) (flat_map begins_in logs))
     ∙ map-or (λ (begun : ℕ × Stamp). begun.1) (find (λ (begun : ℕ × Stamp). begun.0 == q) (begins_in log)) (find (λ (begun : ℕ × Stamp). begun.0 == q) (flat_map begins_in logs))
 
-after-logs : (logs : List (List SessionEntry)) (stamps : List (Option Stamp)) (q : ℕ) → q < length stamps → get_or (all_noted stamps logs) q None ≡ option_or (get_or stamps q None) (stamp_in logs q)
+after-logs : (logs : List (List SessionEntry)) (stamps : List (Option Stamp)) (q : ℕ) → q < length stamps → get_or (all_noted stamps logs) q None ≡ option_or (get_or stamps q None) (stamp_logged logs q)
 after-logs [] stamps q within = sym (or_none (get_or stamps q None))
 after-logs (log ∷ logs) stamps q within =
     let still = all-same-length stamps log in
     after-logs logs (noted_all stamps log) q (omega (arith, within, still))
-    ∙ ap (λ o. option_or o (stamp_in logs q)) (after-log log stamps q within)
-    ∙ or-or (get_or stamps q None) (session_stamp_of q log) (stamp_in logs q)
+    ∙ ap (λ o. option_or o (stamp_logged logs q)) (after-log log stamps q within)
+    ∙ or-or (get_or stamps q None) (session_stamp_of q log) (stamp_logged logs q)
     ∙ ap (option_or (get_or stamps q None)) (sym (stamp-in-more log logs q))
 
 -- from none on, each request has the stamp with which one of the sessions began it
-pub stamps-noted : (logs : List (List SessionEntry)) (n q : ℕ) → q < n → get_or (all_noted (replicate n None) logs) q None ≡ stamp_in logs q
+pub stamps-noted : (logs : List (List SessionEntry)) (n q : ℕ) → q < n → get_or (all_noted (replicate n None) logs) q None ≡ stamp_logged logs q
 stamps-noted logs n q within =
     let many = length-replicate {A = Option Stamp} n None in
-    after-logs logs (replicate n None) q (omega (arith, within, many)) ∙ ap (λ o. option_or o (stamp_in logs q)) (get_or-replicate n q None None within)
+    after-logs logs (replicate n None) q (omega (arith, within, many)) ∙ ap (λ o. option_or o (stamp_logged logs q)) (get_or-replicate n q None None within)
 
+-- noting what the logs say leaves the number of places for stamps
 pub count-noted : (logs : List (List SessionEntry)) (stamps : List (Option Stamp)) → length (all_noted stamps logs) ≡ length stamps
 count-noted [] stamps = refl
 count-noted (log ∷ logs) stamps = count-noted logs (noted_all stamps log) ∙ all-same-length stamps log

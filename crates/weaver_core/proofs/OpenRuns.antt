@@ -19,7 +19,7 @@ use Rattle.weave_account.specs.declared.account.Account.{Account}
 use Rattle.weave_account.specs.Account.{is_ended, reads_of, session_log, stamp_of}
 use Rattle.weave_account.specs.IsAccount.{IsAccount}
 use Rattle.weave_account.specs.Sessions.{requests_of_session}
-use Rattle.weaver_core.specs.Clients.{SessionValues, is_open_in, values_at}
+use Rattle.weaver_core.specs.Sessions.{SessionValues, is_open_in, values_at}
 use Rattle.weaver_core.specs.Splitting.{AreAllByLog, IsRunningByLog, program_waiting, waiting_in}
 use Rattle.weaver_core.specs.Staying.{StayLaws}
 use Rattle.weaver_core.specs.Walks.{HasReadAll, IsRunningIn}
@@ -60,6 +60,7 @@ module _ (stay : StayLaws) (script : Script) (account : Account) (limits : IsWit
       | inr on ↦ on
     ]
 
+    -- a program with this request and stamp is running, if its walk has read what the visits read and no others
     pub waits-runs : (running : Running) → begun-as running ≡ (r, stamp) → HasReadAll running.walk program (reads_of account r) → IsRunningIn script account r running
     waits-runs running same walk =
         let stamp-is : running.stamp ≡ stamp = ap (λ (one : ℕ × Stamp). one.1) same in
@@ -108,6 +109,6 @@ module _ (stay : StayLaws) (script : Script) (account : Account) (limits : IsWit
             runs = waits-runs r request at program looks waiting.0 waiting.1 one same (subst (λ n. HasReadAll one.walk program (reads_of account n)) number walk);
           }
 
-  -- and the other way round: what is running is open, so no other request of its session is
+  -- and the other way round: what is running in a session is a program, and is what waits in the session's log
   pub runs-open : (values : List SessionValues) → AreAllByLog script account values → (s : ℕ) → s < 64 → (one : Running) → (values_at values s).running ≡ Some one → IsProgram script one.request × (waiting_in (session_log account s) ≡ Some (one.request, one.stamp))
   runs-open values all s below one at = program-waits script (session_log account s) one.request one.stamp (sym (all.each s below).running.waits ∙ ap (option_map begun-as) at)

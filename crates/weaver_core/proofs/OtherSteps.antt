@@ -13,7 +13,7 @@ use Rattle.weave_account.specs.IsAccount.{IsAccount}
 use Rattle.step_rules.specs.CoreState.{CoreState}
 use Rattle.step_rules.specs.IsCore.{IsStepOf}
 use Rattle.step_rules.specs.Trace.{state_after}
-use Rattle.weaver_core.specs.Clients.{SessionValues}
+use Rattle.weaver_core.specs.Sessions.{SessionValues}
 use Rattle.weaver_core.specs.Cores.{AreOf, MachinesDo, MachinesView}
 use Rattle.weaver_core.specs.Splitting.{AreAllByLog}
 use Rattle.weaver_core.specs.Staying.{CoreLaws, StayLaws}
@@ -33,6 +33,7 @@ same-logs-stay laws script account next limits is is-next goes same values are =
       visits = same.visits_are r;
     }) values are
 
+-- values that are those of the logs are so, too, after a step that is of no request
 pub other-stay : (laws : StayLaws) (core : CoreLaws) (script : Script) (old new : MachinesView) (step : Step) → AreOf script old → IsStepOf script step → IsOtherStep step → (answer : StepAnswer) → MachinesDo script step old new answer
     → (values : List SessionValues) → AreAllByLog script old.state.account values → AreAllByLog script new.state.account values
 other-stay laws core script old new step are there other answer did values kept =

@@ -17,10 +17,10 @@ use Rattle.weave_account.specs.Account.{gate_log, session_log}
 use Rattle.weave_account.specs.Sessions.{requests_of_session}
 use Rattle.step_rules.specs.CoreState.{CoreState}
 use Rattle.step_rules.specs.IsCore.{IsCore}
-use Rattle.weaver_core.specs.Clients.{AreNumbered, ClientTable, SessionValues, log_of, no_values, requests_in, values_at, values_of}
+use Rattle.weaver_core.specs.Sessions.{AreNumbered, ClientTable, SessionValues, log_of_client, no_values, requests_in, values_at, values_of}
 use Rattle.weaver_core.specs.Cores.{AreOf, MachinesView, machines_of}
-use Rattle.weaver_core.specs.GateTable as gates
-use Rattle.weaver_core.specs.ShardTable as shards
+use Rattle.weaver_core.specs.GateTable.{AreGatesInOrder, GateTable, log_of_gate}
+use Rattle.weaver_core.specs.ShardTable.{AreShardsInOrder, ShardTable, log_of_shard}
 use Rattle.weaver_core.specs.Splitting.{AreAllByLog, ArePartsFor, AreValuesByLog, CanBeJoined, IsClientByLog, NoneInFlight, account_of, state_of}
 use Rattle.weaver_core.specs.declared.client.Client.{Client}
 use Rattle.weaver_core.specs.declared.split.Split.{Split}
@@ -29,22 +29,22 @@ use Rattle.weaver_core.proofs.Turns.{place-of}
 use Rattle.step_rules.proofs.SessionTurns.{at-place}
 
 -- the state of parts
-pub state-of-parts : (table : gates.GateTable) (store : List StoreEntry) (oracle : List OracleEntry) (rows : shards.ShardTable) (clients : ClientTable) (notices : List Clock) (split : Split)
-    → map gates.log_of split.gates.items ≡ table.logs → map shards.log_of split.shards.items ≡ rows.logs → map log_of split.clients.items ≡ clients.logs
+pub state-of-parts : (table : GateTable) (store : List StoreEntry) (oracle : List OracleEntry) (rows : ShardTable) (clients : ClientTable) (notices : List Clock) (split : Split)
+    → map log_of_gate split.gates.items ≡ table.logs → map log_of_shard split.shards.items ≡ rows.logs → map log_of_client split.clients.items ≡ clients.logs
     → split.store ≡ store → split.oracle ≡ oracle → split.notices.items ≡ notices → state_of split ≡ (machines_of table store oracle rows clients notices).state
 state-of-parts table store oracle rows clients notices split gate-logs shard-logs client-logs store-is oracle-is notices-are = λ i. record {
   account = record { gates = gate-logs i; store = store-is i; oracle = oracle-is i; shards = shard-logs i; sessions = client-logs i };
   notices = notices-are i;
 }
 
-module _ (script : Script) (table : gates.GateTable) (store : List StoreEntry) (oracle : List OracleEntry) (rows : shards.ShardTable)
+module _ (script : Script) (table : GateTable) (store : List StoreEntry) (oracle : List OracleEntry) (rows : ShardTable)
     (clients : ClientTable) (notices : List Clock) (are : AreOf script (machines_of table store oracle rows clients notices)) (split : Split) where
   -- the parts of machines of a script are parts for it
-  pub parts-for : gates.AreGatesInOrder (length split.gates.items) table.shards split.gates.items → map gates.log_of split.gates.items ≡ table.logs
-      → shards.AreShardsInOrder rows.gates split.shards.items → map shards.log_of split.shards.items ≡ rows.logs
+  pub parts-for : AreGatesInOrder (length split.gates.items) table.shards split.gates.items → map log_of_gate split.gates.items ≡ table.logs
+      → AreShardsInOrder rows.gates split.shards.items → map log_of_shard split.shards.items ≡ rows.logs
       → map requests_in split.clients.items ≡ clients.requests → ArePartsFor script split
   parts-for gates-order gate-logs shards-order shard-logs requests =
-      let gate-count : length split.gates.items ≡ script.gates = sym (length-map split.gates.items gates.log_of) ∙ ap length gate-logs ∙ are.frame.gates in
+      let gate-count : length split.gates.items ≡ script.gates = sym (length-map split.gates.items log_of_gate) ∙ ap length gate-logs ∙ are.frame.gates in
       record {
         gate_count = gate-count;
         gates = λ home gate at. record {
@@ -52,7 +52,7 @@ module _ (script : Script) (table : gates.GateTable) (store : List StoreEntry) (
           gates_are = gates-order.each_gates home gate at ∙ gate-count;
           shards_are = gates-order.each_shards home gate at ∙ are.frame.shards;
         };
-        shard_count = sym (length-map split.shards.items shards.log_of) ∙ ap length shard-logs ∙ are.core.account.shards.as_many;
+        shard_count = sym (length-map split.shards.items log_of_shard) ∙ ap length shard-logs ∙ are.core.account.shards.as_many;
         shards = λ number shard at. record {
           number_is = shards-order.numbers number shard at;
           gates_are = shards-order.each_gates number shard at ∙ are.frame.senders;
@@ -81,7 +81,7 @@ can-be-joined machines split are all landed state-is parts numbered values-are =
         let many = sym (length-map split.clients.items values_of) ∙ ap length values-are ∙ all.many in
         let below = slice_get_within split.clients.items n client at in
         let mine = all.each n (omega (arith, below, many)) in
-        let log : session_log machines.state.account n ≡ client.log.items = ap (λ (account : Account). session_log account n) (sym account-is) ∙ image-at log_of split.clients.items n client at [] in
+        let log : session_log machines.state.account n ≡ client.log.items = ap (λ (account : Account). session_log account n) (sym account-is) ∙ image-at log_of_client split.clients.items n client at [] in
         let values : values_at machines.values n ≡ values_of client = ap (λ (all : List SessionValues). values_at all n) (sym values-are) ∙ image-at values_of split.clients.items n client at no_values in
         let right = subst (λ (account : Account). AreValuesByLog split.script account client.log.items (values_of client)) (sym account-is)
         (subst (AreValuesByLog split.script machines.state.account client.log.items) values (subst (λ (l : List SessionEntry). AreValuesByLog split.script machines.state.account l (values_at machines.values n)) log mine)) in
@@ -90,14 +90,16 @@ can-be-joined machines split are all landed state-is parts numbered values-are =
 -- Parts that are joined
 
 module _ (split : Split) (can : CanBeJoined split) where
-  pub joined-gates : gates.AreGatesInOrder (length split.gates.items) split.script.shards split.gates.items
+  -- the gatekeepers are in order, and made for the script's number of shards
+  pub joined-gates : AreGatesInOrder (length split.gates.items) split.script.shards split.gates.items
   joined-gates = record {
     each_gates = λ home gate at. (can.parts.gates home gate at).gates_are ∙ sym can.parts.gate_count;
     homes = λ home gate at. (can.parts.gates home gate at).home_is;
     each_shards = λ home gate at. (can.parts.gates home gate at).shards_are;
   }
 
-  pub joined-shards : shards.AreShardsInOrder split.script.gates split.shards.items
+  -- the shards are in order, and made for the script's number of gatekeepers
+  pub joined-shards : AreShardsInOrder split.script.gates split.shards.items
   joined-shards = record {
     numbers = λ number shard at. (can.parts.shards number shard at).number_is;
     each_gates = λ number shard at. (can.parts.shards number shard at).gates_are;
@@ -114,8 +116,9 @@ module _ (split : Split) (can : CanBeJoined split) where
       ∙ get_or-map-range_with_len (requests_of_session split.script) 0 64 n n [] (let many = count in omega (arith, below, many)) (omega arith)
 
   its-log : (n : ℕ) (client : Client) → slice_get split.clients.items n ≡ Some client → session_log (account_of split) n ≡ client.log.items
-  its-log n client at = image-at log_of split.clients.items n client at []
+  its-log n client at = image-at log_of_client split.clients.items n client at []
 
+  -- each client has its place as its number, and is at the end of its log
   pub joined-clients : ((script : Script) (session : ℕ) → AllPairs (λ (a b : ℕ). a < b) (requests_of_session script session)) → AreNumbered split.clients.items
   joined-clients rise n client at =
       let requests = its-requests n client at in
@@ -157,11 +160,11 @@ module _ (split : Split) (can : CanBeJoined split) where
           (subst (AreValuesByLog split.script (account_of split) client.log.items) (sym (image-at values_of split.clients.items n client at no_values)) (record { running = mine.running; replies = mine.replies }))
       by {n} None at below = absurd (past split.clients.items n below at)
 
-  module _ (table : gates.GateTable) (rows : shards.ShardTable) (clients : ClientTable) (machines : MachinesView)
+  module _ (table : GateTable) (rows : ShardTable) (clients : ClientTable) (machines : MachinesView)
       (is : machines ≡ machines_of table split.store split.oracle rows clients split.notices.items)
-      (table-is : table ≡ record { shards = split.script.shards; logs = map gates.log_of split.gates.items })
-      (rows-are : rows ≡ record { gates = split.script.gates; logs = map shards.log_of split.shards.items })
-      (requests : clients.requests ≡ map requests_in split.clients.items) (logs : clients.logs ≡ map log_of split.clients.items)
+      (table-is : table ≡ record { shards = split.script.shards; logs = map log_of_gate split.gates.items })
+      (rows-are : rows ≡ record { gates = split.script.gates; logs = map log_of_shard split.shards.items })
+      (requests : clients.requests ≡ map requests_in split.clients.items) (logs : clients.logs ≡ map log_of_client split.clients.items)
       (values : clients.values ≡ map values_of split.clients.items) where
     state-is : machines.state ≡ state_of split
     state-is = ap (λ (m : MachinesView). m.state) is ∙ (λ i. record {
@@ -171,9 +174,9 @@ module _ (split : Split) (can : CanBeJoined split) where
 
     are-of : AreOf split.script machines
     are-of = joined-are machines state-is
-        (ap (λ (m : MachinesView). m.frame.gates) is ∙ ap (λ (t : gates.GateTable). length t.logs) table-is ∙ length-map split.gates.items gates.log_of)
-        (ap (λ (m : MachinesView). m.frame.shards) is ∙ ap (λ (t : gates.GateTable). t.shards) table-is)
-        (ap (λ (m : MachinesView). m.frame.senders) is ∙ ap (λ (t : shards.ShardTable). t.gates) rows-are)
+        (ap (λ (m : MachinesView). m.frame.gates) is ∙ ap (λ (t : GateTable). length t.logs) table-is ∙ length-map split.gates.items log_of_gate)
+        (ap (λ (m : MachinesView). m.frame.shards) is ∙ ap (λ (t : GateTable). t.shards) table-is)
+        (ap (λ (m : MachinesView). m.frame.senders) is ∙ ap (λ (t : ShardTable). t.gates) rows-are)
         (ap (λ (m : MachinesView). m.frame.requests) is ∙ requests)
 
     values-kept : AreAllByLog split.script machines.state.account machines.values

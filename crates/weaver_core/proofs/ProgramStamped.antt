@@ -16,7 +16,7 @@ use Rattle.report_rules.specs.Lookups.{is_some_and, request_at}
 use Rattle.weave_entries.specs.declared.gate_log.GateEntry.{GateEntry}
 use Rattle.weave_entries.specs.declared.gate_log.GateDeed.{GateDeed}
 use Rattle.weave_entries.specs.declared.gate_log.GateDeed.TheVariants.{BeganTx, BeganProgram, Sent, Nop, Heard, Raised, Finished}
-use Rattle.weave_entries.specs.GateReplay.{Begun, begun_by, begun_in, program_begun, program_by, programs_of}
+use Rattle.weave_entries.specs.GateReplay.{BegunRequest, begun_by, begun_in, program_begun, program_by, programs_of}
 use Rattle.weave_account.specs.declared.account.Account.{Account}
 use Rattle.weave_account.specs.Account.{all_begun, gate_log, stamp_of}
 use Rattle.weave_account.specs.Gatekeepers.{BeginsAs}
@@ -35,13 +35,13 @@ own-is script r request at kind home own =
 
 module _ (script : Script) (account : Account) (is : IsAccount script account) (r : ℕ) (request : Request) (at : request_at script r ≡ Some request) (looks : is_look request.work ≡ true) where
   -- its begin is that of a program, at its gatekeeper
-  deed-is : (home : ℕ) (before : List GateEntry) (author : ℕ) (deed : GateDeed) (b : Begun) → Contains (begun_by author deed) b → b.request ≡ r → BeginsAs script account home before deed → (request.gate ≡ home) × Contains (program_by author deed) b
+  deed-is : (home : ℕ) (before : List GateEntry) (author : ℕ) (deed : GateDeed) (b : BegunRequest) → Contains (begun_by author deed) b → b.request ≡ r → BeginsAs script account home before deed → (request.gate ≡ home) × Contains (program_by author deed) b
   deed-is home before author (BeganTx q stamp) b h same begins =
-      let one : q ≡ r = ap (λ (c : Begun). c.request) (only (record { author = author; request = q; stamp = stamp }) b h) ∙ same in
+      let one : q ≡ r = ap (λ (c : BegunRequest). c.request) (only (record { author = author; request = q; stamp = stamp }) b h) ∙ same in
       let own = own-is script r request at is_change home (subst (λ n. IsTrue (is_some_and (λ (c : Request). (c.gate == home) && is_change c.work) (request_at script n))) one begins.own) in
       absurd (no-look request.work looks own.1)
   deed-is home before author (BeganProgram q stamp) b h same begins =
-      let one : q ≡ r = ap (λ (c : Begun). c.request) (only (record { author = author; request = q; stamp = stamp }) b h) ∙ same in
+      let one : q ≡ r = ap (λ (c : BegunRequest). c.request) (only (record { author = author; request = q; stamp = stamp }) b h) ∙ same in
       let own = own-is script r request at is_look home (subst (λ n. IsTrue (is_some_and (λ (c : Request). (c.gate == home) && is_look c.work) (request_at script n))) one begins.own) in
       (own.0, h)
   deed-is home before author (Sent q messages) b h same begins = absurd (has_none b h)
@@ -53,7 +53,7 @@ module _ (script : Script) (account : Account) (is : IsAccount script account) (
   abbrev log : List GateEntry
   log = gate_log account request.gate
 
-  begun-there : (b : Begun) → Contains (all_begun account) b → b.request ≡ r → Contains (programs_of log) b
+  begun-there : (b : BegunRequest) → Contains (all_begun account) b → b.request ≡ r → Contains (programs_of log) b
   begun-there b has same =
       let one = flat_has begun_in account.gates b has in
       let home = place-of account.gates one.0 one.1 in
@@ -63,23 +63,24 @@ module _ (script : Script) (account : Account) (is : IsAccount script account) (
       let deed = deed-is home.0 cut.before entry.0.author entry.0.deed b entry.2 same (is.gatekeepers.begins home.0 cut.before entry.0 cut.after cut.is) in
       subst (λ n. Contains (programs_of (gate_log account n)) b) (sym deed.0) (has_flat (λ (e : GateEntry). program_by e.author e.deed) (gate_log account home.0) entry.0 b entry.1 deed.1)
 
-  first-is : (b : Begun) → Contains (all_begun account) b → b.request ≡ r → program_begun r log ≡ Some b
+  first-is : (b : BegunRequest) → Contains (all_begun account) b → b.request ≡ r → program_begun r log ≡ Some b
   first-is b has same = by (program_begun r log) refl
     where
       there : Contains (programs_of log) b
       there = begun-there b has same
 
-      by : (o : Option Begun) → program_begun r log ≡ o → program_begun r log ≡ Some b
-      by None e = absurd (both_ways _ (none-any (λ (c : Begun). c.request == r) (programs_of log) e) (any_from (λ (c : Begun). c.request == r) (programs_of log) b there (eq-eqb b.request r same)))
+      by : (o : Option BegunRequest) → program_begun r log ≡ o → program_begun r log ≡ Some b
+      by None e = absurd (both_ways _ (none-any (λ (c : BegunRequest). c.request == r) (programs_of log) e) (any_from (λ (c : BegunRequest). c.request == r) (programs_of log) b there (eq-eqb b.request r same)))
       by (Some c) e =
-          let found = find_has (λ (one : Begun). one.request == r) (programs_of log) c e in
+          let found = find_has (λ (one : BegunRequest). one.request == r) (programs_of log) c e in
           let c-is = eqb-true c.request r found.1 in
           let both : Some c ≡ Some b =
-          sym (find_by_key (λ (one : Begun). one.request) (all_begun account) c is.gatekeepers.once (inside c account.gates request.gate found.0))
-          ∙ ap (λ n. find (λ (one : Begun). one.request == n) (all_begun account)) (c-is ∙ sym same)
-          ∙ find_by_key (λ (one : Begun). one.request) (all_begun account) b is.gatekeepers.once has in
+          sym (find_by_key (λ (one : BegunRequest). one.request) (all_begun account) c is.gatekeepers.once (inside c account.gates request.gate found.0))
+          ∙ ap (λ n. find (λ (one : BegunRequest). one.request == n) (all_begun account)) (c-is ∙ sym same)
+          ∙ find_by_key (λ (one : BegunRequest). one.request) (all_begun account) b is.gatekeepers.once has in
           e ∙ both
 
+  -- a program that has a stamp was begun with it at its gatekeeper, by some author
   pub begun-at : (stamp : Stamp) → stamp_of account r ≡ Some stamp → (author : ℕ) × (program_begun r log ≡ Some (record { author = author; request = r; stamp = stamp }))
   begun-at stamp stamped =
       let from = begun-with script account is r stamp stamped in

@@ -56,6 +56,7 @@ module _ (log : List SessionEntry) (author q : ℕ) where
       ap (λ (begins : List (ℕ × Stamp)). option_map (λ (begun : ℕ × Stamp). begun.1) (find (λ (begun : ℕ × Stamp). begun.0 == q) begins))
       (flat_map-append (λ (entry : SessionEntry). begin_by entry.deed) log (record { author = author; deed = Replied r } ∷ []) ∙ append-nil (begins_in log))
 
+  -- one more entry that replies to a request leaves the request's stamp
   pub stamp-replied : session_stamp_of q (log ++ record { author = author; deed = Replied q } ∷ []) ≡ session_stamp_of q log
   stamp-replied =
       ap (λ (begins : List (ℕ × Stamp)). option_map (λ (begun : ℕ × Stamp). begun.1) (find (λ (begun : ℕ × Stamp). begun.0 == q) begins))
@@ -70,9 +71,11 @@ module _ (log : List SessionEntry) (author q : ℕ) where
 
 module _ (account next : Account) (s : ℕ) (deed : SessionDeed) (within : s < length account.sessions)
     (sessions-are : next.sessions ≡ slice_set account.sessions s (session_log account s ++ record { author = s; deed = deed } ∷ [])) (visits-are : (r shard : ℕ) → visits_by r (shard_log next shard) ≡ visits_by r (shard_log account shard)) where
+  -- the session's log has one more entry
   pub log-more : session_log next s ≡ session_log account s ++ record { author = s; deed = deed } ∷ []
   log-more = ap (λ (logs : List (List SessionEntry)). slice_index_or logs s []) sessions-are ∙ get_or-set_same account.sessions s (session_log account s ++ record { author = s; deed = deed } ∷ []) [] within
 
+  -- and each other session's log is as before
   pub log-other : (t : ℕ) → t ≢ s → session_log next t ≡ session_log account t
   log-other t other = ap (λ (logs : List (List SessionEntry)). slice_index_or logs t []) sessions-are ∙ get_or-set_other account.sessions s t (session_log account s ++ record { author = s; deed = deed } ∷ []) [] other
 

@@ -23,7 +23,7 @@ use Rattle.weave_entries.specs.declared.message.Message.{Message}
 use Rattle.weave_entries.specs.declared.shard_log.ShardEntry.{ShardEntry}
 use Rattle.weave_entries.specs.declared.shard_log.ShardDeed.{ShardDeed}
 use Rattle.weave_entries.specs.declared.shard_log.ShardDeed.TheVariants.{Arrived, Applied, Collected}
-use Rattle.weave_entries.specs.GateReplay.{Begun, channel_of, flight_of, program_begun, program_by, programs_of}
+use Rattle.weave_entries.specs.GateReplay.{BegunRequest, channel_of, flight_of, program_begun, program_by, programs_of}
 use Rattle.weave_entries.specs.SessionReplay.{has_reply_in, session_stamp_of}
 use Rattle.weave_entries.specs.ShardReplay.{Visit as AVisit, bound_of, processed_count, visit_by, visits_of}
 use Rattle.weave_entries.specs.StoreReplay.{Judgement}
@@ -49,6 +49,7 @@ same-tests false false f g = refl
 
 -- Lists
 
+-- what is found in a list is found when the list is longer at its end
 pub find-more : {A : Type 0} (p : A → Bool) (xs ys : List A) (x : A) → find p xs ≡ Some x → find p (xs ++ ys) ≡ Some x
 find-more p [] ys x e = absurd (none-some x e)
 find-more p (y ∷ xs) ys x e = elim (p y) as (λ b. cond b (Some y) (find p xs) ≡ Some x → cond b (Some y) (find p (xs ++ ys)) ≡ Some x) [
@@ -56,10 +57,11 @@ find-more p (y ∷ xs) ys x e = elim (p y) as (λ b. cond b (Some y) (find p xs)
   | false ↦ λ h. find-more p xs ys x h
 ] e
 
-pub program-stays : (r : ℕ) (log more : List GateEntry) (b : Begun) → program_begun r log ≡ Some b → program_begun r (log ++ more) ≡ Some b
+-- the begin of a program that is found in a gatekeeper's log is found when the log is longer
+pub program-stays : (r : ℕ) (log more : List GateEntry) (b : BegunRequest) → program_begun r log ≡ Some b → program_begun r (log ++ more) ≡ Some b
 program-stays r log more b e =
-    ap (find (λ (begun : Begun). begun.request == r)) (flat_map-append (λ (entry : GateEntry). program_by entry.author entry.deed) log more)
-    ∙ find-more (λ (begun : Begun). begun.request == r) (programs_of log) (programs_of more) b e
+    ap (find (λ (begun : BegunRequest). begun.request == r)) (flat_map-append (λ (entry : GateEntry). program_by entry.author entry.deed) log more)
+    ∙ find-more (λ (begun : BegunRequest). begun.request == r) (programs_of log) (programs_of more) b e
 
 -- a walk has read the same
 pub read-stays : (running : Running) (program : Program) (account next : Account) (r : ℕ) → reads_of next r ≡ reads_of account r → HasReadAll running.walk program (reads_of account r) → HasReadAll running.walk program (reads_of next r)
@@ -76,6 +78,7 @@ pub record StaysAt (account next : Account) (r : ℕ) (request : Request) : Type
 module _ (laws : StayLaws) (script : Script) (account next : Account) (limits : IsWithinLimits script) (is : IsAccount script account) (is-next : IsAccount script next) (goes : GoesOn account next) where
   -- a program is finished if it was
   module _ (r : ℕ) (request : Request) (at : request_at script r ≡ Some request) (looks : IsTrue (is_look request.work)) (same : has_reply_in r (session_log next request.session) ≡ has_reply_in r (session_log account request.session)) where
+    -- a program is finished exactly if it was, as long as its session says the same of its reply
     pub ended-stays : is_ended next r ≡ is_ended account r
     ended-stays =
         let now = laws.replied script next limits is-next r request at looks in
@@ -116,11 +119,11 @@ module _ (script : Script) (state : CoreState) (as-many : length state.account.s
   abbrev account : Account
   account = state.account
 
-  judge-same : (o : Option Begun) → SameLogs account (after_judge script account o)
+  judge-same : (o : Option BegunRequest) → SameLogs account (after_judge script account o)
   judge-same None = same-same account
   judge-same (Some flight) = record { sessions_are = refl; visits_are = λ r shard. refl }
 
-  send-same : (home : ℕ) (o : Option Begun) (p : Option Judgement) → SameLogs account (after_send script account home o p)
+  send-same : (home : ℕ) (o : Option BegunRequest) (p : Option Judgement) → SameLogs account (after_send script account home o p)
   send-same home (Some flight) (Some judged) = gates-same account _
   send-same home (Some flight) None = same-same account
   send-same home None (Some judged) = same-same account
@@ -152,5 +155,6 @@ module _ (script : Script) (state : CoreState) (as-many : length state.account.s
   either-same true x y sx sy = sx
   either-same false x y sx sy = sy
 
+  -- a step of no request leaves the sessions and the visits as they were
   pub step-same : (step : Step) → IsStepOf script step → IsOtherStep step → SameLogs account (state_after script state step).account
   step-same step is other = either-same (is_ok (answer_of script state step)) (state_with script state step) state (done-same step is other) (same-same account)

@@ -20,7 +20,7 @@ use Rattle.weave_entries.specs.declared.gate_log.GateDeed.TheVariants.{BeganTx, 
 use Rattle.weave_entries.specs.declared.session_log.SessionEntry.{SessionEntry}
 use Rattle.weave_entries.specs.declared.session_log.SessionDeed.{SessionDeed}
 use Rattle.weave_entries.specs.declared.session_log.SessionDeed.TheVariants as session
-use Rattle.weave_entries.specs.GateReplay.{Begun, ended_by, ended_in, program_by, programs_of}
+use Rattle.weave_entries.specs.GateReplay.{BegunRequest, ended_by, ended_in, program_by, programs_of}
 use Rattle.weave_entries.specs.GateRules.{EndsAs}
 use Rattle.weave_entries.specs.SessionReplay.{has_reply_in, replied_in, reply_by}
 use Rattle.weave_entries.specs.StoreReplay.{Judgement, judgement_of, judgements_of}
@@ -62,10 +62,10 @@ module _ (stay : StayLaws) (script : Script) (account : Account) (is : IsAccount
       let both = and_parts (request.gate == home) (is_look request.work) h in
       record { request = request; request_is = e; gate_is = eqb-true request.gate home both.0; looks = both.1 }
 
-  deed-program : (home : ℕ) (before : List GateEntry) (author : ℕ) (deed : GateDeed) (b : Begun) → Contains (program_by author deed) b → BeginsAs script account home before deed → IsProgramBegun home b.request
+  deed-program : (home : ℕ) (before : List GateEntry) (author : ℕ) (deed : GateDeed) (b : BegunRequest) → Contains (program_by author deed) b → BeginsAs script account home before deed → IsProgramBegun home b.request
   deed-program home before author (BeganProgram q stamp) b h begins =
       let same = only (record { author = author; request = q; stamp = stamp }) b h in
-      subst (λ (one : Begun). IsProgramBegun home one.request) same (its-request home q (request_at script q) refl begins.own)
+      subst (λ (one : BegunRequest). IsProgramBegun home one.request) same (its-request home q (request_at script q) refl begins.own)
   deed-program home before author (BeganTx q stamp) b h begins = absurd (has_none b h)
   deed-program home before author (Sent q messages) b h begins = absurd (has_none b h)
   deed-program home before author (Nop to number stamp low) b h begins = absurd (has_none b h)
@@ -73,7 +73,8 @@ module _ (stay : StayLaws) (script : Script) (account : Account) (is : IsAccount
   deed-program home before author (Raised epoch) b h begins = absurd (has_none b h)
   deed-program home before author (Finished q) b h begins = absurd (has_none b h)
 
-  pub program-begun-is : (home : ℕ) (b : Begun) → Contains (programs_of (gate_log account home)) b → IsProgramBegun home b.request
+  -- what a gatekeeper has begun as a program is a program of the script, of this gatekeeper
+  pub program-begun-is : (home : ℕ) (b : BegunRequest) → Contains (programs_of (gate_log account home)) b → IsProgramBegun home b.request
   program-begun-is home b h =
       let from = flat_has (λ (e : GateEntry). program_by e.author e.deed) (gate_log account home) b h in
       let place = cut_at (gate_log account home) from.0 from.1 in
@@ -83,7 +84,7 @@ module _ (stay : StayLaws) (script : Script) (account : Account) (is : IsAccount
   abbrev pub IsJudged : ℕ → Type 0
   IsJudged r = (judged : Judgement) × Contains (judgements_of account.store) judged × (judged.request ≡ r)
 
-  programs-front : (xs ys : List GateEntry) (b : Begun) → Contains (programs_of xs) b → Contains (programs_of (xs ++ ys)) b
+  programs-front : (xs ys : List GateEntry) (b : BegunRequest) → Contains (programs_of xs) b → Contains (programs_of (xs ++ ys)) b
   programs-front xs ys b h =
       subst (λ bs. Contains bs b) (sym (flat_map-append (λ (e : GateEntry). program_by e.author e.deed) xs ys))
       (Contains-append_left (programs_of xs) (programs_of ys) b h)

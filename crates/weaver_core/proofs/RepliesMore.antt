@@ -11,7 +11,7 @@ use Rattle.program_defs.specs.declared.script.Request.{Request}
 use Rattle.report_rules.specs.declared.report.Reply.{Reply}
 use Rattle.report_rules.specs.declared.report.ReplyState.{ReplyState}
 use Rattle.weave_entries.specs.declared.store_log.StoreEntry.{StoreEntry}
-use Rattle.weaver_core.specs.Clients.{SessionValues, values_at}
+use Rattle.weaver_core.specs.Sessions.{SessionValues, values_at}
 use Rattle.weaver_core.specs.Reporting.{AreRequestsReplies, IsRequestsReply, IsStateFound}
 use Rattle.weaver_core.proofs.Tables.{each-push}
 
@@ -27,6 +27,7 @@ made r stamp state = record { request = r; stamp = stamp; state = state }
 
 module _ (store : List StoreEntry) (values : List SessionValues) (stamps : List (Option Stamp)) (requests : List Request) (r : ℕ)
     (replies then_replies : List Reply) (asked : Request) (stamp : Option Stamp) (state : ReplyState) where
+  -- with the reply to the next request, by its stamp and its state, there is one for each of one request more
   pub replies-more : slice_get requests r ≡ Some asked → stamp ≡ slice_index_or stamps r None
       → AreRequestsReplies store values stamps requests r replies
       → IsStateFound store (values_at values asked.session).replies r stamp asked.work state

@@ -21,7 +21,7 @@ use Rattle.weave_entries.specs.declared.session_log.SessionDeed.TheVariants.{Rep
 use Rattle.weave_account.proofs.InSession.{last-any}
 use Rattle.weaver_core.specs.ShardTable.{ShardTable}
 use Rattle.weave_entries.specs.declared.store_log.StoreEntry.{StoreEntry}
-use Rattle.weave_entries.specs.GateReplay.{Begun, flight_of, has_ended_in}
+use Rattle.weave_entries.specs.GateReplay.{BegunRequest, flight_of, has_ended_in}
 use Rattle.weave_entries.specs.SessionReplay.{has_begun_in}
 use Rattle.weave_account.specs.declared.account.Account.{Account}
 use Rattle.weave_account.specs.Account.{gate_log, session_log}
@@ -30,10 +30,10 @@ use Rattle.step_rules.specs.Answers.{answer_of_reply, for_request}
 use Rattle.step_rules.specs.CoreState.{with_session_deed}
 use Rattle.step_rules.specs.Entries.{after_reply, after_work, at_request}
 use Rattle.step_rules.specs.Requests.{has_begun, has_ended, has_reply, is_answered}
-use Rattle.weaver_core.specs.Clients as clients
+use Rattle.weaver_core.specs.Sessions as clients
 use Rattle.weaver_core.specs.Cores.{AreOf, MachinesDo, MachinesView, RepliesToChange, machines_of, values_after_reply}
 use Rattle.weaver_core.specs.GateTable as gates
-use Rattle.weaver_core.specs.Replying.{HasGateAndSession, Replies, RepliesToOne, can_have_reply, is_flying, reply_of_change}
+use Rattle.weaver_core.specs.GivingReplies.{HasGateAndSession, Replies, RepliesToOne, can_have_reply, is_flying, reply_of_change}
 use Rattle.weaver_core.proofs.CitedLaws.{RequestLaws}
 use Rattle.weaver_core.proofs.BeginDone.{requests-are}
 use Rattle.weaver_core.proofs.Resting.{done, rests, session-gains}
@@ -44,7 +44,7 @@ pub record ReplyLaws : Type 0 where
   -- requests_end_or_go_on
   pub sent : (script : Script) (account : Account) → IsWithinLimits script → IsAccount script account → (r : ℕ) (request : Request) → request_at script r ≡ Some request → IsTrue (is_change request.work)
       → IsTrue (has_begun_in r (session_log account request.session))
-      → has_ended_in r (gate_log account request.gate) ≡ not (is_some_and (λ (flight : Begun). flight.request == r) (flight_of (gate_log account request.gate)))
+      → has_ended_in r (gate_log account request.gate) ≡ not (is_some_and (λ (flight : BegunRequest). flight.request == r) (flight_of (gate_log account request.gate)))
 
 -- idle exactly if it can't have its reply
 idle-if : (b w f e : Bool) → (b ≡ true → e ≡ not f) → (not b || w || not e) ≡ not ((b && not w) && not f)
@@ -60,6 +60,7 @@ module _ (script : Script) (old : gates.GateTable) (store : List StoreEntry) (or
   abbrev account : Account
   account = before.state.account
 
+  -- the request's gatekeeper and session are there, and it is one of its session's
   pub there : (request : Request) → request_at script r ≡ Some request → HasGateAndSession old was r request
   there request is =
       let home = are.limits.homes r request is in
@@ -115,13 +116,14 @@ module _ (script : Script) (old : gates.GateTable) (store : List StoreEntry) (or
     one-done (answer.Waits v) none = absurd none
     one-done (answer.Again s g) none = absurd none
 
+  -- by what the sessions did at `reply` of a transaction, the machines did this step, with the same answer
   pub reply-done : (is : clients.ClientTable) → IsTrue (is_transaction script r) → (a : StepAnswer) → Replies script old store was is r a → MachinesDo script (step.Reply r) before (machines_of old store oracle shards is notices) a
   reply-done is transaction a did = one-done is did.request did.request_is transaction a did.replies
 
   -- the values are those after the reply
   values-one : (is : clients.ClientTable) (request : Request) (a : StepAnswer) → RepliesToOne old store was is r request a → is.values ≡ values_after_reply before request.session r a
   values-one is request answer.Ok did =
-      did.values ∙ ap (λ (last : Option Stamp). clients.with_reply_at was.values request.session (reply_of_change store last r)) (last-any (clients.requests_at was request.session) [] (clients.log_at was request.session))
+      did.values ∙ ap (λ (last : Option Stamp). clients.with_reply_at was.values request.session (reply_of_change store last r)) (last-any (clients.requests_at was request.session) [] (clients.session_log_at was request.session))
   values-one is request answer.Idle did = ap (λ (t : clients.ClientTable). t.values) did.1
   values-one is request answer.Twice none = absurd none
   values-one is request answer.Early none = absurd none
@@ -133,6 +135,7 @@ module _ (script : Script) (old : gates.GateTable) (store : List StoreEntry) (or
   values-one is request (answer.Waits v) none = absurd none
   values-one is request (answer.Again s g) none = absurd none
 
+  -- and the values are those after `reply` of the script's request
   pub reply-values : (is : clients.ClientTable) (a : StepAnswer) → Replies script old store was is r a → RepliesToChange script r before (machines_of old store oracle shards is notices) a
   reply-values is a did request at =
       values-one is did.request a did.replies ∙ ap (λ (one : Request). values_after_reply before one.session r a) (same_Some did.request request (sym did.request_is ∙ at))

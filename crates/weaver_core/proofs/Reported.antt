@@ -26,7 +26,7 @@ use Rattle.weave_account.specs.Account.{is_ended, pairs_in, session_log, stamp_o
 use Rattle.weave_account.specs.IsAccount.{IsAccount}
 use Rattle.weave_account.specs.Pairs.{ArePairsOf}
 use Rattle.weave_account.specs.Report.{IsReplyInAccount, IsStateOf, MatchesAccount}
-use Rattle.weaver_core.specs.Clients.{SessionValues, values_at}
+use Rattle.weaver_core.specs.Sessions.{SessionValues, values_at}
 use Rattle.weaver_core.specs.Reporting.{AreRequestsReplies, AreStampsOf, IsFoundAmong, IsRequestsReply, IsStateFound, state_replied, state_stamped}
 use Rattle.weaver_core.specs.Splitting.{AreAllByLog}
 use Rattle.weaver_core.specs.Staying.{StayLaws}
@@ -85,6 +85,7 @@ module _ (stay : StayLaws) (script : Script) (account : Account) (limits : IsWit
               (subst (λ (o : Option Request). IsSomeAnd o (λ (k : Request). IsStateOf account r reply.stamp k.work reply.state)) (sym at) state);
         }
 
+  -- a report with the replies that are found so, and with the account's pairs, is the account's but for its order
   pub parts-match : ((r : ℕ) → r < length script.requests → (request : Request) × (request_at script r ≡ Some request)) → (report : Report) → AreRequestsReplies account.store values stamps script.requests (length script.requests) report.replies → ArePairsOf account report.pairs (pairs_in account) → MatchesAccount script account report
   parts-match there report replies pairs = record {
     requests = replies.numbered;

@@ -25,7 +25,7 @@ use Rattle.step_rules.specs.CoreState.{with_gate_deed, with_session_deed, with_s
 use Rattle.step_rules.specs.Entries.{state_with}
 use Rattle.step_rules.specs.IsCore.{IsSmall}
 use Rattle.step_rules.specs.Trace.{is_ok}
-use Rattle.weaver_core.specs.Clients as clients
+use Rattle.weaver_core.specs.Sessions as clients
 use Rattle.weaver_core.specs.Cores.{MachinesFrame, IsFrameOf, MachinesDo, MachinesView, machines_of}
 use Rattle.weaver_core.specs.GateTable as gates
 use Rattle.weaver_core.specs.ShardTable as tables
@@ -78,9 +78,11 @@ module _ (old : gates.GateTable) (store : List StoreEntry) (oracle : List Oracle
   pub shard-gains : (new : tables.ShardTable) (s : ℕ) (deed : ShardDeed) → tables.AddsToShard shards new s deed → (machines_of old store oracle new was notices).state.account ≡ with_shard_deed before.state.account s deed
   shard-gains new s deed adds = ap (λ (logs : List (List ShardEntry)). record before.state.account { shards = logs }) adds.logs
 
+  -- and what the machines are made for stays
   pub shard-frame : (new : tables.ShardTable) (s : ℕ) (deed : ShardDeed) → tables.AddsToShard shards new s deed → (machines_of old store oracle new was notices).frame ≡ before.frame
   shard-frame new s deed adds = λ i. record { gates = length old.logs; shards = old.shards; senders = adds.gates i; requests = was.requests }
 
+  -- with the same shards they are the same machines
   pub same-shards : (new : tables.ShardTable) → new ≡ shards → machines_of old store oracle new was notices ≡ before
   same-shards new same = ap (λ (t : tables.ShardTable). machines_of old store oracle t was notices) same
 
@@ -94,6 +96,7 @@ module _ (old : gates.GateTable) (store : List StoreEntry) (oracle : List Oracle
   pub same-sessions : (is : clients.ClientTable) → clients.AreSameClients was is → machines_of old store oracle shards is notices ≡ before
   same-sessions is same = λ i. machines_of old store oracle shards (record { requests = same.requests i; logs = same.logs i; spares = is.spares; values = same.values i }) notices
 
+  -- and with the same gatekeepers they are the same machines, too
   pub same-gates : (new : gates.GateTable) → new ≡ old → machines_of new store oracle shards was notices ≡ before
   same-gates new same = ap (λ (g : gates.GateTable). machines_of g store oracle shards was notices) same
 

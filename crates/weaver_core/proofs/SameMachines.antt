@@ -10,14 +10,16 @@ use Rattle.step_rules.specs.CoreState.{CoreState}
 use Rattle.step_rules.specs.IsCore.{IsCore, IsSmallIfDone}
 use Rattle.step_rules.specs.Answers.{answer_of}
 use Rattle.step_rules.specs.Trace.{state_after}
-use Rattle.weaver_core.specs.Clients.{SessionValues, no_values, values_at, with_running}
+use Rattle.weaver_core.specs.Sessions.{SessionValues, no_values, values_at, with_running}
 use Rattle.weaver_core.specs.Cores.{AreOf, AreSameMachines, MachinesFrame, IsFrameOf, MachinesDo, MachinesView}
 use Rattle.weaver_core.specs.declared.walks.Running.{Running}
 use Rattle.weaver_core.proofs.Results.{on_err_map}
 
+-- of equal machines nothing but the values may differ
 pub are-same : (old new : MachinesView) → new ≡ old → AreSameMachines old new
 are-same old new is = record { frame = ap (λ (m : MachinesView). m.frame) is; state = ap (λ (m : MachinesView). m.state) is }
 
+-- so if an error leaves the machines as they were, nothing but the values may differ after it
 pub refused-same : {A E : Type 0} (result : Result A E) (old new : MachinesView) → OnErr result (new ≡ old) → OnErr result (AreSameMachines old new)
 refused-same result old new h = on_err_map result (new ≡ old) (AreSameMachines old new) (are-same old new) h
 
@@ -38,6 +40,7 @@ did-after script step old new then_new a same did = record {
   small = did.small;
 }
 
+-- the same if it is before the step that only the values differ
 pub did-before : (script : Script) (step : Step) (old other new : MachinesView) (a : StepAnswer) → AreSameMachines old other → MachinesDo script step other new a → MachinesDo script step old new a
 did-before script step old other new a same did = record {
   answer_is = did.answer_is ∙ ap (λ (state : CoreState). answer_of script state step) same.state;
@@ -52,6 +55,7 @@ set-twice [] i x y = refl
 set-twice (z ∷ xs) zero x y = refl
 set-twice (z ∷ xs) (suc i) x y = ap (λ rest. z ∷ rest) (set-twice xs i x y)
 
+-- putting one program into a session and then another is putting in the second
 pub running-twice : (values : List SessionValues) (s : ℕ) (a b : Option Running) → s < length values → with_running (with_running values s a) s b ≡ with_running values s b
 running-twice values s a b within =
     ap (λ (v : SessionValues). slice_set (with_running values s a) s (record { running = b; replies = v.replies })) (get_or-set_same values s (record { running = a; replies = (values_at values s).replies }) no_values within)

@@ -39,10 +39,12 @@ module _ (replies : List Reply) (r : ℕ) where
   abbrev compared : Reply → Ordering
   compared reply = nat_cmp reply.request r
 
+  -- if the search ends at a place, the reply there is one to the request
   pub found-here : (place : ℕ) → IsSearchInRange (Ok place) (length replies) → IsBinarySearchResult compared replies (Ok place) → (reply : Reply) → reply ≡ slice_index_or replies place reply → Contains replies reply × (reply.request ≡ r)
   found-here place within is reply at =
       ((place, within, sym at), equal-is reply.request r (ap compared at ∙ is reply))
 
+  -- if it ends without one, and the replies are of rising requests, no reply is to the request
   pub not-found : AllPairs (λ (a b : Reply). a.request < b.request) replies → (place : ℕ) → IsSearchInRange (Err place) (length replies) → IsBinarySearchResult compared replies (Err place) → (reply : Reply) → Contains replies reply → reply.request ≢ r
   not-found rise place within is reply has same = elim (cases_lt has.0 place) [
     | inl low ↦ (let less = less-is reply.request r (ap compared (sym has.2) ∙ parts.0 has.0 reply (omega arith) low) in omega (arith, less, same))

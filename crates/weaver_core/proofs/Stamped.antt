@@ -17,18 +17,18 @@ use Rattle.weave_account.specs.declared.account.Account.{Account}
 use Rattle.weave_account.specs.Account.{session_log, stamp_of}
 use Rattle.weave_account.specs.IsAccount.{IsAccount}
 use Rattle.weave_account.specs.Sessions.{requests_of_session}
-use Rattle.weaver_core.specs.Clients.{stamp_in}
+use Rattle.weaver_core.specs.Sessions.{stamp_logged}
 use Rattle.weaver_core.proofs.Noting.{stamp-in-more}
 use Rattle.weaver_core.proofs.Turns.{SessionLaws}
 use Rattle.step_rules.proofs.VisitLogs.{in-take}
 
 -- no log has a begin of the request
-none-in : (logs : List (List SessionEntry)) (r : ℕ) → ((s : ℕ) → session_stamp_of r (get_or logs s []) ≡ None) → stamp_in logs r ≡ None
+none-in : (logs : List (List SessionEntry)) (r : ℕ) → ((s : ℕ) → session_stamp_of r (get_or logs s []) ≡ None) → stamp_logged logs r ≡ None
 none-in [] r none = refl
 none-in (log ∷ logs) r none = stamp-in-more log logs r ∙ (λ i. option_or (none zero i) (none-in logs r (λ s. none (suc s)) i))
 
 -- if one log alone has begins of a request, its stamp is that of this log
-pub stamp-in-one : (logs : List (List SessionEntry)) (r s : ℕ) → s < length logs → ((other : ℕ) → other ≢ s → session_stamp_of r (get_or logs other []) ≡ None) → stamp_in logs r ≡ session_stamp_of r (get_or logs s [])
+pub stamp-in-one : (logs : List (List SessionEntry)) (r s : ℕ) → s < length logs → ((other : ℕ) → other ≢ s → session_stamp_of r (get_or logs other []) ≡ None) → stamp_logged logs r ≡ session_stamp_of r (get_or logs s [])
 stamp-in-one [] r s within none = absurd (omega (arith, within))
 stamp-in-one (log ∷ logs) r zero within none =
     stamp-in-more log logs r ∙ ap (option_or (session_stamp_of r log)) (none-in logs r (λ other. none (suc other) (λ (e : suc other ≡ zero). absurd (omega (arith, e))))) ∙ or_none (session_stamp_of r log)
@@ -54,5 +54,6 @@ module _ (laws : SessionLaws) (script : Script) (account : Account) (is : IsAcco
           let session : (request.session == other) ≡ true = sym (ap (λ (q : ℕ). is_some_and (λ (one : Request). one.session == other) (request_at script q)) number ∙ ap (is_some_and (λ (one : Request). one.session == other)) request-is) ∙ of-it in
           absurd (differ (sym (eqb-true request.session other session)))
 
-  pub stamp-is : request.session < length account.sessions → stamp_in account.sessions r ≡ stamp_of account r
+  -- the stamp of a request in the sessions' logs is that in the account
+  pub stamp-is : request.session < length account.sessions → stamp_logged account.sessions r ≡ stamp_of account r
   stamp-is within = stamp-in-one account.sessions r request.session within other-none ∙ is.sessions.stamps r request request-is

@@ -21,7 +21,7 @@ use Rattle.weave_entries.specs.declared.session_log.SessionDeed.{SessionDeed}
 use Rattle.weave_entries.specs.declared.session_log.SessionDeed.TheVariants.{Begun as BegunDeed, Replied}
 use Rattle.weave_entries.specs.declared.shard_log.ShardEntry.{ShardEntry}
 use Rattle.weave_entries.specs.declared.shard_log.ShardDeed.TheVariants.{Visited}
-use Rattle.weave_entries.specs.GateReplay.{Begun, program_begun}
+use Rattle.weave_entries.specs.GateReplay.{BegunRequest, program_begun}
 use Rattle.weave_entries.specs.ShardReplay.{Visit as AVisit, reads_in, visits_of}
 use Rattle.weave_entries.specs.StoreRule.{entries_of_settling}
 use Rattle.vector_stamp.specs.Seeing.{last_seen}
@@ -30,7 +30,7 @@ use Rattle.weave_account.specs.Account.{gate_log, pairs_in, reads_of, session_lo
 use Rattle.weave_account.specs.GoesOn.{visits_by}
 use Rattle.weave_account.specs.IsAccount.{IsAccount}
 use Rattle.step_rules.specs.CoreState.{CoreState}
-use Rattle.step_rules.specs.Entries.{after_begin, after_reply, after_visit, state_with, after_work, at_request, made_entry, seen_in, stamp_to_begin, update_stamps, with_finish}
+use Rattle.step_rules.specs.Entries.{after_begin, after_reply, after_visit, state_with, after_work, at_request, made_entry, seen_in, stamp_to_begin, update_stamps_at, with_finish}
 use Rattle.step_rules.specs.Requests.{has_ended, next_vertex}
 use Rattle.step_rules.specs.Trace.{state_after}
 use Rattle.step_rules.proofs.VisitLogs.{visits-push}
@@ -39,6 +39,7 @@ use Rattle.weaver_core.proofs.ProgramsStay.{StaysAt}
 
 -- What a step of a request leaves of others
 
+-- if the logs stay, they say the same of each request
 pub same-stays : (account : Account) (q : ℕ) (request : Request) → StaysAt account account q request
 same-stays _ q request = record { stamps = refl; replies = refl; visits = λ shard. refl }
 
@@ -47,14 +48,14 @@ module _ (script : Script) (state : CoreState) (limits : IsWithinLimits script) 
   logs = state.account
 
   -- another request's visits are the same
-  pub visit-stays : (o : Option Begun) (next : Option Name) (q : ℕ) (request : Request) → q ≢ r → StaysAt logs (after_visit script logs r o next) q request
+  pub visit-stays : (o : Option BegunRequest) (next : Option Name) (q : ℕ) (request : Request) → q ≢ r → StaysAt logs (after_visit script logs r o next) q request
   visit-stays None None q request other = same-stays logs q request
   visit-stays None (Some v) q request other = same-stays logs q request
   visit-stays (Some begun) None q request other = same-stays logs q request
   visit-stays (Some begun) (Some v) q request other =
       let s = shard_of v script.shards in
       let log = shard_log logs s in
-      let updates = update_stamps logs s v in
+      let updates = update_stamps_at logs s v in
       let k = seen_in logs begun.stamp updates in
       let entries = entries_of_settling 0 (pairs_in logs) (last_seen k updates) begun.stamp in
       let entry : ShardEntry = record { author = 0; deed = Visited r begun.stamp v k (made_entry entries) } in
@@ -92,7 +93,7 @@ module _ (script : Script) (state : CoreState) (limits : IsWithinLimits script) 
     shards_are : next.shards ≡ logs.shards
     store_is : next.store ≡ logs.store
 
-  finish-same : (home : ℕ) (o : Option Begun) → SameBut (with_finish logs r home o)
+  finish-same : (home : ℕ) (o : Option BegunRequest) → SameBut (with_finish logs r home o)
   finish-same home None = record { sessions_are = refl; shards_are = refl; store_is = refl }
   finish-same home (Some begun) = record { sessions_are = refl; shards_are = refl; store_is = refl }
 
@@ -123,25 +124,30 @@ module _ (script : Script) (state : CoreState) (limits : IsWithinLimits script) 
   step-other : (next : Account) (s : ℕ) (deed : SessionDeed) → s < 64 → SessionStep next s deed → (t : ℕ) → t ≢ s → session_log next t ≡ session_log logs t
   step-other next s deed within step = log-other logs next s deed (omega (arith, within, sixty-four)) step.sessions_are (λ n shard. ap (λ (all : List (List ShardEntry)). visits_by n (slice_index_or all shard [])) step.shards_are)
 
+  -- after `begin` the log of the request's session has one more entry, the begin with its stamp
   pub begin-log : (request : Request) → request_at script r ≡ Some request → session_log (after_begin logs r request) request.session ≡ session_log logs request.session ++ record { author = request.session; deed = BegunDeed r (stamp_to_begin logs request) } ∷ []
   begin-log request at = step-log (after_begin logs r request) request.session _ (limits.sessions r request at) (begin-step request)
 
+  -- and each other session's log is as before
   pub begin-other : (request : Request) → request_at script r ≡ Some request → (t : ℕ) → t ≢ request.session → session_log (after_begin logs r request) t ≡ session_log logs t
   begin-other request at = step-other (after_begin logs r request) request.session _ (limits.sessions r request at) (begin-step request)
 
+  -- after `reply` the log of the request's session has one more entry, the reply
   pub reply-log : (request : Request) → request_at script r ≡ Some request → session_log (after_reply logs r request) request.session ≡ session_log logs request.session ++ record { author = request.session; deed = Replied r } ∷ []
   reply-log request at = step-log (after_reply logs r request) request.session _ (limits.sessions r request at) (reply-step request)
 
+  -- and each other session's log is as before
   pub reply-other : (request : Request) → request_at script r ≡ Some request → (t : ℕ) → t ≢ request.session → session_log (after_reply logs r request) t ≡ session_log logs t
   reply-other request at = step-other (after_reply logs r request) request.session _ (limits.sessions r request at) (reply-step request)
 
   -- a visit changes no session's log
-  pub visit-sessions : (o : Option Begun) (next : Option Name) → (after_visit script logs r o next).sessions ≡ logs.sessions
+  pub visit-sessions : (o : Option BegunRequest) (next : Option Name) → (after_visit script logs r o next).sessions ≡ logs.sessions
   visit-sessions None None = refl
   visit-sessions None (Some v) = refl
   visit-sessions (Some begun) None = refl
   visit-sessions (Some begun) (Some v) = refl
 
+  -- neither does a step `visit` that is done
   pub visit-session : (request : Request) → request_at script r ≡ Some request → (state_with script state (Visit r)).account.sessions ≡ logs.sessions
   visit-session request at = ap (λ (all : Account). all.sessions) (ap (at_request (λ (asked : Request). after_visit script logs r (program_begun r (gate_log logs asked.gate)) (next_vertex logs r asked.work)) logs) at)
       ∙ visit-sessions (program_begun r (gate_log logs request.gate)) (next_vertex logs r request.work)
@@ -150,7 +156,7 @@ module _ (script : Script) (state : CoreState) (limits : IsWithinLimits script) 
   pub reply-parts : (request : Request) → ((after_reply logs r request).store ≡ logs.store) × (reads_of (after_reply logs r request) r ≡ reads_of logs r)
   reply-parts request = ((work-same request request.work).store_is, ap (flat_map (reads_in r)) (work-same request request.work).shards_are)
 
-  -- each step, done or not
+  -- after `visit`, done or not, the sessions and the visits say the same of any other request
   pub visit-others : (request : Request) → request_at script r ≡ Some request → (q : ℕ) (one : Request) → q ≢ r → StaysAt logs (state_after script state (Visit r)).account q one
   visit-others request at q one other = elim (step-cases script state (Visit r)) [
     | inl same ↦ subst (λ (all : CoreState). StaysAt logs all.account q one) (sym same) (same-stays logs q one)
@@ -159,6 +165,7 @@ module _ (script : Script) (state : CoreState) (limits : IsWithinLimits script) 
         (visit-stays (program_begun r (gate_log logs request.gate)) (next_vertex logs r request.work) q one other))
   ]
 
+  -- after `begin`, done or not, its session and the visits say the same of any other request
   pub begin-others : (request : Request) → request_at script r ≡ Some request → (q : ℕ) (one : Request) → q ≢ r → StaysAt logs (state_after script state (Begin r)).account q one
   begin-others request at q one other = elim (step-cases script state (Begin r)) [
     | inl same ↦ subst (λ (all : CoreState). StaysAt logs all.account q one) (sym same) (same-stays logs q one)
@@ -167,6 +174,7 @@ module _ (script : Script) (state : CoreState) (limits : IsWithinLimits script) 
         (step-stays (after_begin logs r request) request.session _ (limits.sessions r request at) refl (begin-step request) q one other))
   ]
 
+  -- and after `reply`, done or not
   pub reply-others : (request : Request) → request_at script r ≡ Some request → (q : ℕ) (one : Request) → q ≢ r → StaysAt logs (state_after script state (Reply r)).account q one
   reply-others request at q one other = elim (step-cases script state (Reply r)) [
     | inl same ↦ subst (λ (all : CoreState). StaysAt logs all.account q one) (sym same) (same-stays logs q one)

@@ -38,10 +38,10 @@ use Rattle.weave_account.specs.GoesOn.{GoesOn}
 use Rattle.weave_account.specs.IsAccount.{IsAccount}
 use Rattle.weave_account.specs.Report.{IsReplyInAccount, IsStateOf, state_of_tx}
 use Rattle.weave_account.specs.Sessions.{requests_of_session}
-use Rattle.weaver_core.specs.Clients.{SessionValues, is_open_in, no_values, values_at, with_reply, with_running}
+use Rattle.weaver_core.specs.Sessions.{SessionValues, is_open_in, no_values, values_at, values_with_reply, with_running}
 use Rattle.weaver_core.specs.Finishing.{IsReplyOfProgram}
-use Rattle.weaver_core.specs.Replying.{reply_of_change}
-use Rattle.weaver_core.specs.Splitting.{AreAllByLog, AreRepliesByLog, AreValuesByLog, IsRunningByLog, begun_by, program_waiting, waiting_in}
+use Rattle.weaver_core.specs.GivingReplies.{reply_of_change}
+use Rattle.weaver_core.specs.Splitting.{AreAllByLog, AreRepliesByLog, AreValuesByLog, IsRunningByLog, begun_by_session, program_waiting, waiting_in}
 use Rattle.weaver_core.specs.Staying.{StayLaws}
 use Rattle.weaver_core.specs.Walks.{HasReadAll, IsLookAt, IsRunningIn}
 use Rattle.weaver_core.specs.declared.walks.Running.{Running}
@@ -63,11 +63,11 @@ few-replied s = by s.waits
 -- a program waits after its begin, and a transaction doesn't
 program-after : (script : Script) (log : List SessionEntry) (entry : SessionEntry) (r : ℕ) (stamp : Stamp) (request : Request) → entry.deed ≡ Begun r stamp → request_at script r ≡ Some request → program_waiting script (log ++ entry ∷ []) ≡ (if is_look request.work then Some (r, stamp) else None)
 program-after script log entry r stamp request deed at =
-    ap (option_and_then (if-program script)) (waits-more log entry ∙ ap begun_by deed)
+    ap (option_and_then (if-program script)) (waits-more log entry ∙ ap begun_by_session deed)
     ∙ ap (λ (o : Option Request). if is_some_and (λ (one : Request). is_look one.work) o then Some (r, stamp) else None) at
 
 none-after : (script : Script) (log : List SessionEntry) (entry : SessionEntry) (r : ℕ) → entry.deed ≡ Replied r → program_waiting script (log ++ entry ∷ []) ≡ None
-none-after script log entry r deed = ap (option_and_then (if-program script)) (waits-more log entry ∙ ap begun_by deed)
+none-after script log entry r deed = ap (option_and_then (if-program script)) (waits-more log entry ∙ ap begun_by_session deed)
 
 -- what runs if nothing waits
 none-runs : (o : Option Running) → option_map begun-as o ≡ None → o ≡ None
@@ -208,18 +208,21 @@ module _ (laws : StayLaws) (script : Script) (account next : Account) (limits : 
     stamp-log : session_stamp_of r log ≡ Some waiting.0
     stamp-log = stamp-waits (session-laws laws) s requests log (is.sessions.logs s) (laws.rise script s) r waiting.0 waiting.1
 
+    -- it is the request's stamp after the reply
     pub stamp-then : stamp_of next r ≡ Some waiting.0
     stamp-then = sym (is-next.sessions.stamps r request at) ∙ ap (session_stamp_of r) replied ∙ stamp-replied log s r ∙ stamp-log
 
+    -- as it was before it
     pub stamp-now : stamp_of account r ≡ Some waiting.0
     stamp-now = sym (is.sessions.stamps r request at) ∙ stamp-log
 
+    -- and it is the stamp that the session began last
     pub last-now : (session_of [] log).last ≡ Some waiting.0
     last-now = last-waits [] log r waiting.0 waiting.1
 
     -- with a right reply, the values are right
-    pub replied-values : (reply : Reply) → reply.request ≡ r → IsReplyInAccount script next reply → AreAllByLog script next (slice_set values s (with_reply (values_at values s) reply))
-    replied-values reply number right = set-values (with_reply (values_at values s) reply) (subst (λ (l : List SessionEntry). AreValuesByLog script next l (with_reply (values_at values s) reply)) (sym replied) (record {
+    pub replied-values : (reply : Reply) → reply.request ≡ r → IsReplyInAccount script next reply → AreAllByLog script next (slice_set values s (values_with_reply (values_at values s) reply))
+    replied-values reply number right = set-values (values_with_reply (values_at values s) reply) (subst (λ (l : List SessionEntry). AreValuesByLog script next l (values_with_reply (values_at values s) reply)) (sym replied) (record {
       running = record { waits = sym (none-after script log last r refl); fed = λ one here program look. absurd (none-some one here) };
       replies = record {
         requests = map-append (λ (one : Reply). one.request) (values_at values s).replies (reply ∷ [])

@@ -47,6 +47,7 @@ each-push P xs y each here j z at = elim (at-or-last xs y j z at) [
 -- Images
 
 module _ {A B : Type 0} (f : A → B) (xs : List A) (i : ℕ) (x : A) (at : slice_get xs i ≡ Some x) where
+  -- the image of a list has an element's image at the element's place
   pub image-at : (d : B) → get_or (map f xs) i d ≡ f x
   image-at d = get_or-map f xs i x d (slice_get_within xs i x at) ∙ ap f (get_or_from_slice_get xs i x x at)
 

@@ -16,7 +16,7 @@ use Rattle.weave_entries.specs.declared.session_log.SessionDeed.TheVariants.{Beg
 use Rattle.weave_entries.specs.SessionReplay.{FitsSession, IsSessionLog, RepliesToLast, SessionState, begins_in, has_begun_in, has_reply_in, replied_count, replied_in, session_after, session_of}
 use Rattle.report_rules.specs.Lookups.{is_some_and}
 use Rattle.step_rules.specs.Requests.{waits_before}
-use Rattle.weaver_core.specs.Clients.{IsInTurn, begun_by_last, is_begin_of, is_open_in, last_entry, open_by_last, request_by, standing_of}
+use Rattle.weaver_core.specs.Sessions.{IsInTurn, begun_by_last, is_begin_of, is_open_in, last_entry, open_by_last, request_by, standing_of}
 use Rattle.weaver_core.specs.declared.client.Standing.TheVariants.{Twice, Early, Next}
 use Rattle.step_rules.proofs.SessionTurns.{get-before, at-place, get-take, one-more, requests-same, take-get, waits-begun}
 
@@ -51,9 +51,11 @@ none-last (x ∷ xs) none =
 -- Numbers that rise
 
 module _ (requests : List ℕ) (rise : AllPairs (λ (a b : ℕ). a < b) requests) where
+  -- of two requests the one at the earlier place is less
   pub below : (i j a b : ℕ) → slice_get requests i ≡ Some a → slice_get requests j ≡ Some b → i < j → a < b
   below i j a b at bt less = pairs_placed (λ (x y : ℕ). x < y) requests rise a b (at-place requests i a at) (at-place requests j b bt) less
 
+  -- and no request is at two places
   pub one-place : (i j a : ℕ) → slice_get requests i ≡ Some a → slice_get requests j ≡ Some a → i ≡ j
   one-place i j a at bt = elim (cases_order i j) [
     | inl same ↦ same
@@ -154,6 +156,7 @@ module _ (laws : SessionLaws) (number : ℕ) (requests : List ℕ) (log : List S
               begun-is i r at ∙ le-ltb i session.begun (omega (arith, some, more)) ∙ sym (lt-leb r (request_by entry.deed) higher)
         ]
 
+    -- a request has begun exactly if it is at most that of the last entry
     pub begun-by-last : has_begun_in r log ≡ begun_by_last r log
     begun-by-last = by (last_entry log) refl
       where
@@ -187,6 +190,7 @@ module _ (laws : SessionLaws) (number : ℕ) (requests : List ℕ) (log : List S
         never true = refl
         never false = refl
 
+    -- and has begun and has no reply exactly if the last entry is its begin
     pub open-by-last : is_open_in r log ≡ open_by_last r log
     open-by-last = by (last_entry log) refl
       where
@@ -262,11 +266,14 @@ module _ (laws : SessionLaws) (number : ℕ) (requests : List ℕ) (log : List S
           | inr (inr more) ↦ absurd (omega (arith, more, over))
         ]
 
+    -- a request that has begun would begin twice
     pub stands-twice : has_begun_in r log ≡ true → Twice ≡ standing_of r requests log
     stands-twice has = sym (ap (λ (t : Bool). if t then Twice else (if waits_before r requests log then Early else Next)) has)
 
+    -- one that has not begun, and comes next while none waits, is the next one
     pub stands-next : has_begun_in r log ≡ false → IsInTurn session r → Next ≡ standing_of r requests log
     stands-next new turn = sym (ap (λ (t : Bool). if t then Twice else (if waits_before r requests log then Early else Next)) new ∙ ap (λ (t : Bool). if t then Early else Next) (next-is-free turn))
 
+    -- and any other that has not begun is early
     pub stands-early : has_begun_in r log ≡ false → (IsInTurn session r → ⊥) → Early ≡ standing_of r requests log
     stands-early new not-next = sym (ap (λ (t : Bool). if t then Twice else (if waits_before r requests log then Early else Next)) new ∙ ap (λ (t : Bool). if t then Early else Next) (other-waits new not-next))

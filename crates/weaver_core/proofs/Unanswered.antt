@@ -9,7 +9,7 @@ use Rattle.std.proofs.lemmas.Option.{none-some, same_Some}
 use Rattle.weave_entries.specs.declared.session_log.SessionEntry.{SessionEntry}
 use Rattle.weave_entries.specs.SessionReplay.{IsSessionLog, SessionState, next_request, replied_count, session_of}
 use Rattle.step_rules.proofs.VisitLogs.{map-get}
-use Rattle.weaver_core.specs.Clients.{IsFirstUnanswered, IsUnanswered, last_entry, last_request, least_unanswered, lesser, log_of, request_by, requests_in, unanswered_at, unanswered_by, unanswered_in}
+use Rattle.weaver_core.specs.Sessions.{IsFirstUnanswered, IsUnanswered, last_entry, last_request, least_unanswered, lesser_number, log_of_client, request_by, requests_in, unanswered_at, unanswered_by, unanswered_in}
 use Rattle.weaver_core.specs.declared.client.Client.{Client}
 use Rattle.weaver_core.proofs.AtClients.{table_of}
 use Rattle.weaver_core.proofs.Tables.{image-at}
@@ -41,27 +41,27 @@ unanswered-last number requests log right waits = by (last_entry log) refl
 
 -- The least of some numbers
 
-lesser-within : (most : ℕ) (x : Option ℕ) → lesser most x ≤ most
+lesser-within : (most : ℕ) (x : Option ℕ) → lesser_number most x ≤ most
 lesser-within most None = omega arith
 lesser-within most (Some n) = min-le_left most n
 
 -- a lesser one is the one that was there
-lesser-is : (most : ℕ) (x : Option ℕ) → lesser most x < most → x ≡ Some (lesser most x)
+lesser-is : (most : ℕ) (x : Option ℕ) → lesser_number most x < most → x ≡ Some (lesser_number most x)
 lesser-is most None less = absurd (omega (arith, less))
 lesser-is most (Some n) less = elim (cases_lt n most) [
   | inl below ↦ ap Some (sym (min-eq_right (omega (arith, below))))
   | inr over ↦ absurd (let same : min most n ≡ most = min-eq_left over in omega (arith, less, same))
 ]
 
-least-within : (xs : List (Option ℕ)) (most : ℕ) → fold lesser most xs ≤ most
+least-within : (xs : List (Option ℕ)) (most : ℕ) → fold lesser_number most xs ≤ most
 least-within [] most = omega arith
-least-within (x ∷ xs) most = let rest = least-within xs (lesser most x) in let first = lesser-within most x in omega (arith, rest, first)
+least-within (x ∷ xs) most = let rest = least-within xs (lesser_number most x) in let first = lesser-within most x in omega (arith, rest, first)
 
-least-of : (xs : List (Option ℕ)) (most i r : ℕ) → slice_get xs i ≡ Some (Some r) → fold lesser most xs ≤ r
+least-of : (xs : List (Option ℕ)) (most i r : ℕ) → slice_get xs i ≡ Some (Some r) → fold lesser_number most xs ≤ r
 least-of [] most i r at = absurd (none-some _ at)
 least-of (x ∷ xs) most zero r at =
-    let is : lesser most x ≡ min most r = ap (lesser most) (same_Some x (Some r) at) in
-    let rest = least-within xs (lesser most x) in
+    let is : lesser_number most x ≡ min most r = ap (lesser_number most) (same_Some x (Some r) at) in
+    let rest = least-within xs (lesser_number most x) in
     let first : min most r ≤ r = min-le-right most r in
     omega (arith, is, rest, first)
   where
@@ -70,15 +70,15 @@ least-of (x ∷ xs) most zero r at =
       | inl below ↦ (let same : min a b ≡ b = min-eq_right (omega (arith, below)) in omega (arith, same))
       | inr over ↦ (let same : min a b ≡ a = min-eq_left over in omega (arith, same, over))
     ]
-least-of (x ∷ xs) most (suc i) r at = least-of xs (lesser most x) i r at
+least-of (x ∷ xs) most (suc i) r at = least-of xs (lesser_number most x) i r at
 
-least-one : (xs : List (Option ℕ)) (most : ℕ) → fold lesser most xs < most → (i : ℕ) × (slice_get xs i ≡ Some (Some (fold lesser most xs)))
+least-one : (xs : List (Option ℕ)) (most : ℕ) → fold lesser_number most xs < most → (i : ℕ) × (slice_get xs i ≡ Some (Some (fold lesser_number most xs)))
 least-one [] most less = absurd (omega (arith, less))
-least-one (x ∷ xs) most less = elim (cases_lt (fold lesser (lesser most x) xs) (lesser most x)) [
-  | inl below ↦ (let rest = least-one xs (lesser most x) below in (suc rest.0, rest.1))
+least-one (x ∷ xs) most less = elim (cases_lt (fold lesser_number (lesser_number most x) xs) (lesser_number most x)) [
+  | inl below ↦ (let rest = least-one xs (lesser_number most x) below in (suc rest.0, rest.1))
   | inr over ↦
-      let within = least-within xs (lesser most x) in
-      let same : lesser most x ≡ fold lesser (lesser most x) xs = omega (arith, over, within) in
+      let within = least-within xs (lesser_number most x) in
+      let same : lesser_number most x ≡ fold lesser_number (lesser_number most x) xs = omega (arith, over, within) in
       (zero, ap Some (lesser-is most x (omega (arith, same, less)) ∙ ap Some same))
 ]
 
@@ -99,14 +99,14 @@ mapped-from f (z ∷ xs) (suc i) y at = mapped-from f xs i y at
 module _ (clients : List Client) where
   -- that of a session, by the table
   by-table : (s : ℕ) (client : Client) → slice_get clients s ≡ Some client → unanswered_at (table_of clients) s ≡ unanswered_by client
-  by-table s client at = λ i. unanswered_in (image-at requests_in clients s client at [] i) (image-at log_of clients s client at [] i)
+  by-table s client at = λ i. unanswered_in (image-at requests_in clients s client at [] i) (image-at log_of_client clients s client at [] i)
 
   is-least : (most s r : ℕ) → unanswered_at (table_of clients) s ≡ Some r → least_unanswered most clients ≤ r
   is-least most s r is = by (slice_get clients s) refl
     where
       by : (o : Option Client) → slice_get clients s ≡ o → least_unanswered most clients ≤ r
       by (Some client) at = least-of (map unanswered_by clients) most s r (map-get unanswered_by clients s client at ∙ ap Some (sym (by-table s client at) ∙ is))
-      by None none = absurd (none-some r (sym (ap (λ (rs : List ℕ). unanswered_in rs (get_or (map log_of clients) s [])) (mapped-past requests_in clients s [] none)) ∙ is))
+      by None none = absurd (none-some r (sym (ap (λ (rs : List ℕ). unanswered_in rs (get_or (map log_of_client clients) s [])) (mapped-past requests_in clients s [] none)) ∙ is))
 
   is-one : (most : ℕ) → least_unanswered most clients < most → IsUnanswered (table_of clients) (least_unanswered most clients)
   is-one most less =

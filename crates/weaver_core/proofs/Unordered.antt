@@ -17,7 +17,7 @@ use Rattle.report_rules.specs.declared.report.Report.{Report}
 use Rattle.weave_entries.specs.declared.oracle_log.OracleEntry.{OracleEntry}
 use Rattle.weaver_core.specs.ShardTable.{ShardTable}
 use Rattle.weave_entries.specs.declared.store_log.StoreEntry.{StoreEntry}
-use Rattle.weave_entries.specs.GateReplay.{Begun}
+use Rattle.weave_entries.specs.GateReplay.{BegunRequest}
 use Rattle.weave_entries.specs.OracleReplay.{settled_entry}
 use Rattle.weave_account.specs.declared.account.Account.{Account}
 use Rattle.weave_account.specs.Account.{IsBegunStamp, all_begun, begun_stamps, pairs_in, stamp_of, session_log}
@@ -31,7 +31,7 @@ use Rattle.weave_entries.specs.SessionReplay.{replied_count, session_of}
 use Rattle.report_rules.specs.declared.report.Reply.{Reply}
 use Rattle.std.proofs.lemmas.Bool.{cases_lt}
 use Rattle.weave_data.proofs.Ordered.{pairs_cons, pairs_front, pairs_head, pairs_none, pairs_tail}
-use Rattle.weaver_core.specs.Clients.{ClientTable, HaveRisingReplies, SessionValues, no_values, values_at}
+use Rattle.weaver_core.specs.Sessions.{ClientTable, HaveRisingReplies, SessionValues, no_values, values_at}
 use Rattle.weaver_core.specs.Cores.{AreOf, machines_of}
 use Rattle.weaver_core.specs.GateTable.{GateTable}
 use Rattle.weaver_core.specs.Noting.{all_noted}
@@ -79,9 +79,11 @@ module _ (laws : ReportLaws) (sessions : SessionLaws) (script : Script) (gates :
   abbrev account : Account
   account = (machines_of gates store oracle shards was notices).state.account
 
+  -- there are as many stamps as requests
   pub many : length stamps ≡ length script.requests
   many = ap length noted ∙ count-noted was.logs (replicate n None) ∙ length-replicate {A = Option Stamp} n None ∙ n-is
 
+  -- each is that of its request in the account
   pub stamps-are : AreStampsOf account stamps
   stamps-are r below =
       let all = many in
@@ -97,8 +99,9 @@ module _ (laws : ReportLaws) (sessions : SessionLaws) (script : Script) (gates :
       let place = place-of stamps (Some stamp) has in
       let known = stamps-are place.0 (slice_get_within stamps place.0 (Some stamp) place.1) in
       let from = begun-with script account are.core.account place.0 stamp (sym known ∙ get_or_from_slice_get stamps place.0 (Some stamp) None place.1) in
-      (laws.stamps.coherent script account are.limits are.core.account).homes stamp (subst (λ (s : Stamp). Contains (begun_stamps account) s) from.1.1.1 (has_map (λ (begun : Begun). begun.stamp) (all_begun account) from.0 from.1.0))
+      (laws.stamps.coherent script account are.limits are.core.account).homes stamp (subst (λ (s : Stamp). Contains (begun_stamps account) s) from.1.1.1 (has_map (λ (begun : BegunRequest). begun.stamp) (all_begun account) from.0 from.1.0))
 
+  -- and the stamps of the oracle's entries are of homes below 8, too
   pub settled-homes : (entry : OracleEntry) → Contains oracle entry → AreOfHomes (settled_entry entry)
   settled-homes entry has event h = (laws.stamps.coherent script account are.limits are.core.account).homes event (laws.settled script account are.limits are.core.account entry has event h)
 

@@ -34,7 +34,7 @@ use Rattle.weave_account.specs.GoesOn.{GoesOn}
 use Rattle.weave_account.specs.IsAccount.{IsAccount}
 use Rattle.weave_account.specs.Report.{IsReplyInAccount, IsStateOf, IsStateOfProgram, state_of_tx}
 use Rattle.weave_account.specs.Sessions.{requests_of_session}
-use Rattle.weaver_core.specs.Clients.{SessionValues, no_values, values_at}
+use Rattle.weaver_core.specs.Sessions.{SessionValues, no_values, values_at}
 use Rattle.weaver_core.specs.Splitting.{AreAllByLog, AreRepliesByLog, AreValuesByLog, IsRunningByLog, program_waiting, waiting_in}
 use Rattle.weaver_core.specs.Staying.{StayLaws}
 use Rattle.weaver_core.specs.declared.walks.Running.{Running}
@@ -68,6 +68,7 @@ program-of script begun r stamp is = by (request_at script begun.0) refl is
     by None at e = absurd (none-some (r, stamp) e)
     by (Some request) at e = at-last request at (is_look request.work) refl e
 
+-- the program that waits in a log, if one does, is a program of the script, and is what waits there
 pub program-waits : (script : Script) (log : List SessionEntry) (r : ℕ) (stamp : Stamp) → program_waiting script log ≡ Some (r, stamp) → IsProgram script r × (waiting_in log ≡ Some (r, stamp))
 program-waits script log r stamp is = by (waiting_in log) refl
   where
@@ -79,6 +80,7 @@ program-waits script log r stamp is = by (waiting_in log) refl
 
 -- The session of a request
 
+-- each of a session's requests is a request of the script whose session it is
 pub in-session : (script : Script) (t q : ℕ) → Contains (requests_of_session script t) q → (request : Request) × (request_at script q ≡ Some request) × (request.session ≡ t)
 in-session script t q has = by (request_at script q) refl (filter_has (λ (r : ℕ). is_some_and (λ (one : Request). one.session == t) (request_at script r)) (range_with_len 0 (length script.requests)) q has).1
   where

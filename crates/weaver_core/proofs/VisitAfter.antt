@@ -27,10 +27,10 @@ use Rattle.weave_account.specs.IsAccount.{IsAccount}
 use Rattle.step_rules.specs.CoreState.{CoreState}
 use Rattle.step_rules.specs.Entries.{made_entry}
 use Rattle.step_rules.specs.IsCore.{IsStepOf}
-use Rattle.weaver_core.specs.Clients.{ClientTable}
+use Rattle.weaver_core.specs.Sessions.{ClientTable}
 use Rattle.weaver_core.specs.Cores.{AreOf, MachinesDo, MachinesView, machines_of}
 use Rattle.weaver_core.specs.GateTable.{GateTable}
-use Rattle.weaver_core.specs.ShardTable.{ShardTable, log_at}
+use Rattle.weaver_core.specs.ShardTable.{ShardTable, shard_log_at}
 use Rattle.weaver_core.specs.Staying.{CoreLaws}
 use Rattle.weaver_core.specs.Visiting.{AreSameLogs, AsksForNextVisit, VisitsForProgram, VisitsNext, entries_asked, updates_seen}
 use Rattle.weaver_core.specs.Walks.{IsRunningIn}
@@ -59,6 +59,7 @@ module _ (free : (a b : List (Name × State)) (program : Program) → AreSameRea
   same-account : Same → next ≡ (machines_of gates store oracle shards was notices).state.account
   same-account same = λ i. (machines_of gates store (same.oracle_is i) (same.shards_are i) was notices).state.account
 
+  -- if nothing but the room differs, the program is running still
   pub runs-if-same : Same → IsRunningIn script next r now
   runs-if-same same =
       let p = same.program in
@@ -88,7 +89,7 @@ module _ (free : (a b : List (Name × State)) (program : Program) → AreSameRea
     s = shard_of v script.shards
 
     abbrev log : List ShardEntry
-    log = log_at shards s
+    log = shard_log_at shards s
 
     shards-are : next.shards ≡ slice_set shards.logs s (log ++ record { author = 0; deed = VisitedDeed r running.stamp v (updates_seen oracle log running.stamp v) (made_entry (entries_asked oracle log running.stamp v)) } ∷ [])
     shards-are = did.visited.adds.logs ∙ (λ i. slice_set shards.logs s (log ++ record { author = 0; deed = VisitedDeed (runs.runs.request_is i) running.stamp v (updates_seen oracle log running.stamp v) (made_entry (entries_asked oracle log running.stamp v)) } ∷ []))
@@ -113,6 +114,7 @@ module _ (free : (a b : List (Name × State)) (program : Program) → AreSameRea
       }
 
   module _ (is-next : IsAccount script next) (there : (v : Name) → shard_of v script.shards < length shards.logs) where
+    -- whatever `visit` answers, the program is running as the logs say then
     pub runs-after : (a : StepAnswer) → VisitsForProgram script.shards shards new oracle then_oracle running now a → IsRunningIn script next r now
     runs-after answer.Ok did = runs-if-visited is-next did (there did.vertex)
     runs-after answer.Idle did = runs-if-same did.0

@@ -17,7 +17,7 @@ use Rattle.report_rules.specs.declared.report.StepAnswer.TheVariants as answer
 use Rattle.weave_entries.specs.declared.oracle_log.OracleEntry.{OracleEntry}
 use Rattle.weave_entries.specs.declared.shard_log.ShardDeed.TheVariants as deed
 use Rattle.weave_entries.specs.declared.store_log.StoreEntry.{StoreEntry}
-use Rattle.weave_entries.specs.GateReplay.{Begun, program_begun}
+use Rattle.weave_entries.specs.GateReplay.{BegunRequest, program_begun}
 use Rattle.weave_entries.specs.ShardReplay.{first_unready}
 use Rattle.weave_account.specs.declared.account.Account.{Account}
 use Rattle.weave_account.specs.Account.{gate_log, reads_of}
@@ -27,10 +27,10 @@ use Rattle.step_rules.specs.Entries.{account_with, after_visit, at_request, made
 use Rattle.step_rules.specs.Requests.{next_vertex}
 use Rattle.path_program.specs.AnyPrograms.{next_read}
 use Rattle.path_program.specs.declared.any.AnyProgram.{AnyProgram}
-use Rattle.weaver_core.specs.Clients.{ClientTable}
+use Rattle.weaver_core.specs.Sessions.{ClientTable}
 use Rattle.weaver_core.specs.Cores.{AreOf, MachinesDo, MachinesView, machines_of}
 use Rattle.weaver_core.specs.GateTable.{GateTable}
-use Rattle.weaver_core.specs.ShardTable.{ShardTable, log_at}
+use Rattle.weaver_core.specs.ShardTable.{ShardTable, shard_log_at}
 use Rattle.weaver_core.specs.Visiting.{AreSameLogs, AsksForNextVisit, VisitsForProgram, VisitsNext, entries_asked, updates_seen}
 use Rattle.weaver_core.specs.Walks.{HasReadAll, IsRunningIn}
 use Rattle.weaver_core.specs.declared.walks.Running.{Running}
@@ -76,7 +76,7 @@ module _ (script : Script) (gates : GateTable) (store : List StoreEntry) (oracle
     abbrev request : Request
     request = runs.look.request
 
-    abbrev begun : Begun
+    abbrev begun : BegunRequest
     begun = record { author = runs.runs.author; request = r; stamp = running.stamp }
 
     its-next : next_vertex account r request.work ≡ next_read running.walk
@@ -96,7 +96,7 @@ module _ (script : Script) (gates : GateTable) (store : List StoreEntry) (oracle
       visited-done did =
           let v = did.vertex in
           let s = shard_of v script.shards in
-          let log = log_at shards s in
+          let log = shard_log_at shards s in
           let visited = deed.Visited running.request running.stamp v (updates_seen oracle log running.stamp v) (made_entry (entries_asked oracle log running.stamp v)) in
           done script (step.Visit r) before after
           (told (Some v) did.next_is ∙ (λ i. again_or_ok s (first_unready (sym senders i) running.stamp log)) ∙ ap (again_or_ok s) did.visited.ready)
@@ -110,6 +110,7 @@ module _ (script : Script) (gates : GateTable) (store : List StoreEntry) (oracle
       same-all : AreSameLogs shards new oracle then_oracle running now → after ≡ before
       same-all same = λ i. machines_of gates store (same.oracle_is i) (same.shards_are i) was notices
 
+      -- by what shards, oracle and program did at `visit`, the machines did this step, with the same answer
       pub visit-done : (a : StepAnswer) → VisitsForProgram script.shards shards new oracle then_oracle running now a → MachinesDo script (step.Visit r) before after a
       visit-done answer.Ok did = visited-done did
       visit-done answer.Idle did = rests script (step.Visit r) before after answer.Idle (told None did.1) refl (same-all did.0)
@@ -117,7 +118,7 @@ module _ (script : Script) (gates : GateTable) (store : List StoreEntry) (oracle
           let why = did.1 in
           rests script (step.Visit r) before after (answer.Again s g)
           (told (Some why.vertex) why.next_is
-          ∙ (λ i. again_or_ok (sym why.shard_is i) (first_unready (sym senders i) running.stamp (log_at shards (sym why.shard_is i))))
+          ∙ (λ i. again_or_ok (sym why.shard_is i) (first_unready (sym senders i) running.stamp (shard_log_at shards (sym why.shard_is i))))
           ∙ ap (again_or_ok s) why.unready)
           refl (same-all did.0)
       visit-done answer.Twice none = absurd none

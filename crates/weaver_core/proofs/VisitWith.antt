@@ -19,7 +19,7 @@ use Rattle.weave_account.specs.Sessions.{requests_of_session}
 use Rattle.step_rules.specs.Answers.{answer_of}
 use Rattle.step_rules.specs.CoreState.{CoreState}
 use Rattle.step_rules.specs.Trace.{is_ok}
-use Rattle.weaver_core.specs.Clients.{is_open_in, values_at, with_running}
+use Rattle.weaver_core.specs.Sessions.{is_open_in, values_at, with_running}
 use Rattle.weaver_core.specs.Cores.{AreOf, MachinesDo, MachinesView}
 use Rattle.weaver_core.specs.Splitting.{AreAllByLog, waiting_in}
 use Rattle.weaver_core.specs.Staying.{CoreLaws, StayLaws}
@@ -77,6 +77,7 @@ module _ (stay : StayLaws) (core : CoreLaws) (script : Script) (machines : Machi
           let kept = open-runs stay script account are.limits are.core.account machines.values all r request at within program e waits in
           subst (IsRunningIn script account r) (same_Some kept.running one (sym kept.running_is ∙ here)) kept.runs
 
+  -- if nothing is running in its session, `visit` answers `idle`
   pub idle-here : (values_at machines.values s).running ≡ None → answer_of script machines.state (Visit r) ≡ Idle
   idle-here none = by request.work refl
     where
@@ -103,12 +104,14 @@ module _ (stay : StayLaws) (core : CoreLaws) (script : Script) (machines : Machi
         (program-visited stay script account account are.limits are.core.account are.core.account (goes-same account) r request at machines.values all (λ q k here other. same-stays account q k) (λ t other. refl) refl waits
         was one was-is (its-number was was-is) stamp-is (subst (λ (logs : Account). IsRunningIn script logs r one) account-is runs))
 
+    -- if the state is as before, the values with the program back in its session are those of the logs
     pub left-refused : (was is : Option Running) → (values_at machines.values s).running ≡ was → stamp-in is ≡ stamp-in was → ForSome is (IsRunningIn script new.state.account r) → new.state ≡ machines.state → AreAllByLog script new.state.account (with_running machines.values s is)
     left-refused None None was-is stamps runs same = none-left was-is same
     left-refused (Some was) (Some one) was-is stamps runs same = one-left was one was-is (same_Some one.stamp was.stamp stamps) (runs one refl) same
     left-refused None (Some one) was-is stamps runs same = absurd (none-some one.stamp (sym stamps))
     left-refused (Some was) None was-is stamps runs same = absurd (none-some was.stamp stamps)
 
+    -- the same if the machines did `visit`, whatever they answered
     pub left-done : (was is : Option Running) → (values_at machines.values s).running ≡ was → stamp-in is ≡ stamp-in was → ForSome is (IsRunningIn script new.state.account r) → (a : StepAnswer) → MachinesDo script (Visit r) machines new a → AreAllByLog script new.state.account (with_running machines.values s is)
     left-done None None was-is stamps runs a did = none-left was-is (rested script machines new (Visit r) a did (ap is_ok (did.answer_is ∙ idle-here was-is)))
     left-done (Some was) (Some one) was-is stamps runs a did =

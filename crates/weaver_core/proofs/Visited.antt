@@ -54,6 +54,7 @@ state-added (read ∷ front) back v state w new =
     by false true ea eb = refl
     by false false ea eb = refl
 
+-- reads that are the same stay so if both gain one of a vertex not read yet, in front or at any place
 pub reads-added : (reads front back : List (Name × State)) (v : Name) (state : State) → is_among (keys_of (front ++ back)) v ≡ false → AreSameReads reads (front ++ back) → AreSameReads ((v, state) ∷ reads) (front ++ (v, state) ∷ back)
 reads-added reads front back v state new same = record {
   vertices = λ w. ap (λ b. same_name v w || b) (same.vertices w) ∙ sym (key-added front back v state w);
@@ -76,6 +77,7 @@ module _ (script : Script) (account next : Account) (is : IsAccount script accou
   abbrev state : State
   state = state_of_updates (take k (updates_of v log))
 
+  -- after the visit a walk that has read this one more state has read all that the logs say, and no others
   pub read-more : (running now : Running) → next_visit (reads_of account r) program ≡ Some v → HasReadMore running now v state → HasReadAll running.walk program (reads_of account r) → HasReadAll now.walk program (reads_of next r)
   read-more running now next-is more has =
       let set = flat-more (reads_in r) account.shards s (log ++ record { author = 0; deed = VisitedDeed r stamp v k made } ∷ []) ((v, state) ∷ []) within (reads-more log r stamp v k made) in

@@ -15,8 +15,8 @@ use Rattle.weave_entries.specs.declared.session_log.SessionEntry.{SessionEntry}
 use Rattle.weave_entries.specs.declared.session_log.SessionDeed.{SessionDeed}
 use Rattle.weave_entries.specs.declared.session_log.SessionDeed.TheVariants.{Begun, Replied}
 use Rattle.weave_entries.specs.SessionReplay.{FitsSession, IsSessionLog, SessionState, begin_by, begins_in, has_begun_in, session_after, session_of, session_stamp_of}
-use Rattle.weaver_core.specs.Clients.{is_begin_of, is_open_in, last_entry, open_by_last, request_by}
-use Rattle.weaver_core.specs.Splitting.{begun_by, waiting_in}
+use Rattle.weaver_core.specs.Sessions.{is_begin_of, is_open_in, last_entry, open_by_last, request_by}
+use Rattle.weaver_core.specs.Splitting.{begun_by_session, waiting_in}
 use Rattle.weaver_core.specs.Staying.{StayLaws}
 use Rattle.weaver_core.proofs.BegunProgram.{find-last}
 use Rattle.weaver_core.proofs.NoStamp.{any-none}
@@ -28,15 +28,15 @@ abbrev pub session-laws : StayLaws → SessionLaws
 session-laws stay = record { begun_first = stay.begun_first; replied_first = stay.replied_first; begun_tested = stay.begun_tested; replied_tested = stay.replied_tested }
 
 -- after one more entry
-pub waits-more : (log : List SessionEntry) (entry : SessionEntry) → waiting_in (log ++ entry ∷ []) ≡ begun_by entry.deed
-waits-more log entry = ap (option_and_then (λ (e : SessionEntry). begun_by e.deed)) (last-of log entry)
+pub waits-more : (log : List SessionEntry) (entry : SessionEntry) → waiting_in (log ++ entry ∷ []) ≡ begun_by_session entry.deed
+waits-more log entry = ap (option_and_then (λ (e : SessionEntry). begun_by_session e.deed)) (last-of log entry)
 
 -- what begins a request, by the deed
-deed-begins : (deed : SessionDeed) (r : ℕ) → is_begin_of r deed ≡ true → (stamp : Stamp) × (begun_by deed ≡ Some (r, stamp))
+deed-begins : (deed : SessionDeed) (r : ℕ) → is_begin_of r deed ≡ true → (stamp : Stamp) × (begun_by_session deed ≡ Some (r, stamp))
 deed-begins (Begun q stamp) r is = (stamp, ap (λ (n : ℕ). Some (n, stamp)) (eqb-true q r is))
 deed-begins (Replied q) r is = absurd (let f : false ≡ true = is in cc)
 
-begins-deed : (deed : SessionDeed) (r : ℕ) (stamp : Stamp) → begun_by deed ≡ Some (r, stamp) → deed ≡ Begun r stamp
+begins-deed : (deed : SessionDeed) (r : ℕ) (stamp : Stamp) → begun_by_session deed ≡ Some (r, stamp) → deed ≡ Begun r stamp
 begins-deed (Begun q s) r stamp is = let same = same_Some (q, s) (r, stamp) is in λ i. Begun (same i).0 (same i).1
 begins-deed (Replied q) r stamp is = absurd (none-some (r, stamp) is)
 
@@ -52,16 +52,16 @@ module _ (laws : SessionLaws) (number : ℕ) (requests : List ℕ) (log : List S
       by None e = absurd (let f : false ≡ true = sym (ap (is_some_and (λ (entry : SessionEntry). is_begin_of r entry.deed)) e) ∙ last-is in cc)
       by (Some entry) e =
           let one = deed-begins entry.deed r (sym (ap (is_some_and (λ (x : SessionEntry). is_begin_of r x.deed)) e) ∙ last-is) in
-          (one.0, ap (option_and_then (λ (x : SessionEntry). begun_by x.deed)) e ∙ one.1)
+          (one.0, ap (option_and_then (λ (x : SessionEntry). begun_by_session x.deed)) e ∙ one.1)
 
   -- a request that waits is open, and among the requests
   pub waits-open : (r : ℕ) (stamp : Stamp) → waiting_in log ≡ Some (r, stamp) → (is_open_in r log ≡ true) × (slice_get requests ((session_of requests log).begun - 1) ≡ Some r)
   waits-open r stamp is = by (last_entry log) refl
     where
       by : (o : Option SessionEntry) → last_entry log ≡ o → (is_open_in r log ≡ true) × (slice_get requests ((session_of requests log).begun - 1) ≡ Some r)
-      by None e = absurd (none-some (r, stamp) (sym (ap (option_and_then (λ (x : SessionEntry). begun_by x.deed)) e) ∙ is))
+      by None e = absurd (none-some (r, stamp) (sym (ap (option_and_then (λ (x : SessionEntry). begun_by_session x.deed)) e) ∙ is))
       by (Some entry) e =
-          let deed : entry.deed ≡ Begun r stamp = begins-deed entry.deed r stamp (sym (ap (option_and_then (λ (x : SessionEntry). begun_by x.deed)) e) ∙ is) in
+          let deed : entry.deed ≡ Begun r stamp = begins-deed entry.deed r stamp (sym (ap (option_and_then (λ (x : SessionEntry). begun_by_session x.deed)) e) ∙ is) in
           let place = (ends-with number requests log right entry e).at ∙ ap (λ (d : SessionDeed). Some (request_by d)) deed in (
             open-by-last laws number requests log right rise ((session_of requests log).begun - 1) r place
                 ∙ ap (is_some_and (λ (x : SessionEntry). is_begin_of r x.deed)) e ∙ ap (is_begin_of r) deed ∙ eq-eqb r r refl,
@@ -90,13 +90,13 @@ stamp-waits laws number requests log right rise r stamp =
 pub none-waits : (number : ℕ) (requests : List ℕ) (log : List SessionEntry) → IsSessionLog number requests log → (session_of requests log).waits ≡ false → waiting_in log ≡ None
 none-waits number requests log right free = by (last_entry log) refl
   where
-    at-deed : (deed : SessionDeed) → false ≡ is_begin deed → begun_by deed ≡ None
+    at-deed : (deed : SessionDeed) → false ≡ is_begin deed → begun_by_session deed ≡ None
     at-deed (Begun q stamp) e = absurd (let f : false ≡ true = e in cc)
     at-deed (Replied q) e = refl
 
     by : (o : Option SessionEntry) → last_entry log ≡ o → waiting_in log ≡ None
-    by None e = ap (option_and_then (λ (x : SessionEntry). begun_by x.deed)) e
-    by (Some entry) e = ap (option_and_then (λ (x : SessionEntry). begun_by x.deed)) e ∙ at-deed entry.deed (sym free ∙ (ends-with number requests log right entry e).waits)
+    by None e = ap (option_and_then (λ (x : SessionEntry). begun_by_session x.deed)) e
+    by (Some entry) e = ap (option_and_then (λ (x : SessionEntry). begun_by_session x.deed)) e ∙ at-deed entry.deed (sym free ∙ (ends-with number requests log right entry e).waits)
 
 -- the stamp of what waits is the last one that was begun
 pub last-waits : (requests : List ℕ) (log : List SessionEntry) (r : ℕ) (stamp : Stamp) → waiting_in log ≡ Some (r, stamp) → (session_of requests log).last ≡ Some stamp

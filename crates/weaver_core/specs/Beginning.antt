@@ -14,14 +14,15 @@ use Rattle.weave_entries.specs.GateReplay.{begun_stamp, clock_of, flight_of}
 use Rattle.weave_entries.specs.declared.session_log.SessionDeed.TheVariants.{Begun}
 use Rattle.step_rules.specs.Entries.{begin_deed}
 use Rattle.weaver_core.specs.declared.client.Standing.TheVariants as standing
-use Rattle.weaver_core.specs.Clients as clients
+use Rattle.weaver_core.specs.Sessions as clients
 use Rattle.weaver_core.specs.GateTable as gates
 
 -- the stamp that the session began last may be heard at the request's gatekeeper
 abbrev pub MayBeHeard : gates.GateTable → clients.ClientTable → Request → Type 0
 MayBeHeard old was request =
     ForSome (clients.session_at was request.session).last
-    (λ last. IsTrue (counts_no_more request.gate (clock_of request.gate (gates.log_at old request.gate)) last.clock))
+    (λ last.
+    IsTrue (counts_no_more request.gate (clock_of request.gate (gates.gate_log_at old request.gate)) last.clock))
 
 -- the request's gatekeeper and session are there, it is one of its session's, and the stamp before it may be heard
 pub record IsReadyToBegin (old : gates.GateTable) (was : clients.ClientTable) (r : ℕ) (request : Request) : Type 0 where
@@ -32,13 +33,13 @@ pub record IsReadyToBegin (old : gates.GateTable) (was : clients.ClientTable) (r
 
 -- whether it is a transaction and one is in flight at its gatekeeper
 abbrev pub is_held_up : gates.GateTable → Request → Bool
-is_held_up old request = is_change request.work && is_some (flight_of (gates.log_at old request.gate))
+is_held_up old request = is_change request.work && is_some (flight_of (gates.gate_log_at old request.gate))
 
 -- the request is stamped, in the gatekeeper's log and in the session's
 pub record IsBegun (old new : gates.GateTable) (was is : clients.ClientTable) (r : ℕ) (request : Request) : Type 0 where
   pub next : clients.standing_at was request.session r ≡ standing.Next
   pub stamp : Stamp
-  pub stamp_is : stamp ≡ begun_stamp request.gate (clock_of request.gate (gates.log_at old request.gate))
+  pub stamp_is : stamp ≡ begun_stamp request.gate (clock_of request.gate (gates.gate_log_at old request.gate))
       (clients.session_at was request.session).last
   pub small : IsTrue (has_64_bits stamp.clock)
   pub gate : gates.AddsToGate old new request.gate 0 (begin_deed r stamp request.work)

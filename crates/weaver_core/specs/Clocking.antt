@@ -6,7 +6,7 @@ use Rattle.report_rules.specs.declared.report.StepAnswer.{StepAnswer}
 use Rattle.report_rules.specs.declared.report.StepAnswer.TheVariants.{Ok, Old, Unknown}
 use Rattle.weave_entries.specs.declared.gate_log.GateDeed.TheVariants.{Heard, Raised}
 use Rattle.weave_entries.specs.GateReplay.{clock_of}
-use Rattle.weaver_core.specs.GateTable.{GateTable, AddsToGate, log_at}
+use Rattle.weaver_core.specs.GateTable.{GateTable, AddsToGate, gate_log_at}
 
 -- the notice of this number is heard
 pub record HearsNotice (old new : GateTable) (notices : List Clock) (home notice : ℕ) : Type 0 where
@@ -23,6 +23,6 @@ Hears old new notices home notice _ = ⊥
 -- what `epoch` answers, and what it leaves
 abbrev pub Raises : GateTable → GateTable → ℕ → ℕ → StepAnswer → Type 0
 Raises old new home epoch Ok =
-    AddsToGate old new home 0 (Raised epoch) × (not (nat_lt (clock_of home (log_at old home)).epoch epoch) ≡ false)
-Raises old new home epoch Old = (new ≡ old) × (not (nat_lt (clock_of home (log_at old home)).epoch epoch) ≡ true)
+    AddsToGate old new home 0 (Raised epoch) × (not (nat_lt (clock_of home (gate_log_at old home)).epoch epoch) ≡ false)
+Raises old new home epoch Old = (new ≡ old) × (not (nat_lt (clock_of home (gate_log_at old home)).epoch epoch) ≡ true)
 Raises old new home epoch _ = ⊥

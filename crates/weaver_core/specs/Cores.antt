@@ -1,6 +1,7 @@
 -- A core as contracts see it.
 use Rattle.std.specs.Prelude.{◌≡◌, ℕ, List, length, map, IsTrue, Some, if◌then◌else◌, ⊤}
 use Rattle.std.specs.List.{range_with_len}
+use Rattle.weave_data.specs.Limits.{most_sessions}
 use Rattle.program_defs.specs.declared.script.Script.{Script}
 use Rattle.program_defs.specs.Limits.{IsWithinLimits}
 use Rattle.program_defs.specs.declared.script.Step.{Step}
@@ -18,9 +19,9 @@ use Rattle.step_rules.specs.Trace.{is_ok, state_after}
 use Rattle.vector_stamp.specs.declared.clock.Clock.{Clock}
 use Rattle.weave_entries.specs.declared.oracle_log.OracleEntry.{OracleEntry}
 use Rattle.weave_entries.specs.declared.store_log.StoreEntry.{StoreEntry}
-use Rattle.weaver_core.specs.Clients.{ClientTable, SessionValues, with_reply_at}
+use Rattle.weaver_core.specs.Sessions.{ClientTable, SessionValues, with_reply_at}
 use Rattle.weaver_core.specs.GateTable.{GateTable}
-use Rattle.weaver_core.specs.Replying.{reply_of_change}
+use Rattle.weaver_core.specs.GivingReplies.{reply_of_change}
 use Rattle.weaver_core.specs.ShardTable.{ShardTable}
 
 -- the script, the logs and the notices
@@ -60,7 +61,7 @@ pub record IsFrameOf (script : Script) (frame : MachinesFrame) : Type 0 where
   pub gates : frame.gates ≡ script.gates
   pub shards : frame.shards ≡ script.shards
   pub senders : frame.senders ≡ script.gates
-  pub requests : frame.requests ≡ map (requests_of_session script) (range_with_len 0 64)
+  pub requests : frame.requests ≡ map (requests_of_session script) (range_with_len 0 most_sessions)
 
 -- machines that are a core of the script
 pub record AreOf (script : Script) (machines : MachinesView) : Type 0 where

@@ -16,7 +16,7 @@ use Rattle.weave_entries.specs.declared.gate_log.GateDeed.TheVariants.{BeganProg
 use Rattle.weave_entries.specs.declared.session_log.SessionDeed.TheVariants.{Replied}
 use Rattle.weave_entries.specs.GateReplay.{is_begun, running_of}
 use Rattle.path_program.specs.AnyPrograms.{HasRead, any_of, next_read}
-use Rattle.weaver_core.specs.Clients as clients
+use Rattle.weaver_core.specs.Sessions as clients
 use Rattle.weaver_core.specs.GateTable as gates
 use Rattle.weaver_core.specs.Visiting.{AsksForNextVisit}
 use Rattle.weaver_core.specs.declared.walks.Running.{Running}
@@ -52,13 +52,13 @@ pub record IsReplyOfProgram (running : Running) (reply : Reply) : Type 0 where
   pub plain : IsOutcome running answer
 
 -- the program has a next vertex
-pub record IsGoing (running : Running) : Type 0 where
+pub record HasNextVertex (running : Running) : Type 0 where
   pub asks : AsksForNextVisit running.walk
   pub next : IsSome (next_read running.walk)
 
 -- the reply of a program that is running; none if it has a next vertex
 abbrev pub IsReplyIfOver : Running → Option Reply → Type 0
-IsReplyIfOver running None = IsGoing running
+IsReplyIfOver running None = HasNextVertex running
 IsReplyIfOver running (Some reply) = IsReplyOfProgram running reply
 
 -- the same, if one is running
@@ -74,8 +74,8 @@ pub record RunsThere (table : gates.GateTable) (was : clients.ClientTable) (home
   pub running : Running
   pub running_is : (clients.values_at was.values session).running ≡ Some running
   pub request_is : running.request ≡ r
-  pub there : IsTrue (list_any (is_begun (last_author r (gates.log_at table home)) r)
-      (running_of (gates.log_at table home)))
+  pub there : IsTrue (list_any (is_begun (last_author r (gates.gate_log_at table home)) r)
+      (running_of (gates.gate_log_at table home)))
 
 -- a program can be finished at its gatekeeper, if its session waits for the reply
 pub record CanBeFinished (table : gates.GateTable) (was : clients.ClientTable) (home session r : ℕ) : Type 0 where
@@ -92,7 +92,7 @@ pub record AreSameParts (old new : gates.GateTable) (was is : clients.ClientTabl
 -- the program was finished in the name of its begin's author, and its session has this reply
 pub record IsFinishedWith (old new : gates.GateTable) (was is : clients.ClientTable) (home session r : ℕ)
     (reply : Reply) : Type 0 where
-  pub adds : gates.AddsToGate old new home (last_author r (gates.log_at old home)) (FinishedDeed r)
+  pub adds : gates.AddsToGate old new home (last_author r (gates.gate_log_at old home)) (FinishedDeed r)
   pub replied : clients.AddsToSession was is session (Replied r)
   pub values : is.values ≡ clients.with_reply_at was.values session reply
 
@@ -110,7 +110,7 @@ pub record IsRunningOn (was : clients.ClientTable) (session r : ℕ) : Type 0 wh
   pub is_open : clients.is_open_at was session r ≡ true
   pub running : Running
   pub running_is : (clients.values_at was.values session).running ≡ Some running
-  pub going : IsGoing running
+  pub going : HasNextVertex running
 
 -- what `reply` answers for a program, and what it leaves
 abbrev pub FinishesInSession : gates.GateTable → gates.GateTable → clients.ClientTable → clients.ClientTable → ℕ → ℕ → ℕ

@@ -11,23 +11,23 @@ pub record GateTable : Type 0 where
   pub logs : List (List GateEntry)
 
 -- the log of a gatekeeper; empty if there is none of this number
-abbrev pub log_at : GateTable → ℕ → List GateEntry
-log_at gates home = slice_index_or gates.logs home []
+abbrev pub gate_log_at : GateTable → ℕ → List GateEntry
+gate_log_at gates home = slice_index_or gates.logs home []
 
 -- a gatekeeper's log has one more entry, of this author, and all else is as before
 pub record AddsToGate (old new : GateTable) (home author : ℕ) (deed : GateDeed) : Type 0 where
-  pub logs : new.logs ≡ slice_set old.logs home (log_at old home ++ record { author = author; deed = deed } ∷ [])
+  pub logs : new.logs ≡ slice_set old.logs home (gate_log_at old home ++ record { author = author; deed = deed } ∷ [])
   pub shards : new.shards ≡ old.shards
 
 -- The table inside. No public contract cites what follows.
 
 -- the log of a gatekeeper
-abbrev pub log_of : GateView → List GateEntry
-log_of gate = gate.log
+abbrev pub log_of_gate : GateView → List GateEntry
+log_of_gate gate = gate.log
 
 -- whether a gatekeeper has no transaction in flight
-abbrev pub lands : GateView → Bool
-lands gate = not (is_some (flight_of gate.log))
+abbrev pub has_landed : GateView → Bool
+has_landed gate = not (is_some (flight_of gate.log))
 
 -- each gatekeeper has its number as its home, and is made for these numbers of gatekeepers and shards
 pub record AreGatesInOrder (count shards : ℕ) (gates : List GateView) : Type 0 where
@@ -38,7 +38,7 @@ pub record AreGatesInOrder (count shards : ℕ) (gates : List GateView) : Type 0
 -- the first gatekeepers of this number, before their first events
 pub record AreFirstGates (first count shards : ℕ) (gates : List GateView) : Type 0 where
   pub in_order : AreGatesInOrder count shards gates
-  pub logs : map log_of gates ≡ replicate first []
+  pub logs : map log_of_gate gates ≡ replicate first []
 
 -- nothing but the room of a gatekeeper may differ
 pub record IsSameGate (old new : GateView) : Type 0 where

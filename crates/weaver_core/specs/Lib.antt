@@ -1,13 +1,13 @@
 pub mod GateTable
 pub mod ShardTable
-pub mod Clients
+pub mod Sessions
 pub mod Noting
 pub mod Beginning
 pub mod Judging
 pub mod Sending
 pub mod Messages
 pub mod Clocking
-pub mod Replying
+pub mod GivingReplies
 pub mod Cores
 pub mod Reporting
 pub mod Marks

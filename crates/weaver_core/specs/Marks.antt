@@ -39,24 +39,24 @@ abbrev pub all_visits : List (List ShardEntry) → List Visit
 all_visits logs = flat_map visits_of logs
 
 -- whether a table has this one
-abbrev pub is_in : {X : Type 0} → List ((ℕ × Name × ℕ) × X) → ℕ × Name × ℕ → Bool
-is_in entries key = is_some (lookup (same_visit key) entries)
+abbrev pub has_mark : {X : Type 0} → List ((ℕ × Name × ℕ) × X) → ℕ × Name × ℕ → Bool
+has_mark entries key = is_some (lookup (same_visit key) entries)
 
 -- the table has these visits, too
 abbrev pub AddsVisits : {X : Type 0} → List ((ℕ × Name × ℕ) × X) → List ((ℕ × Name × ℕ) × X) → List Visit → Type 0
-AddsVisits old new visits = (key : ℕ × Name × ℕ) → is_in new key ≡ (was_asked visits key || is_in old key)
+AddsVisits old new visits = (key : ℕ × Name × ℕ) → has_mark new key ≡ (was_asked visits key || has_mark old key)
 
 -- The vertex of an entry
 
 -- the vertices that a verdict counts, each with the number of commits before that name it
-abbrev pub counts_in : Verdict → List Counted
-counts_in (Committed number answers counts) = counts
-counts_in _ = []
+abbrev pub counts_of_verdict : Verdict → List Counted
+counts_of_verdict (Committed number answers counts) = counts
+counts_of_verdict _ = []
 
 -- the same, if there is a verdict
 abbrev pub counts_if : Option Verdict → List Counted
 counts_if None = []
-counts_if (Some verdict) = counts_in verdict
+counts_if (Some verdict) = counts_of_verdict verdict
 
 -- those of the commit of a request
 abbrev pub counts_by : List StoreEntry → ℕ → List Counted

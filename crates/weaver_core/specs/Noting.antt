@@ -7,12 +7,12 @@ use Rattle.weave_entries.specs.declared.session_log.SessionDeed.{SessionDeed}
 use Rattle.weave_entries.specs.declared.session_log.SessionDeed.TheVariants.{Begun, Replied}
 
 -- the stamps with that of one more request, unless it has one
-abbrev pub noted : List (Option Stamp) → ℕ → Stamp → List (Option Stamp)
-noted stamps r stamp = slice_set stamps r (option_or (slice_index_or stamps r None) (Some stamp))
+abbrev pub with_stamp_noted : List (Option Stamp) → ℕ → Stamp → List (Option Stamp)
+with_stamp_noted stamps r stamp = slice_set stamps r (option_or (slice_index_or stamps r None) (Some stamp))
 
 -- after a deed of a session
 abbrev pub noted_by : List (Option Stamp) → SessionDeed → List (Option Stamp)
-noted_by stamps (Begun r stamp) = noted stamps r stamp
+noted_by stamps (Begun r stamp) = with_stamp_noted stamps r stamp
 noted_by stamps (Replied r) = stamps
 
 -- after all deeds of a log

@@ -4,6 +4,7 @@ use Rattle.std.specs.List.{filter_map, flat_map, range_with_len}
 use Rattle.std.specs.Map.{lookup}
 use Rattle.std.specs.Option.{option_and_then, option_map}
 use Rattle.weave_data.specs.declared.name.Name.{Name}
+use Rattle.weave_data.specs.Limits.{most_gates}
 use Rattle.vector_stamp.specs.declared.clock.EventId.{EventId}
 use Rattle.vector_stamp.specs.declared.clock.Stamp.{Stamp}
 use Rattle.vector_stamp.specs.Order.{id_of}
@@ -22,7 +23,7 @@ use Rattle.weave_entries.specs.declared.store_log.StoreEntry.{StoreEntry}
 use Rattle.weave_entries.specs.declared.oracle_log.OracleEntry.{OracleEntry}
 use Rattle.weave_entries.specs.OracleReplay.{settled_entry}
 use Rattle.weave_entries.specs.StoreReplay.{Judgement, judgement_of}
-use Rattle.weaver_core.specs.Clients.{SessionValues, values_at}
+use Rattle.weaver_core.specs.Sessions.{SessionValues, values_at}
 
 -- The replies
 
@@ -90,15 +91,15 @@ abbrev pub same_key : ℕ × ℕ × ℕ → ℕ × ℕ × ℕ → Bool
 same_key a b = ((a.0 == b.0) && (a.1 == b.1)) && (a.2 == b.2)
 
 -- the first request, numbered on from this one, that was begun with a stamp of this id
-abbrev pub request_from : ℕ → EventId → List (Option Stamp) → Option ℕ
-request_from r id [] = None
-request_from r id (None ∷ stamps) = request_from (suc r) id stamps
-request_from r id (Some stamp ∷ stamps) =
-    if same_key (key_of (id_of stamp)) (key_of id) then Some r else request_from (suc r) id stamps
+abbrev pub request_with_id : ℕ → EventId → List (Option Stamp) → Option ℕ
+request_with_id r id [] = None
+request_with_id r id (None ∷ stamps) = request_with_id (suc r) id stamps
+request_with_id r id (Some stamp ∷ stamps) =
+    if same_key (key_of (id_of stamp)) (key_of id) then Some r else request_with_id (suc r) id stamps
 
 -- the request of an event, by the stamps of all requests
 abbrev pub request_with : List (Option Stamp) → Stamp → Option ℕ
-request_with stamps event = request_from 0 (id_of event) stamps
+request_with stamps event = request_with_id 0 (id_of event) stamps
 
 -- the request of an event, by a table
 abbrev pub found_in : List ((ℕ × ℕ × ℕ) × ℕ) → Stamp → Option ℕ
@@ -106,11 +107,11 @@ found_in entries event = lookup (same_key (key_of (id_of event))) entries
 
 -- a table has the first request of each event, of those from this one on
 abbrev pub HasRequests : ℕ → List (Option Stamp) → List ((ℕ × ℕ × ℕ) × ℕ) → Type 0
-HasRequests r stamps entries = (id : EventId) → lookup (same_key (key_of id)) entries ≡ request_from r id stamps
+HasRequests r stamps entries = (id : EventId) → lookup (same_key (key_of id)) entries ≡ request_with_id r id stamps
 
 -- the stamps of an entry are of homes below 8
 abbrev pub AreOfHomes : SettledEntry → Type 0
-AreOfHomes entry = (event : Stamp) → Contains (entry.later ∷ entry.earlier) event → event.home < 8
+AreOfHomes entry = (event : Stamp) → Contains (entry.later ∷ entry.earlier) event → event.home < most_gates
 
 -- The pairs, if the requests of events are found so
 

@@ -2,6 +2,7 @@
 use Rattle.std.specs.Prelude.{◌≡◌, ◌<◌, ℕ, List, length, map, Contains, slice_get, Option, None, Some, if◌then◌else◌}
 use Rattle.std.specs.List.{range_with_len}
 use Rattle.std.specs.Option.{ForSome, option_and_then, option_map}
+use Rattle.weave_data.specs.Limits.{most_sessions}
 use Rattle.vector_stamp.specs.declared.clock.Stamp.{Stamp}
 use Rattle.gatekeeper.specs.Gates.{GateView}
 use Rattle.shard_node.specs.Shards.{ShardView}
@@ -25,7 +26,7 @@ use Rattle.weave_account.specs.Report.{IsReplyInAccount}
 use Rattle.weave_account.specs.Sessions.{requests_of_session}
 use Rattle.step_rules.specs.CoreState.{CoreState}
 use Rattle.step_rules.specs.IsCore.{IsCore}
-use Rattle.weaver_core.specs.Clients.{SessionValues, last_entry, log_of, requests_in, values_at, with_reply_at}
+use Rattle.weaver_core.specs.Sessions.{SessionValues, last_entry, log_of_client, requests_in, values_at, with_reply_at}
 use Rattle.weaver_core.specs.Cores.{MachinesView}
 use Rattle.weaver_core.specs.Finishing.{IsReplyOfProgram}
 use Rattle.weaver_core.specs.GateTable as gates
@@ -38,14 +39,14 @@ use Rattle.weaver_core.specs.declared.walks.Running.{Running}
 -- The values of a client. `account` has the logs that the client knows: those of a whole core, or what a hand has seen.
 
 -- the request that a deed began, with its stamp
-abbrev pub begun_by : SessionDeed → Option (ℕ × Stamp)
-begun_by (Begun r stamp) = Some (r, stamp)
-begun_by (Replied r) = None
+abbrev pub begun_by_session : SessionDeed → Option (ℕ × Stamp)
+begun_by_session (Begun r stamp) = Some (r, stamp)
+begun_by_session (Replied r) = None
 
 -- The begun request that has no reply yet. In a session's log a begin and its reply come in turn, so it is that of the
 -- last entry, if this is a begin.
 abbrev pub waiting_in : List SessionEntry → Option (ℕ × Stamp)
-waiting_in log = option_and_then (λ (entry : SessionEntry). begun_by entry.deed) (last_entry log)
+waiting_in log = option_and_then (λ (entry : SessionEntry). begun_by_session entry.deed) (last_entry log)
 
 -- the same, if it is a program
 abbrev pub program_waiting : Script → List SessionEntry → Option (ℕ × Stamp)
@@ -81,11 +82,11 @@ pub record IsClientByLog (script : Script) (account : Account) (client : Client)
 -- the logs of the parts
 abbrev pub account_of : Split → Account
 account_of split = record {
-  gates = map gates.log_of split.gates.items;
+  gates = map gates.log_of_gate split.gates.items;
   store = split.store;
   oracle = split.oracle;
-  shards = map shards.log_of split.shards.items;
-  sessions = map log_of split.clients.items;
+  shards = map shards.log_of_shard split.shards.items;
+  sessions = map log_of_client split.clients.items;
 }
 
 -- and with the notices
@@ -115,7 +116,7 @@ pub record ArePartsFor (script : Script) (split : Split) : Type 0 where
   pub shard_count : length split.shards.items ≡ script.shards
   pub shards : (number : ℕ) (shard : ShardView) → slice_get split.shards.items number ≡ Some shard
       → IsShardFor script number shard
-  pub requests : map requests_in split.clients.items ≡ map (requests_of_session script) (range_with_len 0 64)
+  pub requests : map requests_in split.clients.items ≡ map (requests_of_session script) (range_with_len 0 most_sessions)
 
 -- Parts that can be joined: they are those of their script, their logs are an account in which no transaction is in
 -- flight, each notice is a clock that is known there, and each client's values are those of its log.
@@ -137,8 +138,8 @@ pub record AreValuesByLog (script : Script) (account : Account) (log : List Sess
 
 -- those of all sessions
 pub record AreAllByLog (script : Script) (account : Account) (values : List SessionValues) : Type 0 where
-  pub many : length values ≡ 64
-  pub each : (session : ℕ) → session < 64
+  pub many : length values ≡ most_sessions
+  pub each : (session : ℕ) → session < most_sessions
       → AreValuesByLog script account (session_log account session) (values_at values session)
 
 -- a program was finished: it was running in its session, which has the reply with its answer

@@ -21,7 +21,7 @@ use Rattle.weave_entries.specs.StoreRule.{entries_of_settling}
 use Rattle.step_rules.specs.Entries.{made_entry}
 use Rattle.path_program.specs.AnyPrograms.{HasRead, any_of, next_read}
 use Rattle.path_program.specs.declared.any.AnyProgram.{AnyProgram}
-use Rattle.weaver_core.specs.ShardTable.{AddsToShard, ShardTable, log_at}
+use Rattle.weaver_core.specs.ShardTable.{AddsToShard, ShardTable, shard_log_at}
 use Rattle.weaver_core.specs.declared.walks.Running.{Running}
 
 -- One vertex
@@ -49,17 +49,17 @@ state_seen oracle log stamp v = state_of_updates (take (updates_seen oracle log 
 -- the vertex was read at its shard, in the logs of shard and oracle
 pub record IsReadAtShard (old new : ShardTable) (oracle then_oracle : List OracleEntry) (shard r : ℕ) (stamp : Stamp)
     (v : Name) : Type 0 where
-  pub ready : first_unready old.gates stamp (log_at old shard) ≡ None
+  pub ready : first_unready old.gates stamp (shard_log_at old shard) ≡ None
   pub adds : AddsToShard old new shard
-      (Visited r stamp v (updates_seen oracle (log_at old shard) stamp v)
-      (made_entry (entries_asked oracle (log_at old shard) stamp v)))
-  pub oracle_is : then_oracle ≡ oracle ++ entries_asked oracle (log_at old shard) stamp v
+      (Visited r stamp v (updates_seen oracle (shard_log_at old shard) stamp v)
+      (made_entry (entries_asked oracle (shard_log_at old shard) stamp v)))
+  pub oracle_is : then_oracle ≡ oracle ++ entries_asked oracle (shard_log_at old shard) stamp v
 
 -- and this is the state that the program read
 pub record Reads (old new : ShardTable) (oracle then_oracle : List OracleEntry) (shard r : ℕ) (stamp : Stamp) (v : Name)
     (state : State) : Type 0 where
   pub visited : IsReadAtShard old new oracle then_oracle shard r stamp v
-  pub state_is : state ≡ state_seen oracle (log_at old shard) stamp v
+  pub state_is : state ≡ state_seen oracle (shard_log_at old shard) stamp v
 
 -- The walk
 
@@ -95,14 +95,14 @@ pub record VisitsNext (shards : ℕ) (old new : ShardTable) (oracle then_oracle 
   pub vertex : Name
   pub next_is : next_read was.walk ≡ Some vertex
   pub visited : IsReadAtShard old new oracle then_oracle (shard_of vertex shards) was.request was.stamp vertex
-  pub read : HasReadMore was is vertex (state_seen oracle (log_at old (shard_of vertex shards)) was.stamp vertex)
+  pub read : HasReadMore was is vertex (state_seen oracle (shard_log_at old (shard_of vertex shards)) was.stamp vertex)
 
 -- the program's next vertex is not ready
 pub record NextNotReady (shards : ℕ) (old : ShardTable) (was : Running) (shard gate : ℕ) : Type 0 where
   pub vertex : Name
   pub next_is : next_read was.walk ≡ Some vertex
   pub shard_is : shard ≡ shard_of vertex shards
-  pub unready : first_unready old.gates was.stamp (log_at old shard) ≡ Some gate
+  pub unready : first_unready old.gates was.stamp (shard_log_at old shard) ≡ Some gate
 
 -- nothing but the room for one more read may differ
 pub record AreSameLogs (old new : ShardTable) (oracle then_oracle : List OracleEntry) (was is : Running) : Type 0 where

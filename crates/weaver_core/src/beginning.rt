@@ -3,11 +3,11 @@ ghost use Rattle.std.specs.Prelude.{◌≡◌, ◌<◌, Contains, Some, length, 
 ghost use Rattle.program_defs.specs.declared.script.Request.{Request};
 ghost use Rattle.report_rules.specs.Lookups.{request_at};
 ghost use Rattle.weaver_core.specs.Beginning.{Begins, BeginsOne, IsReadyToBegin, MayBeHeard};
-ghost use Rattle.weaver_core.specs.Clients.{AreSameClients, IsInTurn, requests_at, session_at, standing_at};
+ghost use Rattle.weaver_core.specs.Sessions.{AreSameClients, IsInTurn, requests_at, session_at, standing_at};
 
 use crate::client::Standing;
-use crate::clients::Clients;
 use crate::gates::Gates;
+use crate::sessions::Clients;
 use gatekeeper::GateFault;
 use program_defs::{Request, Script};
 use report_rules::StepAnswer;

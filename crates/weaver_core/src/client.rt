@@ -3,7 +3,7 @@ ghost use Rattle.std.specs.Prelude.{◌≡◌, ℕ, ◌<◌, ◌≤◌, [], Cont
 ghost use Rattle.report_rules.specs.declared.report.Reply.{Reply};
 ghost use Rattle.weave_entries.specs.SessionReplay.{FitsSession, RepliesToLast, session_of};
 ghost use Rattle.weave_entries.specs.declared.session_log.SessionDeed.TheVariants as deed;
-ghost use Rattle.weaver_core.specs.Clients.{AddsDeed, IsAClient, IsClientOf, IsInTurn, IsSameClient, begun_by_last, is_begin_of, is_open_in, last_request, log_of, no_values, open_by_last, request_by, requests_in, spare_of, standing_of, unanswered_in, values_of, with_reply};
+ghost use Rattle.weaver_core.specs.Sessions.{AddsDeed, IsAClient, IsClientOf, IsInTurn, IsSameClient, begun_by_last, is_begin_of, is_open_in, last_request, log_of_client, no_values, open_by_last, request_by, requests_in, spare_of, standing_of, unanswered_in, values_of, values_with_reply};
 ghost use Rattle.weaver_core.specs.Reporting.{IsFoundAmong};
 
 use crate::walks::Running;
@@ -44,7 +44,7 @@ impl Client {
     pub(crate) fn new(alloc: Global, requests: Vec<u32>) -> Client
         requires { AllPairs (λ a b. a < b) requests.items }
         ensures requests { requests_in result ≡ requests.items }
-        ensures log { log_of result ≡ [] }
+        ensures log { log_of_client result ≡ [] }
         ensures values { values_of result ≡ no_values }
         ensures client { (number : ℕ) → IsClientOf number result.session result.log.items }
     {
@@ -61,8 +61,9 @@ impl Client {
     pub fn standing(&self, request: u32) -> Standing
         requires client { IsAClient self.now }
         requires among { Contains (requests_in self.now) request }
-        ensures standing { result ≡ standing_of request (requests_in self.now) (log_of self.now) }
-        ensures next { result ≡ Standing.Next → IsInTurn (session_of (requests_in self.now) (log_of self.now)) request }
+        ensures standing { result ≡ standing_of request (requests_in self.now) (log_of_client self.now) }
+        ensures next { result ≡ Standing.Next
+            → IsInTurn (session_of (requests_in self.now) (log_of_client self.now)) request }
     {
         begun_and_replied_are_decided();
         sessions_go_in_turn();
@@ -79,8 +80,9 @@ impl Client {
     pub fn is_open(&self, request: u32) -> bool
         requires client { IsAClient self.now }
         requires among { Contains (requests_in self.now) request }
-        ensures open { result ≡ is_open_in request (log_of self.now) }
-        ensures last { result ≡ true → RepliesToLast (session_of (requests_in self.now) (log_of self.now)) request }
+        ensures open { result ≡ is_open_in request (log_of_client self.now) }
+        ensures last { result ≡ true
+            → RepliesToLast (session_of (requests_in self.now) (log_of_client self.now)) request }
     {
         begun_and_replied_are_decided();
         sessions_go_in_turn();
@@ -90,7 +92,7 @@ impl Client {
     /// Its first request without a reply, if there is one. It looks at no more than the last entry.
     pub fn first_unanswered(&self) -> Option<u32>
         requires { IsAClient self.now }
-        ensures { result ≡ unanswered_in (requests_in self.now) (log_of self.now) }
+        ensures { result ≡ unanswered_in (requests_in self.now) (log_of_client self.now) }
     {
         match self.session.next() {
             Ok(next) => next,
@@ -124,7 +126,8 @@ impl Client {
     pub fn begun(&mut self, number: u32, request: u32, stamp: Stamp)
         requires client { IsClientOf number self.old.session self.old.log.items }
         requires room { 1 ≤ spare_of self.old }
-        requires turn { FitsSession (session_of (requests_in self.old) (log_of self.old)) (deed.Begun request stamp) }
+        requires turn { FitsSession (session_of (requests_in self.old) (log_of_client self.old))
+            (deed.Begun request stamp) }
         ensures begun { AddsDeed number self.old self.new (deed.Begun request stamp) }
         ensures values { values_of self.new ≡ values_of self.old }
     {
@@ -141,9 +144,10 @@ impl Client {
     pub fn replied(&mut self, number: u32, reply: Reply)
         requires client { IsClientOf number self.old.session self.old.log.items }
         requires room { 1 ≤ spare_of self.old }
-        requires turn { FitsSession (session_of (requests_in self.old) (log_of self.old)) (deed.Replied reply.request) }
+        requires turn { FitsSession (session_of (requests_in self.old) (log_of_client self.old))
+            (deed.Replied reply.request) }
         ensures replied { AddsDeed number self.old self.new (deed.Replied reply.request) }
-        ensures values { values_of self.new ≡ with_reply (values_of self.old) reply }
+        ensures values { values_of self.new ≡ values_with_reply (values_of self.old) reply }
     {
         a_log_goes_on();
         self.session.replied();

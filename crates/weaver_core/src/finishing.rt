@@ -1,21 +1,17 @@
 //! `reply R` of a program: it is finished at its gatekeeper, and its session has the reply.
-ghost use Rattle.std.specs.Prelude.{◌≡◌, ◌<◌, length, is_some, IsTrue, IfOk, OnErr};
+ghost use Rattle.std.specs.Prelude.{◌≡◌, ◌<◌, length, IsTrue, IfOk, OnErr};
 ghost use Rattle.std.specs.List.{list_any};
 ghost use Rattle.weave_entries.specs.GateReplay.{is_begun, running_of};
 ghost use Rattle.weave_entries.specs.SessionReplay.{RepliesToLast};
-ghost use Rattle.path_program.specs.AnyPrograms.{next_read};
 ghost use Rattle.report_rules.specs.declared.report.StepAnswer.TheVariants as answer;
-ghost use Rattle.weaver_core.specs.Clients.{session_at};
-ghost use Rattle.weaver_core.specs.Finishing.{AreSameParts, CanBeFinished, FinishesInSession, IsFinishedWith, IsOutcomeOf, IsReplyIfOver, last_author};
-ghost use Rattle.weaver_core.specs.GateTable.{log_at};
-ghost use Rattle.weaver_core.specs.Visiting.{AsksForNextVisit};
+ghost use Rattle.weaver_core.specs.Sessions.{session_at};
+ghost use Rattle.weaver_core.specs.Finishing.{AreSameParts, CanBeFinished, FinishesInSession, IsFinishedWith, last_author};
+ghost use Rattle.weaver_core.specs.GateTable.{gate_log_at};
 
-use crate::clients::Clients;
 use crate::gates::Gates;
-use crate::walks::Running;
-use node_program::NodeProgram;
+use crate::sessions::Clients;
 use program_defs::Request;
-use report_rules::{Reply, ReplyState, StepAnswer};
+use report_rules::{Reply, StepAnswer};
 use std::alloc::{AllocError, Global};
 
 /// The program is finished, if its session waits for its reply and it has read all that it visits, and the session has
@@ -55,8 +51,8 @@ fn finish_with(
     requires session { asked.now.session < length clients.old.logs }
     requires turn { RepliesToLast (session_at clients.old asked.now.session) request }
     requires own { reply.request ≡ request }
-    requires runs { IsTrue (list_any (is_begun (last_author request (log_at gates.old asked.now.gate)) request)
-        (running_of (log_at gates.old asked.now.gate))) }
+    requires runs { IsTrue (list_any (is_begun (last_author request (gate_log_at gates.old asked.now.gate)) request)
+        (running_of (gate_log_at gates.old asked.now.gate))) }
     ensures done { IfOk result (λ result. result ≡ answer.Ok) }
     ensures finished { IfOk result (λ _. IsFinishedWith gates.old gates.new clients.old clients.new
         asked.now.gate asked.now.session request reply) }
@@ -67,39 +63,4 @@ fn finish_with(
     gates.finish(alloc, asked.gate, author, request)?;
     clients.replied(asked.session, reply);
     Ok(StepAnswer::Ok)
-}
-
-/// The reply with the answer of a program, if one is running and has no next vertex. The one error is out of memory.
-pub(crate) fn outcome_of(
-    alloc: Global,
-    running: &Option<Running>,
-) -> Result<Option<Reply>, AllocError>
-    ensures { IfOk result (IsOutcomeOf running.now) }
-{
-    match running {
-        Some(running) => outcome_if_over(alloc, running),
-        None => Ok(None),
-    }
-}
-
-fn outcome_if_over(alloc: Global, running: &Running) -> Result<Option<Reply>, AllocError>
-    ensures { IfOk result (IsReplyIfOver running.now) }
-{
-    if is_going(running) {
-        return Ok(None);
-    }
-    let answer = running.walk.outcome(alloc)?;
-    Ok(Some(Reply {
-        request: running.request,
-        stamp: Some(running.stamp),
-        state: ReplyState::Finished(answer),
-    }))
-}
-
-// Whether the program has a next vertex.
-fn is_going(running: &Running) -> bool
-    ensures going { result ≡ is_some (next_read running.now.walk) }
-    ensures asks { AsksForNextVisit running.now.walk }
-{
-    running.walk.next_vertex().is_some()
 }

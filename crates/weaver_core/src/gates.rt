@@ -2,19 +2,20 @@
 ghost use Rattle.std.specs.Prelude.{◌≡◌, ◌↔◌, ◌<◌, ◌≤◌, ◌&&◌, ℕ, [], None, length, map, replicate, not, nat_lt, is_some, option_copied, IsTrue, IsSome, Some, IfOk, OnOk, OnErr};
 ghost use Rattle.std.specs.List.{list_all, list_any};
 ghost use Rattle.std.specs.Option.{ForSome, option_map};
+ghost use Rattle.weave_data.specs.Limits.{most_gates, most_shards};
 ghost use Rattle.vector_stamp.specs.Clocks.{counts_no_more};
 ghost use Rattle.vector_stamp.specs.Order.{has_64_bits, stamp_before};
 ghost use Rattle.program_defs.specs.Works.{is_change};
 ghost use Rattle.weave_entries.specs.declared.gate_log.GateDeed.TheVariants as deed;
 ghost use Rattle.shard_queue.specs.Sent.{sent_as};
-ghost use Rattle.weave_entries.specs.GateReplay.{Begun, begun_stamp, channel_of, clock_of, flight_of, is_begun, running_of};
+ghost use Rattle.weave_entries.specs.GateReplay.{BegunRequest, begun_stamp, channel_of, clock_of, flight_of, is_begun, running_of};
 ghost use Rattle.weave_entries.specs.Sending.{IsCountsOf, messages_of};
 ghost use Rattle.gatekeeper.specs.Answers.{IsRefusedWhere};
 ghost use Rattle.gatekeeper.specs.Gates.{Adds, SendsFlight};
 ghost use Rattle.gatekeeper.specs.Opened.{as_begun};
 ghost use Rattle.step_rules.specs.Entries.{begin_deed};
 ghost use Rattle.weaver_core.specs.Finishing.{begins_program, last_author};
-ghost use Rattle.weaver_core.specs.GateTable.{AddsToGate, AreFirstGates, AreGatesInOrder, IsSameGate, lands, log_at, log_of};
+ghost use Rattle.weaver_core.specs.GateTable.{AddsToGate, AreFirstGates, AreGatesInOrder, IsSameGate, has_landed, gate_log_at, log_of_gate};
 ghost use Rattle.weaver_core.specs.Messages.{nop_deed};
 
 use gatekeeper::{Flight, Gate, GateFault};
@@ -34,13 +35,13 @@ pub(crate) struct Gates {
 
 impl Model for Gates {
     ghost use Rattle.std.specs.Prelude.{length, map};
-    ghost use Rattle.weaver_core.specs.GateTable.{GateTable, AreGatesInOrder, log_of};
+    ghost use Rattle.weaver_core.specs.GateTable.{GateTable, AreGatesInOrder, log_of_gate};
 
     ghost Value = { GateTable };
 
     ghost view = { λ g. record {
       shards = g.shards;
-      logs = map log_of g.gates.items;
+      logs = map log_of_gate g.gates.items;
     } };
 
     ghost invariant = { λ g. AreGatesInOrder (length g.gates.items) g.shards g.gates.items };
@@ -49,9 +50,9 @@ impl Model for Gates {
 impl Gates {
     /// The gatekeepers of a script, before their first events.
     pub(crate) fn new(alloc: Global, gates: u32, shards: u32) -> Result<Gates, AllocError>
-        requires gates { gates ≤ 8 }
+        requires gates { gates ≤ most_gates }
         requires one_shard { 1 ≤ shards }
-        requires shards { shards ≤ 16 }
+        requires shards { shards ≤ most_shards }
         ensures { IfOk result (λ made. made ≡ record { shards = shards; logs = replicate gates [] }) }
     {
         let made = first_gates(alloc, gates, shards)?;
@@ -64,7 +65,7 @@ impl Gates {
     /// These gatekeepers, which are made for this number of shards and are in order. It takes no memory.
     pub(crate) fn of(shards: u32, gates: Vec<Gate>) -> Gates
         requires { AreGatesInOrder (length gates.items) shards gates.items }
-        ensures { result ≡ record { shards = shards; logs = map log_of gates.items } }
+        ensures { result ≡ record { shards = shards; logs = map log_of_gate gates.items } }
     {
         Gates { shards, gates }
     }
@@ -72,7 +73,7 @@ impl Gates {
     /// The gatekeepers, in order. It takes no memory.
     pub(crate) fn into_gates(self) -> Vec<Gate>
         ensures order { AreGatesInOrder (length result.items) self.shards result.items }
-        ensures logs { map log_of result.items ≡ self.logs }
+        ensures logs { map log_of_gate result.items ≡ self.logs }
     {
         self.gates
     }
@@ -80,14 +81,14 @@ impl Gates {
     /// The transaction in flight.
     pub(crate) fn flight(&self, gate: u32) -> Option<Flight>
         requires { gate < length self.now.logs }
-        ensures { option_map as_begun result ≡ flight_of (log_at self.now gate) }
+        ensures { option_map as_begun result ≡ flight_of (gate_log_at self.now gate) }
     {
         self.gates[gate as usize].flight()
     }
 
     /// Whether no transaction is in flight at any of them.
     pub(crate) fn none_in_flight(&self) -> bool
-        ensures { IsTrue result ↔ ((gate : ℕ) → flight_of (log_at self.now gate) ≡ None) }
+        ensures { IsTrue result ↔ ((gate : ℕ) → flight_of (gate_log_at self.now gate) ≡ None) }
     {
         none_in_flight(self.gates.as_slice())
     }
@@ -95,7 +96,7 @@ impl Gates {
     /// The clock.
     pub(crate) fn say(&self, gate: u32) -> Clock
         requires { gate < length self.now.logs }
-        ensures { result ≡ clock_of gate (log_at self.now gate) }
+        ensures { result ≡ clock_of gate (gate_log_at self.now gate) }
     {
         self.gates[gate as usize].say()
     }
@@ -110,14 +111,15 @@ impl Gates {
         last: Option<Stamp>,
     ) -> Result<Stamp, GateFault>
         requires { gate < length self.old.logs }
-        ensures stamp { IfOk result (λ stamp. stamp ≡ begun_stamp gate (clock_of gate (log_at self.old gate)) last) }
+        ensures stamp { IfOk result (λ stamp.
+            stamp ≡ begun_stamp gate (clock_of gate (gate_log_at self.old gate)) last) }
         ensures bits { IfOk result (λ stamp. IsTrue (has_64_bits stamp.clock)) }
         ensures after { IfOk result (λ stamp. ForSome last (λ heard.
-            IsTrue (counts_no_more gate (clock_of gate (log_at self.old gate)) heard.clock)
+            IsTrue (counts_no_more gate (clock_of gate (gate_log_at self.old gate)) heard.clock)
             → IsTrue (stamp_before heard stamp))) }
         ensures entry { IfOk result (λ stamp. AddsToGate self.old self.new gate 0 (begin_deed request stamp work.now)) }
         ensures busy { IsRefusedWhere GateFault.Busy
-            (is_change work.now && is_some (flight_of (log_at self.old gate))) result }
+            (is_change work.now && is_some (flight_of (gate_log_at self.old gate))) result }
         ensures refused { OnErr result (self.new ≡ self.old) }
     {
         let gate = &mut self.gates[gate as usize];
@@ -135,12 +137,12 @@ impl Gates {
         verdict: &Verdict,
     ) -> Result<(), AllocError>
         requires there { gate < length self.old.logs }
-        requires flies { IsSome (flight_of (log_at self.old gate)) }
-        requires author { ForSome (flight_of (log_at self.old gate)) (λ flight. flight.author ≡ author) }
+        requires flies { IsSome (flight_of (gate_log_at self.old gate)) }
+        requires author { ForSome (flight_of (gate_log_at self.old gate)) (λ flight. flight.author ≡ author) }
         requires counts { IsCountsOf ops.now verdict.now }
-        ensures entry { OnOk result ((flight : Begun) → flight_of (log_at self.old gate) ≡ Some flight
+        ensures entry { OnOk result ((flight : BegunRequest) → flight_of (gate_log_at self.old gate) ≡ Some flight
             → AddsToGate self.old self.new gate author (deed.Sent flight.request
-            (messages_of self.old.shards (log_at self.old gate) flight ops.now verdict.now))) }
+            (messages_of self.old.shards (gate_log_at self.old gate) flight ops.now verdict.now))) }
         ensures refused { OnErr result (self.new ≡ self.old) }
     {
         let gate = &mut self.gates[gate as usize];
@@ -151,8 +153,9 @@ impl Gates {
     pub(crate) fn nop(&mut self, alloc: Global, gate: u32, shard: u32) -> Result<(), GateFault>
         requires there { gate < length self.old.logs }
         requires shard { shard < self.old.shards }
-        ensures entry { OnOk result (AddsToGate self.old self.new gate 0 (nop_deed gate shard (log_at self.old gate))) }
-        ensures busy { IsRefusedWhere GateFault.Busy (is_some (flight_of (log_at self.old gate))) result }
+        ensures entry { OnOk result
+            (AddsToGate self.old self.new gate 0 (nop_deed gate shard (gate_log_at self.old gate))) }
+        ensures busy { IsRefusedWhere GateFault.Busy (is_some (flight_of (gate_log_at self.old gate))) result }
         ensures refused { OnErr result (self.new ≡ self.old) }
     {
         let gate = &mut self.gates[gate as usize];
@@ -162,7 +165,7 @@ impl Gates {
     /// The message of this number to a shard as it was sent, or `None` if it was not.
     pub(crate) fn fetch(&self, gate: u32, shard: u32, number: u64) -> Option<&Message>
         requires { gate < length self.now.logs }
-        ensures { option_copied result ≡ sent_as number (channel_of shard (log_at self.now gate)) }
+        ensures { option_copied result ≡ sent_as number (channel_of shard (gate_log_at self.now gate)) }
     {
         self.gates[gate as usize].fetch(shard, number)
     }
@@ -170,7 +173,7 @@ impl Gates {
     /// The author who began a program last; 0 if no one did. It looks at the entries from the end to that begin.
     pub(crate) fn author(&self, gate: u32, request: u32) -> u32
         requires { gate < length self.now.logs }
-        ensures { result ≡ last_author request (log_at self.now gate) }
+        ensures { result ≡ last_author request (gate_log_at self.now gate) }
     {
         author_in(self.gates[gate as usize].log(), request)
     }
@@ -184,7 +187,7 @@ impl Gates {
         request: u32,
     ) -> Result<(), AllocError>
         requires there { gate < length self.old.logs }
-        requires runs { IsTrue (list_any (is_begun author request) (running_of (log_at self.old gate))) }
+        requires runs { IsTrue (list_any (is_begun author request) (running_of (gate_log_at self.old gate))) }
         ensures entry { OnOk result (AddsToGate self.old self.new gate author (deed.Finished request)) }
         ensures refused { OnErr result (self.new ≡ self.old) }
     {
@@ -207,7 +210,7 @@ impl Gates {
         requires { gate < length self.old.logs }
         ensures raised { OnOk result (AddsToGate self.old self.new gate 0 (deed.Raised epoch)) }
         ensures old { IsRefusedWhere GateFault.Old
-            (not (nat_lt (clock_of gate (log_at self.old gate)).epoch epoch)) result }
+            (not (nat_lt (clock_of gate (gate_log_at self.old gate)).epoch epoch)) result }
         ensures refused { OnErr result (self.new ≡ self.old) }
     {
         let gate = &mut self.gates[gate as usize];
@@ -217,9 +220,9 @@ impl Gates {
 
 // The first gatekeepers, before their first events.
 fn first_gates(alloc: Global, gates: u32, shards: u32) -> Result<Vec<Gate>, AllocError>
-    requires gates { gates ≤ 8 }
+    requires gates { gates ≤ most_gates }
     requires one_shard { 1 ≤ shards }
-    requires shards { shards ≤ 16 }
+    requires shards { shards ≤ most_shards }
     ensures { IfOk result (λ made. AreFirstGates gates gates shards made.items) }
 {
     let mut made = Vec::new(alloc);
@@ -231,7 +234,7 @@ fn first_gates(alloc: Global, gates: u32, shards: u32) -> Result<Vec<Gate>, Allo
 
 // Whether none of these has a transaction in flight.
 fn none_in_flight(gates: &[Gate]) -> bool
-    ensures { result ≡ list_all lands gates.now }
+    ensures { result ≡ list_all has_landed gates.now }
 {
     for gate in gates {
         if gate.flight().is_some() {

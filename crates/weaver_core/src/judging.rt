@@ -2,10 +2,10 @@
 ghost use Rattle.std.specs.Prelude.{◌≡◌, ◌<◌, None, Some, is_some, length, IsSome, IfOk, OnErr};
 ghost use Rattle.program_defs.specs.Works.{ops_of};
 ghost use Rattle.report_rules.specs.Lookups.{request_at};
-ghost use Rattle.weave_entries.specs.GateReplay.{Begun, flight_of};
+ghost use Rattle.weave_entries.specs.GateReplay.{BegunRequest, flight_of};
 ghost use Rattle.weave_entries.specs.StoreReplay.{judgement_of};
 ghost use Rattle.step_rules.specs.Requests.{ops_in};
-ghost use Rattle.weaver_core.specs.GateTable.{log_at};
+ghost use Rattle.weaver_core.specs.GateTable.{gate_log_at};
 ghost use Rattle.weaver_core.specs.Judging.{CanBeJudged, JudgesFlight};
 
 use crate::gates::Gates;
@@ -27,7 +27,7 @@ pub(crate) fn judge_in(
     gate: u32,
 ) -> Result<StepAnswer, AllocError>
     requires there { gate < length gates.now.logs }
-    requires ready { (flight : Begun) → flight_of (log_at gates.now gate) ≡ Some flight
+    requires ready { (flight : BegunRequest) → flight_of (gate_log_at gates.now gate) ≡ Some flight
         → judgement_of flight.request store.old ≡ None → CanBeJudged script.now store.old oracle.old flight }
     ensures judges { IfOk result (JudgesFlight script.now gates.now store.old store.new oracle.old oracle.new gate) }
     ensures store { OnErr result (store.new ≡ store.old) }

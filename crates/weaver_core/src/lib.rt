@@ -7,28 +7,29 @@
 
 mod beginning;
 mod client;
-mod clients;
 mod clocks;
 mod finishing;
 mod gates;
+mod giving_replies;
 mod judging;
 mod machines;
 mod marks;
 mod messages;
+mod outcome;
 mod pairs;
 mod replies;
-mod replying;
+mod script_core;
 mod sending;
+mod sessions;
 mod shards;
 mod split;
 mod staying;
-mod stepper;
 mod stepping;
 mod visiting;
 mod walks;
 
 pub use client::{Client, Standing};
 pub use path_program::AnyProgram;
+pub use script_core::Core;
 pub use split::Split;
-pub use stepper::Core;
 pub use walks::Running;

@@ -1,5 +1,6 @@
 //! The machines of a core, and what each atomic step does with them.
 ghost use Rattle.std.specs.Prelude.{◌≡◌, ◌↔◌, ℕ, ◌+◌, ◌<◌, ◌≤◌, ◌^◌, [], Contains, None, Some, false, is_some, length, map, replicate, slice_get, OnErr, IfOk, IsTrue};
+ghost use Rattle.weave_data.specs.Limits.{most_gates, most_sessions};
 ghost use Rattle.vector_stamp.specs.declared.clock.Stamp.{Stamp};
 ghost use Rattle.program_defs.specs.Limits.{IsWithinLimits};
 ghost use Rattle.program_defs.specs.declared.script.Request.{Request};
@@ -12,7 +13,7 @@ ghost use Rattle.weave_account.specs.Account.{session_log, shard_log};
 ghost use Rattle.weave_account.specs.Report.{MatchesAccount};
 ghost use Rattle.step_rules.specs.CoreState.{start_state};
 ghost use Rattle.weaver_core.specs.Cores.{AreOf, CanBeGiven, MachinesDo, RepliesToChange, machines_of};
-ghost use Rattle.weaver_core.specs.Clients.{AreNumbered, HaveRisingReplies, is_open_in, no_values, values_at, values_of, with_running};
+ghost use Rattle.weaver_core.specs.Sessions.{AreNumbered, HaveRisingReplies, is_open_in, no_values, values_at, values_of, with_running};
 ghost use Rattle.step_rules.specs.Requests.{has_reply, last_begun};
 ghost use Rattle.weaver_core.specs.Reporting.{AreOfHomes, AreRequestsReplies, all_pairs_found, request_with};
 ghost use Rattle.weaver_core.specs.Marks.{all_visits, mark_of, was_asked};
@@ -20,16 +21,16 @@ ghost use Rattle.weaver_core.specs.Splitting.{AreAllByLog, ArePartsFor, NoneInFl
 ghost use Rattle.weaver_core.specs.Walks.{IsLook, IsOtherStep, IsRunningIn};
 
 use crate::beginning::begin_in;
-use crate::clients::Clients;
 use crate::clocks::{hear_in, raise_in};
 use crate::finishing::finish_in;
 use crate::gates::Gates;
+use crate::giving_replies::reply_in;
 use crate::judging::judge_in;
 use crate::messages::{apply_in, deliver_in, nop_in};
 use crate::pairs::pairs_of;
 use crate::replies::replies_of;
-use crate::replying::reply_in;
 use crate::sending::send_in;
+use crate::sessions::Clients;
 use crate::shards::Shards;
 use crate::split::Split;
 use crate::staying::what_stays;
@@ -84,7 +85,7 @@ impl Machines {
         requires { IsWithinLimits script.now }
         ensures are { IfOk result (λ made. AreOf script.now made) }
         ensures start { IfOk result (λ made. made.state ≡ start_state script.now) }
-        ensures values { IfOk result (λ made. made.values ≡ replicate 64 no_values) }
+        ensures values { IfOk result (λ made. made.values ≡ replicate most_sessions no_values) }
     {
         start_is_a_core();
         let gates = Gates::new(alloc, script.gates, script.shards)?;
@@ -577,7 +578,7 @@ fn report_of(
     requires sessions { (r : ℕ) (request : Request) → slice_get requests.now r ≡ Some request
         → request.session < length clients.now.logs }
     requires rising { HaveRisingReplies clients.now.values }
-    requires begun { (stamp : Stamp) → Contains stamps.now (Some stamp) → stamp.home < 8 }
+    requires begun { (stamp : Stamp) → Contains stamps.now (Some stamp) → stamp.home < most_gates }
     requires settled { (entry : OracleEntry) → Contains oracle.now entry → AreOfHomes (settled_entry entry) }
     ensures replies { IfOk result (λ report. AreRequestsReplies store.now clients.now.values stamps.now requests.now
         (length requests.now) report.replies) }

@@ -2,8 +2,8 @@
 ghost use Rattle.std.specs.Prelude.{◌≡◌, ◌||◌, ℕ, [], map, IfOk, OnOk};
 ghost use Rattle.weave_data.specs.declared.name.Name.{Name};
 ghost use Rattle.weave_entries.specs.ShardReplay.{visit_by, visits_of};
-ghost use Rattle.weaver_core.specs.Marks.{AddsVisits, adds_visit, all_visits, counts_by, counts_in, first_seen, is_in};
-ghost use Rattle.weaver_core.specs.ShardTable.{log_of};
+ghost use Rattle.weaver_core.specs.Marks.{AddsVisits, adds_visit, all_visits, counts_by, counts_of_verdict, first_seen, has_mark};
+ghost use Rattle.weaver_core.specs.ShardTable.{log_of_shard};
 
 use backing_store::Store;
 use shard_node::Shard;
@@ -19,7 +19,7 @@ pub(crate) type VisitTable = HashMap<(u32, Name, u64), ()>;
 /// The visits of shards that asked the oracle. It looks once at each entry of their logs. The one error is out of
 /// memory.
 pub(crate) fn visits_in(alloc: Global, shards: &[Shard]) -> Result<VisitTable, AllocError>
-    ensures { IfOk result (λ visits. AddsVisits [] visits.entries (all_visits (map log_of shards.now))) }
+    ensures { IfOk result (λ visits. AddsVisits [] visits.entries (all_visits (map log_of_shard shards.now))) }
 {
     let mut visits = HashMap::new(alloc);
     for shard in shards {
@@ -63,8 +63,8 @@ fn note_visit(
     updates: u64,
     settled: bool,
 ) -> Result<(), AllocError>
-    ensures { OnOk result ((key : ℕ × Name × ℕ) → is_in visits.new.entries key
-        ≡ (adds_visit request vertex updates settled key || is_in visits.old.entries key)) }
+    ensures { OnOk result ((key : ℕ × Name × ℕ) → has_mark visits.new.entries key
+        ≡ (adds_visit request vertex updates settled key || has_mark visits.old.entries key)) }
 {
     if settled && 0 < updates {
         visits.insert((request, vertex, updates - 1), ())?;
@@ -75,7 +75,7 @@ fn note_visit(
 /// The first of these vertices, each with a number of commits that name it before, of which the request visited it and
 /// saw last the commit after these, with the oracle asked.
 pub(crate) fn first_seen(visits: &VisitTable, request: u32, counts: &[Counted]) -> Option<Name>
-    ensures { result ≡ first_seen (is_in visits.now.entries) request counts.now }
+    ensures { result ≡ first_seen (has_mark visits.now.entries) request counts.now }
 {
     for counted in counts {
         if visits.contains_key(&(request, counted.vertex, counted.before)) {
@@ -97,7 +97,7 @@ pub(crate) fn counts_of(store: &Store, request: u32) -> &[Counted]
 }
 
 fn counts_in(verdict: &Verdict) -> &[Counted]
-    ensures { result.now ≡ counts_in verdict.now }
+    ensures { result.now ≡ counts_of_verdict verdict.now }
 {
     match verdict {
         Verdict::Committed { counts, .. } => counts.as_slice(),

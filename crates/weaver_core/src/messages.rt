@@ -7,7 +7,7 @@ ghost use Rattle.weave_entries.specs.ShardReplay.{head_of, waits_at};
 ghost use Rattle.weave_entries.specs.ShardRules.{IsTakable, PassesAt};
 ghost use Rattle.weaver_core.specs.GateTable as gate_table;
 ghost use Rattle.weaver_core.specs.ShardTable as shard_table;
-ghost use Rattle.weaver_core.specs.Messages.{AppliesAtShard, DeliversToShard, IsAnswerTo, DoesNop};
+ghost use Rattle.weaver_core.specs.Messages.{AppliesAtShard, DeliversToShard, IsAnswerToFault, DoesNop};
 
 use crate::gates::Gates;
 use crate::shards::Shards;
@@ -51,7 +51,7 @@ pub(crate) fn deliver_in(
     requires shard { shard < length shards.old.logs }
     requires gate { gate < shards.old.gates }
     requires number { 1 ≤ number }
-    requires takable { ForSome (sent_as number (channel_of shard (gate_table.log_at gates.now gate))) IsTakable }
+    requires takable { ForSome (sent_as number (channel_of shard (gate_table.gate_log_at gates.now gate))) IsTakable }
     ensures delivers { IfOk result (DeliversToShard gates.now shards.old shards.new gate shard number) }
     ensures refused { OnErr result (shards.new ≡ shards.old) }
 {
@@ -76,9 +76,9 @@ pub(crate) fn apply_in(
 ) -> Result<StepAnswer, AllocError>
     requires there { shard < length shards.old.logs }
     requires gate { gate < shards.old.gates }
-    requires passes { ForSome (head_of gate (shard_table.log_at shards.old shard)) (λ head.
-        waits_at head (shard_table.log_at shards.old shard) ≡ None
-        → PassesAt (shard_table.log_at shards.old shard) head) }
+    requires passes { ForSome (head_of gate (shard_table.shard_log_at shards.old shard)) (λ head.
+        waits_at head (shard_table.shard_log_at shards.old shard) ≡ None
+        → PassesAt (shard_table.shard_log_at shards.old shard) head) }
     ensures applies { IfOk result (AppliesAtShard shards.old shards.new shard gate) }
     ensures refused { OnErr result (shards.new ≡ shards.old) }
 {
@@ -90,7 +90,7 @@ pub(crate) fn apply_in(
 
 // What is answered if a shard refuses to process a head.
 fn answer_to(fault: &ApplyFault) -> Result<StepAnswer, AllocError>
-    ensures { IfOk result (IsAnswerTo fault.now) }
+    ensures { IfOk result (IsAnswerToFault fault.now) }
 {
     match fault {
         ApplyFault::Empty => Ok(StepAnswer::Empty),

@@ -2,12 +2,13 @@
 ghost use Rattle.std.specs.Prelude.{◌≡◌, ◌<◌, ◌^◌, ◌++◌, length, slice_get, Contains, Some, IfOk, OnOk};
 ghost use Rattle.std.specs.List.{filter_map};
 ghost use Rattle.std.specs.Option.{option_and_then};
+ghost use Rattle.weave_data.specs.Limits.{most_gates};
 ghost use Rattle.vector_stamp.specs.declared.clock.Stamp.{Stamp};
 ghost use Rattle.vector_stamp.specs.Order.{id_of};
 ghost use Rattle.weave_entries.specs.OracleReplay.{settled_entry};
 ghost use Rattle.weave_entries.specs.StoreReplay.{judged_by};
 ghost use Rattle.weave_entries.specs.declared.oracle_log.OracleEntry.{OracleEntry};
-ghost use Rattle.weaver_core.specs.Marks.{all_visits, is_in, mark_of, was_asked};
+ghost use Rattle.weaver_core.specs.Marks.{all_visits, has_mark, mark_of, was_asked};
 ghost use Rattle.weaver_core.specs.Reporting.{AreOfHomes, HasRequests, all_pairs_found, asked_by, found_in, key_of, pair_found, pairs_found, request_with};
 
 use crate::marks::{VisitTable, counts_of, first_seen};
@@ -34,7 +35,7 @@ pub(crate) fn pairs_of(
     oracle: &Oracle,
 ) -> Result<Items<Pair>, AllocError>
     requires few { length stamps.now < 2 ^ 32 }
-    requires begun { (stamp : Stamp) → Contains stamps.now (Some stamp) → stamp.home < 8 }
+    requires begun { (stamp : Stamp) → Contains stamps.now (Some stamp) → stamp.home < most_gates }
     requires settled { (entry : OracleEntry) → Contains oracle.now entry → AreOfHomes (settled_entry entry) }
     ensures { IfOk result (λ pairs. pairs ≡ all_pairs_found (request_with stamps.now) store.now
         (mark_of (request_with stamps.now) (was_asked (all_visits shards.now.logs)) store.now) oracle.now) }
@@ -59,7 +60,7 @@ fn add_pairs_of(
 ) -> Result<(), AllocError>
     requires { AreOfHomes (settled_entry entry.now) }
     ensures { OnOk result (pairs.new ≡ pairs.old ++ pairs_found (found_in requests.now.entries) store.now
-        (mark_of (found_in requests.now.entries) (is_in visits.now.entries) store.now (settled_entry entry.now))
+        (mark_of (found_in requests.now.entries) (has_mark visits.now.entries) store.now (settled_entry entry.now))
         (settled_entry entry.now)) }
 {
     let vertex = mark_of(requests, visits, store, entry);
@@ -74,7 +75,7 @@ fn mark_of(
     entry: &OracleEntry,
 ) -> Option<Name>
     requires { AreOfHomes (settled_entry entry.now) }
-    ensures { result ≡ mark_of (found_in requests.now.entries) (is_in visits.now.entries) store.now
+    ensures { result ≡ mark_of (found_in requests.now.entries) (has_mark visits.now.entries) store.now
         (settled_entry entry.now) }
 {
     let earlier = request_at(requests, earlier_in(entry), 0)?;
@@ -85,7 +86,7 @@ fn mark_of(
 // The request of each event that was begun: the first one, should there be more.
 fn requests_by_event(alloc: Global, stamps: &[Option<Stamp>]) -> Result<Requests, AllocError>
     requires few { length stamps.now < 2 ^ 32 }
-    requires begun { (stamp : Stamp) → Contains stamps.now (Some stamp) → stamp.home < 8 }
+    requires begun { (stamp : Stamp) → Contains stamps.now (Some stamp) → stamp.home < most_gates }
     ensures { IfOk result (λ requests. HasRequests 0 stamps.now requests.entries) }
 {
     let mut requests = HashMap::new(alloc);
@@ -164,7 +165,7 @@ fn add_pairs_before(
     later: u32,
     places: &[u32],
 ) -> Result<(), AllocError>
-    requires { (event : Stamp) → Contains earlier.now event → event.home < 8 }
+    requires { (event : Stamp) → Contains earlier.now event → event.home < most_gates }
     ensures { OnOk result (pairs.new ≡ pairs.old
         ++ filter_map (pair_found (found_in requests.now.entries) earlier.now asked.now later) places.now) }
 {
@@ -184,7 +185,7 @@ fn pair_at(
     later: u32,
     place: usize,
 ) -> Option<Pair>
-    requires { (event : Stamp) → Contains earlier.now event → event.home < 8 }
+    requires { (event : Stamp) → Contains earlier.now event → event.home < most_gates }
     ensures { result ≡ pair_found (found_in requests.now.entries) earlier.now asked.now later place }
 {
     let earlier = request_at(requests, earlier, place)?;
@@ -198,7 +199,7 @@ fn pair_at(
 
 // The request of the event at a place.
 fn request_at(requests: &Requests, events: &[Stamp], place: usize) -> Option<u32>
-    requires { (event : Stamp) → Contains events.now event → event.home < 8 }
+    requires { (event : Stamp) → Contains events.now event → event.home < most_gates }
     ensures { result ≡ option_and_then (found_in requests.now.entries) (slice_get events.now place) }
 {
     if place < events.len() {
@@ -233,7 +234,7 @@ fn asked_in(entry: &StoreEntry) -> &[Name]
 
 // The request that was begun with this stamp.
 fn request_of(requests: &Requests, stamp: &Stamp) -> Option<u32>
-    requires { stamp.now.home < 8 }
+    requires { stamp.now.home < most_gates }
     ensures { result ≡ found_in requests.now.entries stamp.now }
 {
     requests.get(&key_of(stamp)).copied()
@@ -241,7 +242,7 @@ fn request_of(requests: &Requests, stamp: &Stamp) -> Option<u32>
 
 // The home, the epoch and the own count of an event.
 fn key_of(stamp: &Stamp) -> (u32, u64, u64)
-    requires { stamp.now.home < 8 }
+    requires { stamp.now.home < most_gates }
     ensures { result ≡ key_of (id_of stamp.now) }
 {
     let id = stamp.id();

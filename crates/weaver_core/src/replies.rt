@@ -3,10 +3,10 @@ ghost use Rattle.std.specs.Prelude.{◌≡◌, ℕ, ◌<◌, ◌^◌, length, sl
 ghost use Rattle.program_defs.specs.declared.script.Request.{Request};
 ghost use Rattle.weave_account.specs.Report.{state_by_verdict, state_of_tx};
 ghost use Rattle.weave_entries.specs.StoreReplay.{judged_by, judgement_of};
-ghost use Rattle.weaver_core.specs.Clients.{HaveRisingReplies, values_at};
+ghost use Rattle.weaver_core.specs.Sessions.{HaveRisingReplies, values_at};
 ghost use Rattle.weaver_core.specs.Reporting.{AreRequestsReplies, IsStateFound, state_by_reply, state_replied, state_stamped};
 
-use crate::clients::Clients;
+use crate::sessions::Clients;
 use backing_store::Store;
 use program_defs::{Request, Work};
 use report_rules::{Reply, ReplyState};

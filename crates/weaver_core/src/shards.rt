@@ -1,13 +1,14 @@
 //! The shards of a core, by their numbers.
 ghost use Rattle.std.specs.Prelude.{◌≡◌, ℕ, ◌+◌, ◌<◌, ◌≤◌, [], length, map, replicate, is_some, None, IfErr, IfOk, IsTrue, OnErr, OnOk};
 ghost use Rattle.std.specs.Option.{ForSome};
+ghost use Rattle.weave_data.specs.Limits.{most_gates};
 ghost use Rattle.weave_entries.specs.ShardReplay.{arrived_at, bound_of, head_of, kept_of, processed_count, waits_at};
 ghost use Rattle.weave_entries.specs.ShardRules.{IsTakable, PassesAt};
 ghost use Rattle.weave_entries.specs.declared.shard_log.ShardDeed.TheVariants as deed;
 ghost use Rattle.shard_node.specs.Shards.{IsRightlyUnapplied};
 ghost use Rattle.weaver_core.specs.Marks.{AddsVisits, all_visits};
 ghost use Rattle.weaver_core.specs.Messages.{AppliesHead, ArrivesAtShard};
-ghost use Rattle.weaver_core.specs.ShardTable.{AddsToShard, AreFirstShards, AreShardsInOrder, log_at, log_of};
+ghost use Rattle.weaver_core.specs.ShardTable.{AddsToShard, AreFirstShards, AreShardsInOrder, shard_log_at, log_of_shard};
 ghost use Rattle.weaver_core.specs.Visiting.{CanBeVisited, Reads};
 ghost use Rattle.shard_node.specs.Shards.{IsRightlyUnread};
 
@@ -32,13 +33,13 @@ pub(crate) struct Shards {
 
 impl Model for Shards {
     ghost use Rattle.std.specs.Prelude.{map};
-    ghost use Rattle.weaver_core.specs.ShardTable.{ShardTable, AreShardsInOrder, log_of};
+    ghost use Rattle.weaver_core.specs.ShardTable.{ShardTable, AreShardsInOrder, log_of_shard};
 
     ghost Value = { ShardTable };
 
     ghost view = { λ s. record {
       gates = s.gates;
-      logs = map log_of s.shards.items;
+      logs = map log_of_shard s.shards.items;
     } };
 
     ghost invariant = { λ s. AreShardsInOrder s.gates s.shards.items };
@@ -48,7 +49,7 @@ impl Shards {
     /// The shards of a script, before anything arrived.
     pub(crate) fn new(alloc: Global, shards: u32, gates: u32) -> Result<Shards, AllocError>
         requires some { 1 ≤ gates }
-        requires few { gates ≤ 8 }
+        requires few { gates ≤ most_gates }
         ensures { IfOk result (λ made. made ≡ record { gates = gates; logs = replicate shards [] }) }
     {
         let made = first_shards(alloc, shards, gates)?;
@@ -61,7 +62,7 @@ impl Shards {
     /// These shards, which are made for this number of gatekeepers and are in order. It takes no memory.
     pub(crate) fn of(gates: u32, shards: Vec<Shard>) -> Shards
         requires { AreShardsInOrder gates shards.items }
-        ensures { result ≡ record { gates = gates; logs = map log_of shards.items } }
+        ensures { result ≡ record { gates = gates; logs = map log_of_shard shards.items } }
     {
         Shards { gates, shards }
     }
@@ -69,7 +70,7 @@ impl Shards {
     /// The shards, in order. It takes no memory.
     pub(crate) fn into_shards(self) -> Vec<Shard>
         ensures order { AreShardsInOrder self.gates result.items }
-        ensures logs { map log_of result.items ≡ self.logs }
+        ensures logs { map log_of_shard result.items ≡ self.logs }
     {
         self.shards
     }
@@ -98,8 +99,9 @@ impl Shards {
     pub(crate) fn next_number(&self, shard: u32, gate: u32) -> u64
         requires there { shard < length self.now.logs }
         requires gate { gate < self.now.gates }
-        ensures number { result ≡ processed_count gate (log_at self.now shard) + 1 }
-        ensures arrived { (n : ℕ) → 1 ≤ n → n < result → IsTrue (is_some (arrived_at gate n (log_at self.now shard))) }
+        ensures number { result ≡ processed_count gate (shard_log_at self.now shard) + 1 }
+        ensures arrived { (n : ℕ) → 1 ≤ n → n < result
+            → IsTrue (is_some (arrived_at gate n (shard_log_at self.now shard))) }
     {
         self.shards[shard as usize].next_number(gate)
     }
@@ -107,7 +109,7 @@ impl Shards {
     /// How many versions of a vertex a shard keeps.
     pub(crate) fn kept(&self, shard: u32, v: Name) -> usize
         requires { shard < length self.now.logs }
-        ensures { result ≡ kept_of v (log_at self.now shard) }
+        ensures { result ≡ kept_of v (shard_log_at self.now shard) }
     {
         self.shards[shard as usize].kept(v)
     }
@@ -123,10 +125,10 @@ impl Shards {
     pub(crate) fn apply(&mut self, alloc: Global, shard: u32, gate: u32) -> Result<(), ApplyFault>
         requires there { shard < length self.old.logs }
         requires gate { gate < self.old.gates }
-        requires passes { ForSome (head_of gate (log_at self.old shard)) (λ head.
-            waits_at head (log_at self.old shard) ≡ None → PassesAt (log_at self.old shard) head) }
+        requires passes { ForSome (head_of gate (shard_log_at self.old shard)) (λ head.
+            waits_at head (shard_log_at self.old shard) ≡ None → PassesAt (shard_log_at self.old shard) head) }
         ensures applied { OnOk result (AppliesHead self.old self.new shard gate) }
-        ensures unapplied { IfErr result (λ fault. IsRightlyUnapplied gate (log_at self.old shard) fault) }
+        ensures unapplied { IfErr result (λ fault. IsRightlyUnapplied gate (shard_log_at self.old shard) fault) }
         ensures refused { OnErr result (self.new ≡ self.old) }
     {
         let shard = &mut self.shards[shard as usize];
@@ -137,7 +139,7 @@ impl Shards {
     pub(crate) fn collect(&mut self, shard: u32) -> Result<(), AllocError>
         requires { shard < length self.old.logs }
         ensures collected { OnOk result (AddsToShard self.old self.new shard
-            (deed.Collected (bound_of self.old.gates (log_at self.old shard)))) }
+            (deed.Collected (bound_of self.old.gates (shard_log_at self.old shard)))) }
         ensures refused { OnErr result (self.new ≡ self.old) }
     {
         let shard = &mut self.shards[shard as usize];
@@ -155,9 +157,10 @@ impl Shards {
         oracle: &mut Oracle,
     ) -> Result<Option<Record>, VisitFault>
         requires there { shard < length self.old.logs }
-        requires ready { CanBeVisited oracle.old (log_at self.old shard) stamp vertex }
+        requires ready { CanBeVisited oracle.old (shard_log_at self.old shard) stamp vertex }
         ensures reads { IfOk result (Reads self.old self.new oracle.old oracle.new shard request stamp vertex) }
-        ensures unread { IfErr result (λ fault. IsRightlyUnread self.old.gates stamp (log_at self.old shard) fault) }
+        ensures unread { IfErr result (λ fault.
+            IsRightlyUnread self.old.gates stamp (shard_log_at self.old shard) fault) }
         ensures refused { OnErr result (self.new ≡ self.old) }
         ensures not_asked { OnErr result (oracle.new ≡ oracle.old) }
     {
@@ -171,7 +174,7 @@ impl Shards {
 // The first shards, before anything arrived.
 fn first_shards(alloc: Global, shards: u32, gates: u32) -> Result<Vec<Shard>, AllocError>
     requires some { 1 ≤ gates }
-    requires few { gates ≤ 8 }
+    requires few { gates ≤ most_gates }
     ensures { IfOk result (λ made. AreFirstShards shards gates made.items) }
 {
     let mut made = Vec::new(alloc);

@@ -3,7 +3,7 @@ ghost use Rattle.std.specs.Prelude.{◌≡◌, ◌<◌, ◌≤◌, length, Some,
 ghost use Rattle.weave_data.specs.declared.name.Name.{Name};
 ghost use Rattle.weave_data.specs.Names.{shard_of};
 ghost use Rattle.path_program.specs.AnyPrograms.{next_read};
-ghost use Rattle.weaver_core.specs.ShardTable.{log_at};
+ghost use Rattle.weaver_core.specs.ShardTable.{shard_log_at};
 ghost use Rattle.weaver_core.specs.Visiting.{AreSameLogs, AsksForNextVisit, CanBeVisited, VisitsForProgram};
 
 use crate::shards::Shards;
@@ -28,7 +28,7 @@ pub(crate) fn visit_next(
     requires some { 1 ≤ count }
     requires many { length shards.old.logs ≡ count }
     requires ready { (v : Name) → next_read running.old.walk ≡ Some v
-        → CanBeVisited oracle.old (log_at shards.old (shard_of v count)) running.old.stamp v }
+        → CanBeVisited oracle.old (shard_log_at shards.old (shard_of v count)) running.old.stamp v }
     ensures visits { IfOk result
         (VisitsForProgram count shards.old shards.new oracle.old oracle.new running.old running.new) }
     ensures refused { OnErr result (AreSameLogs shards.old shards.new oracle.old oracle.new running.old running.new) }
@@ -52,7 +52,8 @@ fn visit_vertex(
     requires some { 1 ≤ count }
     requires there { shard_of vertex count < length shards.old.logs }
     requires next { next_read running.old.walk ≡ Some vertex }
-    requires ready { CanBeVisited oracle.old (log_at shards.old (shard_of vertex count)) running.old.stamp vertex }
+    requires ready { CanBeVisited oracle.old (shard_log_at shards.old (shard_of vertex count))
+        running.old.stamp vertex }
     ensures visits { IfOk result
         (VisitsForProgram count shards.old shards.new oracle.old oracle.new running.old running.new) }
     ensures refused { OnErr result (AreSameLogs shards.old shards.new oracle.old oracle.new running.old running.new) }

@@ -34,14 +34,17 @@ no-shard-entry shard account = λ i. record account { oracle = append-nil accoun
 no-store-entry : (account : Account) → with_store_entries [] [] account ≡ account
 no-store-entry account = λ i. record account { store = append-nil account.store i; oracle = append-nil account.oracle i }
 
+-- in a hold of a gatekeeper without an entry the hand made none
 pub none-at-gate : {shards : ℕ} (old new : Hand) (gate : ℕ) (before : List GateEntry) → WasAtGate shards old new gate before [] → MadeNone old new
 none-at-gate old new gate before was =
     record { number = was.number; made = was.made ∙ no-gate-entry gate (made_by old); more = was.more }
 
+-- the same of a shard
 pub none-at-shard : {shards : ℕ} (old new : Hand) (shard : ℕ) (before : List ShardEntry) → WasAtShard shards old new shard before [] [] → MadeNone old new
 none-at-shard old new shard before was =
     record { number = was.number; made = was.made ∙ no-shard-entry shard (made_by old); more = was.more }
 
+-- the same of the store
 pub none-at-store : (old new : Hand) (before : List StoreEntry) (settled : List OracleEntry) → WasAtStore old new before [] settled [] → MadeNone old new
 none-at-store old new before settled was =
     record { number = was.number; made = was.made ∙ no-store-entry (made_by old); more = was.more }
@@ -50,6 +53,7 @@ none-at-store old new before settled was =
 abbrev pub Later : Type 0
 Later = (seen next last : Account) → IsWithin seen next → IsWithin next last → IsWithin seen last
 
+-- a hand that made no entry, and then none again, made none in all
 pub none-then-none : Later → (old next new : Hand) → MadeNone old next → MadeNone next new → MadeNone old new
 none-then-none later old next new first last = record {
   number = last.number ∙ first.number;
@@ -60,6 +64,7 @@ none-then-none later old next new first last = record {
 -- Left alone
 
 module _ (old new : Hand) (r : ℕ) where
+  -- a hand that made no entry made no visit for the request
   pub unvisited-if-none : MadeNone old new → MakesNoVisit old new r
   unvisited-if-none none = record {
     number = none.number;
@@ -67,6 +72,7 @@ module _ (old new : Hand) (r : ℕ) where
     visits = λ shard. ap (λ (a : Account). visits_by r (shard_log a shard)) none.made;
   }
 
+  -- a hand that made no entry left the request alone
   pub alone-if-none : MadeNone old new → LeavesAlone old new r
   alone-if-none none = record {
     unvisited = unvisited-if-none none;
@@ -126,6 +132,7 @@ module _ (old new : Hand) (r : ℕ) where
           ∙ ap (λ l. visits_by r log ++ l) none
           ∙ append-nil (visits_by r log)
 
+-- a hand that made no visit for a request, and then none again, made none in all
 pub unvisited-later : Later → (old next new : Hand) (r : ℕ) → MakesNoVisit old next r → MakesNoVisit next new r → MakesNoVisit old new r
 unvisited-later later old next new r first last = record {
   number = last.number ∙ first.number;
@@ -133,6 +140,7 @@ unvisited-later later old next new r first last = record {
   visits = λ shard. last.visits shard ∙ first.visits shard;
 }
 
+-- a hand that left a request alone, and then again, left it alone in all
 pub alone-later : Later → (old next new : Hand) (r : ℕ) → LeavesAlone old next r → LeavesAlone next new r → LeavesAlone old new r
 alone-later later old next new r first last = record {
   unvisited = unvisited-later later old next new r first.unvisited last.unvisited;

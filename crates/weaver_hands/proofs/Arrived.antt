@@ -111,6 +111,7 @@ by_answer : (F : Type 0) (hand : Hand) (deed : ShardDeed) (b : Bool) (answer : A
 by_answer F hand deed true answer is = ap (λ (a : Answer). arrival_entries {F = F} hand deed (Ok a)) is
 by_answer F hand deed false answer is = ap (λ (a : Answer). arrival_entries {F = F} hand deed (Ok a)) is
 
+-- what the shard's hold added is the entry of the arrival, if the message had not arrived before, and else nothing
 pub arrives_so : (F : Type 0) (shards : ℕ) (fetched new : Hand) (gate shard number : ℕ) (message : Message) (before : List ShardEntry) (answer : Answer)
     → WasAtShard shards fetched new shard before (arrival_entries {F = F} fetched (Arrived gate number message) (Ok answer)) []
     → answer ≡ (if is_some (arrived_at gate number before) then Repeat else Kept)
@@ -135,6 +136,7 @@ pulls_so shards old new gate shard number Unsent found = found
 pulls_so shards old new gate shard number Known brings = brings.pulls
 pulls_so shards old new gate shard number New brings = brings.pulls
 
+-- what `bring` refuses `pull` refuses with the same fault
 pub refused_so : (shards : ℕ) (old new : Hand) (gate shard number : ℕ) (fault : HandFault)
     → BringsAs shards old new gate shard number (Err fault) → PullsAs shards old new gate shard number (Err fault)
 refused_so shards old new gate shard number Memory none = none

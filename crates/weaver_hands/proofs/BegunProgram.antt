@@ -13,13 +13,13 @@ use Rattle.vector_stamp.specs.declared.clock.Stamp.{Stamp}
 use Rattle.weave_entries.specs.declared.gate_log.GateDeed.{GateDeed}
 use Rattle.weave_entries.specs.declared.gate_log.GateEntry.{GateEntry}
 use Rattle.weave_entries.specs.declared.gate_log.GateDeed.TheVariants.{BeganTx, BeganProgram, Sent, Nop, Heard, Raised, Finished}
-use Rattle.weave_entries.specs.GateReplay.{Begun, begun_by, program_by, programs_of, tx_by}
+use Rattle.weave_entries.specs.GateReplay.{BegunRequest, begun_by, program_by, programs_of, tx_by}
 use Rattle.weave_entries.specs.GateRules.{EndsAs}
 use Rattle.weave_account.specs.declared.account.Account.{Account}
 use Rattle.weave_account.specs.Account.{gate_log}
 use Rattle.seen_logs.specs.Entries.{gate_entries}
 use Rattle.seen_logs.specs.LowerLaws.{LawsForSeenLogs}
-use Rattle.seen_logs.specs.Seen.{since}
+use Rattle.seen_logs.specs.Seen.{entries_since}
 use Rattle.seen_logs.proofs.Listed.{longer}
 use Rattle.weaver_locks.specs.declared.hand.Hand.{Hand}
 use Rattle.weaver_locks.specs.declared.shared.Shared.{Shared}
@@ -46,8 +46,8 @@ unpushed xs ys x y same = elim (split_last xs ys [] x y same) [
 ]
 
 -- what began a program was its author's entry
-program-author : (author : ℕ) (deed : GateDeed) (begun : Begun) → Contains (program_by author deed) begun → author ≡ begun.author
-program-author author (BeganProgram r stamp) begun h = ap (λ (b : Begun). b.author) (only (record { author = author; request = r; stamp = stamp }) begun h)
+program-author : (author : ℕ) (deed : GateDeed) (begun : BegunRequest) → Contains (program_by author deed) begun → author ≡ begun.author
+program-author author (BeganProgram r stamp) begun h = ap (λ (b : BegunRequest). b.author) (only (record { author = author; request = r; stamp = stamp }) begun h)
 program-author author (BeganTx r stamp) begun h = absurd (has_none begun h)
 program-author author (Sent r messages) begun h = absurd (has_none begun h)
 program-author author (Nop shard number stamp low) begun h = absurd (has_none begun h)
@@ -73,16 +73,16 @@ module _ (hands : HandLaws) (laws : LawsForSeenLogs) (shared : Shared) (old new 
   home-is : stamp.home ≡ gate
   home-is = ap (λ (s : Stamp). s.home) did.stamp_is
 
-  begun-here : Contains (programs_of (since start log)) (record { author = hand_number new; request = request; stamp = stamp })
+  begun-here : Contains (programs_of (entries_since start log)) (record { author = hand_number new; request = request; stamp = stamp })
   begun-here =
       let few : length start ≤ length did.before =
       (let a = longer start (gate_log (seen_by old) gate) (is_old.seen.starts.gates gate) in
       let b = longer (gate_log (seen_by old) gate) did.before did.begins.found in omega (arith, a, b)) in
-      let left : since start log ≡ since start did.before ++ entry ∷ [] =
-      ap (since start) did.begins.left ∙ drop-append-le (length start) did.before (entry ∷ []) few in
-      let there : Contains (since start log) entry = subst (λ (l : List GateEntry). Contains l entry) (sym left) (has_last (since start did.before) entry) in
-      subst (λ n. Contains (programs_of (since start log)) (record { author = n; request = request; stamp = stamp })) (sym did.begins.number)
-      (has_flat (λ (e : GateEntry). program_by e.author e.deed) (since start log) entry _ there (has_head _ []))
+      let left : entries_since start log ≡ entries_since start did.before ++ entry ∷ [] =
+      ap (entries_since start) did.begins.left ∙ drop-append-le (length start) did.before (entry ∷ []) few in
+      let there : Contains (entries_since start log) entry = subst (λ (l : List GateEntry). Contains l entry) (sym left) (has_last (entries_since start did.before) entry) in
+      subst (λ n. Contains (programs_of (entries_since start log)) (record { author = n; request = request; stamp = stamp })) (sym did.begins.number)
+      (has_flat (λ (e : GateEntry). program_by e.author e.deed) (entries_since start log) entry _ there (has_head _ []))
 
   -- what was its own before is what it had made
   own-before : filter (λ (e : GateEntry). eqb e.author (hand_number old)) did.before ≡ gate_log (made_by old) gate
@@ -123,12 +123,13 @@ module _ (hands : HandLaws) (laws : LawsForSeenLogs) (shared : Shared) (old new 
             (Contains-append_right (tx_by (by.0).author (by.0).deed) (program_by (by.0).author (by.0).deed) _ by.2)) refl
       ]
 
+  -- a program that the hand has just begun is running, if it has read nothing and no visit was made for it
   pub begun-runs : (walk : AnyProgram) → own_reads old request ≡ [] → HasRead walk []
       → IsRunning shared new (record { request = request; stamp = stamp; walk = walk })
   begun-runs walk none read =
       let alone : LeavesAlone old new request = start-alone (length shared.shards.items) old new gate request last (Ok stamp) did request in
       record {
-        begun = subst (λ home. Contains (programs_of (since (gate_log (start_of shared) home) (gate_log (seen_by new) home)))
+        begun = subst (λ home. Contains (programs_of (entries_since (gate_log (start_of shared) home) (gate_log (seen_by new) home)))
             (record { author = hand_number new; request = request; stamp = stamp })) (sym home-is) begun-here;
         unfinished = subst (λ home. (e : GateEntry) → Contains (gate_log (seen_by new) home) e → e.author ≡ hand_number new → e.deed ≢ Finished request)
             (sym home-is) not-finished;

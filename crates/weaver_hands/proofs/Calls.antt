@@ -74,6 +74,7 @@ begun-judged later old begun judged gate request r stamp ops verdict before begi
     (one-deed old begun r gate before (BeganTx request stamp) begins (tx-other request r stamp))
     (alone-at-store begun judged r judges.before _ judges.settled _ judges.was)
 
+-- a transaction leaves each request alone
 pub transact-alone : Later → (shards : ℕ) (old new : Hand) (gate request : ℕ) (ops : List Op) (last : Option Stamp)
     (result : Result (Stamp × Verdict) HandFault) → TransactsAs shards old new gate request ops last result → (r : ℕ) → LeavesAlone old new r
 transact-alone later shards old new gate request ops last (Ok (stamp, verdict)) did r =
@@ -94,6 +95,7 @@ transact-alone later shards old new gate request ops last (Err (NotYet shard at)
 transact-alone later shards old new gate request ops last (Err Empty) none r = absurd none
 transact-alone later shards old new gate request ops last (Err (Waits vertex)) none r = absurd none
 
+-- the begin of a program leaves each request alone
 pub start-alone : (shards : ℕ) (old new : Hand) (gate request : ℕ) (last : Option Stamp) (result : Result Stamp HandFault)
     → StartsAs shards old new gate request last result → (r : ℕ) → LeavesAlone old new r
 start-alone shards old new gate request last (Ok stamp) did r =
@@ -104,6 +106,7 @@ start-alone shards old new gate request last (Err (NotYet shard at)) none r = ab
 start-alone shards old new gate request last (Err Empty) none r = absurd none
 start-alone shards old new gate request last (Err (Waits vertex)) none r = absurd none
 
+-- a clock that is said and heard leaves each request alone
 pub tell-alone : Later → (shards : ℕ) (old new : Hand) (from to : ℕ) (result : Result (Unit {0}) HandFault)
     → TellsAs shards old new from to result → (r : ℕ) → LeavesAlone old new r
 tell-alone later shards old new from to (Ok done) did r =
@@ -115,6 +118,7 @@ tell-alone later shards old new from to (Err (NotYet shard at)) none r = absurd 
 tell-alone later shards old new from to (Err Empty) none r = absurd none
 tell-alone later shards old new from to (Err (Waits vertex)) none r = absurd none
 
+-- an empty message leaves each request alone
 pub nop-alone : (shards : ℕ) (old new : Hand) (gate shard : ℕ) (result : Result (Unit {0}) HandFault)
     → NopsAs shards old new gate shard result → (r : ℕ) → LeavesAlone old new r
 nop-alone shards old new gate shard (Ok done) did r = one-deed old new r gate did.before _ did.was (nop-other shard _ r _ _)
@@ -130,6 +134,7 @@ arrival-apart : (r : ℕ) (hand : Hand) (gate number : ℕ) (message : Message) 
 arrival-apart r hand gate number message true = refl
 arrival-apart r hand gate number message false = refl
 
+-- the pull of a message leaves each request alone
 pub pull-alone : Later → (shards : ℕ) (old new : Hand) (gate shard number : ℕ) (result : Result Bool HandFault)
     → PullsAs shards old new gate shard number result → (r : ℕ) → LeavesAlone old new r
 pull-alone later shards old new gate shard number (Ok true) did r =
@@ -143,6 +148,7 @@ pull-alone later shards old new gate shard number (Err (NotYet other at)) none r
 pull-alone later shards old new gate shard number (Err Empty) none r = absurd none
 pull-alone later shards old new gate shard number (Err (Waits vertex)) none r = absurd none
 
+-- the processing of a channel's head leaves each request alone
 pub apply-alone : (shards : ℕ) (old new : Hand) (shard gate : ℕ) (result : Result (Unit {0}) HandFault)
     → AppliesAs shards old new shard gate result → (r : ℕ) → LeavesAlone old new r
 apply-alone shards old new shard gate (Ok done) did r = alone-at-shard old new r shard did.before _ [] did.was refl
@@ -159,6 +165,7 @@ visit-apart r hand request updates stamp v settled other =
     let visit : Visit = record { author = hand_number hand; request = request; stamp = stamp; vertex = v; updates = updates; settled = settled } in
     ap (λ b. cond b (visit ∷ []) []) (ne_eqb request r (λ e. other (sym e)))
 
+-- a visit leaves each request alone but that of its program
 pub visit-alone : (gates shards : ℕ) (old new : Hand) (was is : Running) (result : Result (Unit {0}) HandFault)
     → VisitsAs gates shards old new was is result → (r : ℕ) → r ≢ was.request → LeavesAlone old new r
 visit-alone gates shards old new was is (Ok done) did r other =
@@ -170,6 +177,7 @@ visit-alone gates shards old new was is (Err Busy) none r other = absurd none
 visit-alone gates shards old new was is (Err Empty) none r other = absurd none
 visit-alone gates shards old new was is (Err (Waits vertex)) none r other = absurd none
 
+-- the finish of a program leaves each other request alone
 pub finish-alone : (shards : ℕ) (old new : Hand) (running : Running) (result : Result Answer HandFault)
     → FinishesAs shards old new running result → (r : ℕ) → r ≢ running.request → LeavesAlone old new r
 finish-alone shards old new running (Ok answer) did r other =
@@ -180,6 +188,7 @@ finish-alone shards old new running (Err (NotYet shard at)) none r other = absur
 finish-alone shards old new running (Err Empty) none r other = absurd none
 finish-alone shards old new running (Err (Waits vertex)) none r other = absurd none
 
+-- the finish of a program makes no visit for any request
 pub finish-unvisited : (shards : ℕ) (old new : Hand) (running : Running) (result : Result Answer HandFault)
     → FinishesAs shards old new running result → (r : ℕ) → MakesNoVisit old new r
 finish-unvisited shards old new running (Ok answer) did r = unvisited-at-gate old new r running.stamp.home did.before _ did.was

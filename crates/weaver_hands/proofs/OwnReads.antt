@@ -60,6 +60,7 @@ module _ (number r : ℕ) where
         ap (λ l. read-in l visit) on.1
         ∙ read-stays laws gates log on.0 whole visit (within laws gates log (shard-before gates log on.0 whole) visit there))
 
+    -- if a shard's log goes on without a new visit by the author for the request, what its visits for it read stays
     pub reads-still : (log next : List ShardEntry) → IsBeginningOf log next → IsShardLog gates next
         → visits_by r (entries_of_author number next) ≡ visits_by r (entries_of_author number log) → own_reads_in number r next ≡ own_reads_in number r log
     reads-still log next on legal same = ap (map (read-in next)) same ∙ read-alike log next on legal

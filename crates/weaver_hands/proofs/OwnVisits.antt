@@ -19,7 +19,7 @@ use Rattle.weave_entries.specs.ShardReplay.{Visit, visit_by, visits_of}
 use Rattle.weave_account.specs.Account.{gate_log, shard_log}
 use Rattle.weave_account.specs.GoesOn.{visits_by}
 use Rattle.seen_logs.specs.LowerLaws.{LawsForSeenLogs}
-use Rattle.seen_logs.specs.Seen.{IsWithin, VisitsItsOwn, VisitsOwnPrograms, since, visit_entry}
+use Rattle.seen_logs.specs.Seen.{IsWithin, VisitsItsOwn, VisitsOwnPrograms, entries_since, visit_entry}
 use Rattle.weaver_core.specs.declared.walks.Running.{Running}
 use Rattle.weaver_locks.specs.declared.hand.Hand.{Hand}
 use Rattle.weaver_locks.specs.declared.shared.Shared.{Shared}
@@ -94,6 +94,7 @@ module _ (hands : HandLaws) (laws : LawsForSeenLogs) (shared : Shared) (old new 
   by-deed each shard author (Applied gate m) there own = tt
   by-deed each shard author (Collected bound) there own = tt
 
+  -- if the hand's new visits are of its own programs, its visits stay of its own programs
   pub on-if-own : VisitsStay → OwnNew → VisitsOwnPrograms n (start_of shared) (seen_by old) → VisitsOwnPrograms (hand_number new) (start_of shared) (seen_by new)
   on-if-own stay each was =
       subst (λ m. VisitsOwnPrograms m (start_of shared) (seen_by new)) (sym number)
@@ -110,6 +111,7 @@ module _ (hands : HandLaws) (laws : LawsForSeenLogs) (shared : Shared) (old new 
       ∙ was-made hands laws shared old new is_old is_new number visit.request shard
       ∙ sym (append-nil (visits_by visit.request (entries_of_author n (shard_log (seen_by old) shard)))))) h)
 
+  -- and so they do if it made no visit
   pub on-if-none : VisitsStay → ((r : ℕ) → MakesNoVisit old new r) → VisitsOwnPrograms n (start_of shared) (seen_by old)
       → VisitsOwnPrograms (hand_number new) (start_of shared) (seen_by new)
   on-if-none stay none = on-if-own stay (λ shard visit h. absurd (none-new shard visit h (none visit.request)))
@@ -146,11 +148,12 @@ module _ (hands : HandLaws) (laws : LawsForSeenLogs) (shared : Shared) (old new 
           let begun = begun-on hands laws shared old new is_old is_new number more.gates running.stamp.home running.request running.stamp runs.begun in
           subst (λ (w : Visit). VisitsItsOwn n (start_of shared) (seen_by new) (visit_entry w).deed) (is-it shard other h same) (
             running.stamp.home,
-            subst (λ m. Contains (programs_of (since (gate_log (start_of shared) running.stamp.home) (gate_log (seen_by new) running.stamp.home)))
+            subst (λ m. Contains (programs_of (entries_since (gate_log (start_of shared) running.stamp.home) (gate_log (seen_by new) running.stamp.home)))
                 (record { author = m; request = running.request; stamp = running.stamp })) number begun,
           )
     ]
 
+    -- and so they do if it made one visit for its running program, and none for another request
     pub on-if-visited : VisitsStay → VisitsOwnPrograms n (start_of shared) (seen_by old) → VisitsOwnPrograms (hand_number new) (start_of shared) (seen_by new)
     on-if-visited stay = on-if-own stay its-own
 

@@ -7,13 +7,13 @@ use Rattle.std.proofs.lemmas.List.{append-nil}
 use Rattle.weave_data.proofs.Members.{any_from, flat_has, has_flat, drop_has}
 use Rattle.weave_entries.specs.declared.gate_log.GateEntry.{GateEntry}
 use Rattle.weave_entries.specs.declared.gate_log.GateDeed.TheVariants.{Finished}
-use Rattle.weave_entries.specs.GateReplay.{Begun, is_begun, program_by, programs_of, running_of}
+use Rattle.weave_entries.specs.GateReplay.{BegunRequest, is_begun, program_by, programs_of, running_of}
 use Rattle.weave_account.specs.declared.account.Account.{Account}
 use Rattle.weave_account.specs.Account.{gate_log}
 use Rattle.gatekeeper.specs.declared.fault.GateFault.{GateFault}
 use Rattle.gatekeeper.specs.declared.fault.GateFault.TheVariants.{Busy, Idle, Old, Memory}
 use Rattle.gatekeeper.specs.Answers.{IsRefusedWhere}
-use Rattle.seen_logs.specs.Seen.{since}
+use Rattle.seen_logs.specs.Seen.{entries_since}
 use Rattle.seen_logs.proofs.Listed.{has-on}
 use Rattle.weaver_core.specs.declared.walks.Running.{Running}
 use Rattle.weaver_locks.specs.declared.hand.Hand.{Hand}
@@ -47,12 +47,12 @@ never-idle hands law shared old new is_old is_new running runs before was fault 
     n : ℕ
     n = hand_number old
 
-    test : Begun → Bool
+    test : BegunRequest → Bool
     test = is_begun n running.request
 
     begun : Contains (programs_of before) (record { author = n; request = running.request; stamp = running.stamp })
     begun =
-        let from = flat_has (λ (e : GateEntry). program_by e.author e.deed) (since (gate_log (start_of shared) home) (gate_log (seen_by old) home)) _ runs.begun in
+        let from = flat_has (λ (e : GateEntry). program_by e.author e.deed) (entries_since (gate_log (start_of shared) home) (gate_log (seen_by old) home)) _ runs.begun in
         let there = drop_has (length (gate_log (start_of shared) home)) (gate_log (seen_by old) home) from.0 from.1 in
         has_flat (λ (e : GateEntry). program_by e.author e.deed) before from.0 _
         (has-on (gate_log (seen_by old) home) before was.found from.0 there) from.2

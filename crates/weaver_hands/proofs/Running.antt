@@ -32,10 +32,10 @@ use Rattle.weave_account.specs.Account.{gate_log, shard_log}
 use Rattle.weave_account.specs.GoesOn.{visits_by}
 use Rattle.seen_logs.specs.Entries.{shard_entries}
 use Rattle.seen_logs.specs.LowerLaws.{LawsForSeenLogs}
-use Rattle.seen_logs.specs.Seen.{since, GatesGoOn}
+use Rattle.seen_logs.specs.Seen.{entries_since, GatesGoOn}
 use Rattle.seen_logs.proofs.Listed.{flat-on, has-on, longer}
 use Rattle.seen_logs.proofs.Onward.{since-on}
-use Rattle.chronicle.specs.Passes.{seen}
+use Rattle.chronicle.specs.Passes.{seen_by_pass}
 use Rattle.weaver_core.specs.declared.walks.Running.{Running}
 use Rattle.weaver_core.proofs.Visited.{next-new, reads-added}
 use Rattle.weaver_locks.specs.declared.hand.Hand.{Hand}
@@ -57,7 +57,7 @@ shard-there v shards some = mod-lt _ (omega (arith, some))
 
 -- there are as many logs of shards as shards
 many-shards : (shared : Shared) (hand : Hand) → IsHand shared hand → length (seen_by hand).shards ≡ length shared.shards.items
-many-shards shared hand is = length-map (map seen hand.shards.items) shard_entries ∙ length-map hand.shards.items seen ∙ is.shards
+many-shards shared hand is = length-map (map seen_by_pass hand.shards.items) shard_entries ∙ length-map hand.shards.items seen_by_pass ∙ is.shards
 
 module _ (hands : HandLaws) (laws : LawsForSeenLogs) (shared : Shared) (old new : Hand) (is_old : IsHand shared old) (is_new : IsHand shared new)
     (number : hand_number new ≡ hand_number old) where
@@ -70,20 +70,21 @@ module _ (hands : HandLaws) (laws : LawsForSeenLogs) (shared : Shared) (old new 
       ap (λ m. visits_by r (entries_of_author m (shard_log (seen_by new) shard))) (sym number)
       ∙ ap (visits_by r) (sym (own-shard shared new is_new shard))
 
+  -- and those that it had made are its own in what it had seen
   pub was-made : (r shard : ℕ) → visits_by r (shard_log (made_by old) shard) ≡ visits_by r (entries_of_author n (shard_log (seen_by old) shard))
   was-made r shard = ap (visits_by r) (own-shard shared old is_old shard)
 
   -- a begin that was seen stays
   pub begun-on : GatesGoOn (seen_by old) (seen_by new) → (home request : ℕ) (stamp : Stamp)
-      → Contains (programs_of (since (gate_log (start_of shared) home) (gate_log (seen_by old) home))) (record { author = hand_number old; request = request; stamp = stamp })
-      → Contains (programs_of (since (gate_log (start_of shared) home) (gate_log (seen_by new) home))) (record { author = hand_number new; request = request; stamp = stamp })
+      → Contains (programs_of (entries_since (gate_log (start_of shared) home) (gate_log (seen_by old) home))) (record { author = hand_number old; request = request; stamp = stamp })
+      → Contains (programs_of (entries_since (gate_log (start_of shared) home) (gate_log (seen_by new) home))) (record { author = hand_number new; request = request; stamp = stamp })
   begun-on more home request stamp h =
       let start = gate_log (start_of shared) home in
       let before = gate_log (seen_by old) home in
       let after = gate_log (seen_by new) home in
-      subst (λ m. Contains (programs_of (since start after)) (record { author = m; request = request; stamp = stamp })) (sym number)
-      (has-on (programs_of (since start before)) (programs_of (since start after))
-      (flat-on (λ (e : GateEntry). program_by e.author e.deed) (since start before) (since start after)
+      subst (λ m. Contains (programs_of (entries_since start after)) (record { author = m; request = request; stamp = stamp })) (sym number)
+      (has-on (programs_of (entries_since start before)) (programs_of (entries_since start after))
+      (flat-on (λ (e : GateEntry). program_by e.author e.deed) (entries_since start before) (entries_since start after)
       (since-on start before after (longer start before (is_old.seen.starts.gates home)) (more home))) _ h)
 
   -- a program that was not finished isn't, if no finish was made
@@ -151,12 +152,14 @@ module _ (hands : HandLaws) (laws : LawsForSeenLogs) (shared : Shared) (old new 
         ∙ filter-append (λ (one : Visit). one.request == r) (visits_of log) (visit ∷ [])
         ∙ ap (λ b. visits_by r log ++ cond b (visit ∷ []) []) (eq-eqb r r refl)
 
+    -- in the shard of the vertex the hand has this visit for the request more
     pub more-here : visits_by r (entries_of_author m (shard_log (seen_by new) s)) ≡ visits_by r (entries_of_author m (shard_log (seen_by old) s)) ++ visit ∷ []
     more-here =
         now-made hands laws shared old new is_old is_new visits.was.number r s ∙ ap (visits_by r) made-there
         ∙ one-visit (shard_log (made_by old) s)
         ∙ ap (λ l. l ++ visit ∷ []) (was-made hands laws shared old new is_old is_new visits.was.number r s)
 
+    -- in each other shard it has the same visits for the request
     pub same-elsewhere : (k : ℕ) → k ≢ s → visits_by r (entries_of_author m (shard_log (seen_by new) k)) ≡ visits_by r (entries_of_author m (shard_log (seen_by old) k))
     same-elsewhere k other =
         now-made hands laws shared old new is_old is_new visits.was.number r k
@@ -229,7 +232,7 @@ runs-here law shared hand running was =
     let home = running.stamp.home in
     let log = gate_log (seen_by hand) home in
     let start = gate_log (start_of shared) home in
-    let from = flat_has (λ (e : GateEntry). program_by e.author e.deed) (since start log) _ was.begun in (
+    let from = flat_has (λ (e : GateEntry). program_by e.author e.deed) (entries_since start log) _ was.begun in (
       home,
       law log (hand_number hand) running.request running.stamp
           (has_flat (λ (e : GateEntry). program_by e.author e.deed) log from.0 _ (drop_has (length start) log from.0 from.1) from.2) was.unfinished,

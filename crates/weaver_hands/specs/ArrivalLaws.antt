@@ -1,5 +1,6 @@
 -- The laws of the crates below on messages that arrive, in one. No public contract cites this.
 use Rattle.std.specs.Prelude.{◌≡◌, ℕ, ◌<◌, List, [], ◌∷◌, ◌++◌, None, Some}
+use Rattle.weave_data.specs.Limits.{most_gates}
 use Rattle.weave_entries.specs.declared.gate_log.GateEntry.{GateEntry}
 use Rattle.weave_entries.specs.declared.message.Message.{Message}
 use Rattle.weave_entries.specs.declared.shard_log.ShardEntry.{ShardEntry}
@@ -12,5 +13,5 @@ pub record ArrivalLaws : Type 0 where
   pub new : (log : List ShardEntry) (author gate number : ℕ) (message : Message) → arrived_at gate number log ≡ None
       → arrived_at gate number (log ++ record { author = author; deed = Arrived gate number message } ∷ [])
       ≡ Some message
-  pub channel : (home shards shard : ℕ) (log : List GateEntry) → home < 8 → IsGateLog home shards log
+  pub channel : (home shards shard : ℕ) (log : List GateEntry) → home < most_gates → IsGateLog home shards log
       → IsChannel shard log

@@ -1,4 +1,4 @@
--- The refusals of hands' calls.
+-- The refusals of hands' calls. No public contract cites this.
 use Rattle.std.specs.Prelude.{ℕ}
 use Rattle.gatekeeper.specs.declared.fault.GateFault.{GateFault}
 use Rattle.gatekeeper.specs.declared.fault.GateFault.TheVariants.{Busy, Idle, Old, Memory}

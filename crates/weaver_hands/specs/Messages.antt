@@ -45,12 +45,12 @@ pub record FoundUnsent (shards : ℕ) (old new : Hand) (gate shard number : ℕ)
   pub was : WasAtGate shards old new gate sent []
   pub unsent : sent_as number (channel_of shard sent) ≡ None
 
--- the outcome for a message that the shard took in like this
+-- the outcome for a message that the shard took in like this. No public contract cites this.
 abbrev pub pulled_by : Arrival → Pulled
 pulled_by arrival.Kept = New
 pulled_by arrival.Repeat = Known
 
--- whether it was sent
+-- whether it was sent. No public contract cites this.
 abbrev pub is_sent : Pulled → Bool
 is_sent Unsent = false
 is_sent Known = true

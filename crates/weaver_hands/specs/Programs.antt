@@ -18,7 +18,7 @@ use Rattle.weave_entries.specs.GateReplay.{programs_of}
 use Rattle.weave_entries.specs.ShardReplay.{Visit, state_of_updates, updates_of}
 use Rattle.weave_account.specs.Account.{gate_log}
 use Rattle.weave_account.specs.GoesOn.{visits_by}
-use Rattle.seen_logs.specs.Seen.{since}
+use Rattle.seen_logs.specs.Seen.{entries_since}
 use Rattle.weaver_core.specs.declared.walks.Running.{Running}
 use Rattle.weaver_locks.specs.declared.hand.Hand.{Hand}
 use Rattle.weaver_locks.specs.declared.shared.Shared.{Shared}
@@ -50,7 +50,7 @@ own_reads hand r = flat_map (own_reads_in (hand_number hand) r) (seen_by hand).s
 -- it read, and nothing else.
 pub record IsRunning (shared : Shared) (hand : Hand) (running : Running) : Type 0 where
   pub begun : (let home = running.stamp.home in
-      Contains (programs_of (since (gate_log (start_of shared) home) (gate_log (seen_by hand) home)))
+      Contains (programs_of (entries_since (gate_log (start_of shared) home) (gate_log (seen_by hand) home)))
       (record { author = hand_number hand; request = running.request; stamp = running.stamp }))
   pub unfinished : (entry : GateEntry) → Contains (gate_log (seen_by hand) running.stamp.home) entry
       → entry.author ≡ hand_number hand → entry.deed ≢ Finished running.request

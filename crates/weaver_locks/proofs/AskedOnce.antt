@@ -7,7 +7,7 @@ use mathlib.Core.Logic.{dite}
 use native.Mathlib.Decide.{ℕ_discrete}
 use Rattle.weave_data.proofs.Members.{any_has, has_none, only}
 use Rattle.vector_stamp.specs.declared.clock.Stamp.{Stamp}
-use Rattle.vector_stamp.specs.Precedence.{Given, precedes}
+use Rattle.vector_stamp.specs.Precedence.{GivenPair, precedes}
 use Rattle.vector_stamp.specs.Seeing.{last_seen, seen_of}
 use Rattle.weave_entries.specs.declared.oracle_log.OracleEntry.{OracleEntry}
 use Rattle.weave_entries.specs.declared.shard_log.ShardDeed.{ShardDeed}
@@ -83,9 +83,10 @@ module _ (hold : HoldLaws) (laws : AskLaws) (shared : Shared) (old : Hand) (hand
   abbrev n : ℕ
   n = hand_number old
 
-  abbrev pairs : List Given
+  abbrev pairs : List GivenPair
   pairs = pairs_of_log settled
 
+  -- the last update that the visit saw is the last one that its program reads of the vertex by these pairs
   pub last_is : seen_last before v ≡ last_read pairs v.stamp v.vertex before
   last_is = ap (λ (k : ℕ). last_seen k (update_stamps v.vertex before)) (updates_is ∙ laws.read pairs v.stamp v.vertex before base)
       ∙ sym (laws.last pairs v.stamp v.vertex before base)

@@ -12,6 +12,7 @@ use Rattle.lock_row.proofs.Lists.{one_of}
 
 module _ {M E B V : Type 0} (frame_of : B → Frame) (log_of : B → Log E) (view : B → V) (frame_for : V → Frame) (log_for : V → Log E)
     (before after : List (Chronicle M E)) (machines : List B) (old new : ℕ) where
+  -- each opened lock has this many passes, and the frame and the log of the machine at its place
   pub all_begun : AllBegin frame_of log_of before after machines → length machines ≡ length before → length after ≡ length before
       → All (λ (c : Chronicle M E). (lock_of c).passes ≡ old) before → old ≡ new
       → All (λ b. frame_of b ≡ frame_for (view b)) machines → ((b : B) → log_of b ≡ log_for (view b))

@@ -25,12 +25,12 @@ use Rattle.seen_logs.specs.Seen.{IsWithin}
 use Rattle.chronicle.specs.declared.held.Held.{Held}
 use Rattle.chronicle.specs.Holds.{machine_of}
 use Rattle.chronicle.specs.Locks.{lock_of}
-use Rattle.chronicle.specs.Passes.{lock_noted, noted}
-use Rattle.chronicle.specs.Seats.{number_in}
-use Rattle.gate_lock.specs.declared.noted.NotedGate.{NotedGate}
+use Rattle.chronicle.specs.Passes.{lock_noted, seen_by_note}
+use Rattle.chronicle.specs.Seats.{number_of_seat}
+use Rattle.gate_lock.specs.declared.noted_gate.NotedGate.{NotedGate}
 use Rattle.gate_lock.specs.declared.notes.GateNotes.{GateNotes}
 use Rattle.gate_lock.specs.Frames.{gate_frame}
-use Rattle.gate_lock.specs.Notes.{GateIsKept, account_of, seen_of}
+use Rattle.gate_lock.specs.Notes.{GateIsKept, account_of_gate, seen_of_gate}
 use Rattle.weaver_locks.specs.declared.hand.Hand.{Hand}
 use Rattle.weaver_locks.specs.declared.shared.Shared.{Shared}
 use Rattle.weaver_locks.specs.GateHolds.{gate_entries_of, gate_entry_by}
@@ -101,7 +101,7 @@ goes_on shared old now gate before added held later seat lock inside grown =
         went = λ p. record {
           table_is = (inside.hold.went p).table_is ∙ ap (λ s. s.table_id) (sym seat);
           seat_is = (inside.hold.went p).seat_is ∙ ap (λ s. s.id) (sym seat);
-          number_is = ap (λ s. number_in s.me.0) seat ∙ (inside.hold.went p).number_is;
+          number_is = ap (λ s. number_of_seat s.me.0) seat ∙ (inside.hold.went p).number_is;
         };
         lock = λ c. ap (λ x. lock_of x.now) lock ∙ inside.hold.lock c;
         entry = ap (λ s. s.me.0.seen) seat ∙ inside.hold.entry;
@@ -115,7 +115,7 @@ goes_on shared old now gate before added held later seat lock inside grown =
         log = grown.log ∙ ap (λ (l : List GateEntry). l ++ added) (was.log ∙ append-nil before);
         by = grown.by;
         notes = λ own.
-            ap (λ (n : GateNotes). account_of gate own (map noted n.gates.items) (noted n.store) (map noted n.shards.items)) grown.notes
+            ap (λ (n : GateNotes). account_of_gate gate own (map seen_by_note n.gates.items) (seen_by_note n.store) (map seen_by_note n.shards.items)) grown.notes
             ∙ was.notes own;
       };
     }
@@ -126,34 +126,35 @@ goes_on shared old now gate before added held later seat lock inside grown =
 pub known_without : (account : Account) (clock : Clock) → IsKnown account clock → IsKnown (without_oracle account) clock
 known_without account clock known = record { eight = known.eight; counts = known.counts; raised = known.raised }
 
+-- a clock that is known without the oracle's log is known with it
 pub known_with : (account : Account) (clock : Clock) → IsKnown (without_oracle account) clock → IsKnown account clock
 known_with account clock known = record { eight = known.eight; counts = known.counts; raised = known.raised }
 
 -- what the hand knows the gatekeeper does
 pub known_there : GateLaws → (shared : Shared) (old : Hand) (m : NotedGate) → GateIsKept m.gate m.notes
-    → IsWithin (without_oracle (seen_by old)) (seen_of m.gate m.notes) → (clock : Clock) → IsKnown (seen_by old) clock
-    → IsKnown (seen_of m.gate m.notes) clock
+    → IsWithin (without_oracle (seen_by old)) (seen_of_gate m.gate m.notes) → (clock : Clock) → IsKnown (seen_by old) clock
+    → IsKnown (seen_of_gate m.gate m.notes) clock
 known_there rules shared old m kept within clock known =
-    rules.stays m.gate.gates m.gate.shards (without_oracle (seen_by old)) (seen_of m.gate m.notes) within.gates within.store within.shards
+    rules.stays m.gate.gates m.gate.shards (without_oracle (seen_by old)) (seen_of_gate m.gate m.notes) within.gates within.store within.shards
     kept.legal.shard_logs [] 0 (Heard clock) (known_without (seen_by old) clock known)
 
 -- the log of a gatekeeper in what it has seen
-own_log : (m : NotedGate) → GateIsKept m.gate m.notes → gate_log (seen_of m.gate m.notes) m.gate.home ≡ m.gate.log
+own_log : (m : NotedGate) → GateIsKept m.gate m.notes → gate_log (seen_of_gate m.gate m.notes) m.gate.home ≡ m.gate.log
 own_log m kept =
-    let logs = map gate_entries (map noted m.notes.gates.items) in
+    let logs = map gate_entries (map seen_by_note m.notes.gates.items) in
     get_or-set_same logs m.gate.home m.gate.log [] (omega (
       arith,
       kept.home,
       kept.gates,
-      length-map (map noted m.notes.gates.items) gate_entries,
-      length-map m.notes.gates.items noted,
+      length-map (map seen_by_note m.notes.gates.items) gate_entries,
+      length-map m.notes.gates.items seen_by_note,
     ))
 
 module _ (rules : GateLaws) (shared : Shared) (old now : Hand) (gate : ℕ) (held : Held NotedGate GateDeed) where
   -- a stamp that the hand knows counts no more of the gatekeeper's events than it made
   pub hears_no_more : gate < length shared.gates.items → IsInGate shared old now gate (machine_of held).gate.log [] held
       → GateIsKept (machine_of held).gate (machine_of held).notes
-      → IsWithin (without_oracle (seen_by old)) (seen_of (machine_of held).gate (machine_of held).notes) → (last : Option Stamp)
+      → IsWithin (without_oracle (seen_by old)) (seen_of_gate (machine_of held).gate (machine_of held).notes) → (last : Option Stamp)
       → ForSome last (λ heard. IsKnown (seen_by old) heard.clock)
       → ForSome last (λ heard. IsTrue (counts_no_more gate (clock_of gate (machine_of held).gate.log) heard.clock))
   hears_no_more low inside kept within last known heard is =
@@ -163,12 +164,12 @@ module _ (rules : GateLaws) (shared : Shared) (old now : Hand) (gate : ℕ) (hel
       let at = own_log m kept in
       let small : home < 8 = omega (arith, low, few, inside.machine.home) in
       let there = known_there rules shared old m kept within heard.clock (known heard is) in
-      let hears = rules.may_be_heard m.gate.shards home (seen_of m.gate m.notes) small (kept.legal.gate_logs home) heard.clock there in
+      let hears = rules.may_be_heard m.gate.shards home (seen_of_gate m.gate m.notes) small (kept.legal.gate_logs home) heard.clock there in
       subst (λ (z : ℕ × List GateEntry). IsTrue (counts_no_more z.0 (clock_of z.0 z.1) heard.clock)) (λ i. (inside.machine.home i, at i)) hears
 
 -- what the gatekeeper knows the hand does when it has left
 pub known_after : {A F : Type 0} (new : Hand) (m : NotedGate) (result : Result A F) (clock : A → Clock)
-    → seen_of m.gate m.notes ≡ without_oracle (seen_by new) → IfOk result (λ answer. IsKnown (seen_of m.gate m.notes) (clock answer))
+    → seen_of_gate m.gate m.notes ≡ without_oracle (seen_by new) → IfOk result (λ answer. IsKnown (seen_of_gate m.gate m.notes) (clock answer))
     → IfOk result (λ answer. IsKnown (seen_by new) (clock answer))
 known_after new m (Ok answer) clock same known =
     known_with (seen_by new) (clock answer) (subst (λ (a : Account). IsKnown a (clock answer)) same known)
@@ -200,6 +201,7 @@ pub record IsFoundAs (state : NotedGate) (gate shards : ℕ) (before : List Gate
   pub shards_are : state.gate.shards ≡ shards
   pub log : state.gate.log ≡ before
 
+-- in a hold without entries yet, the gatekeeper was found with its number, the number of shards and its log
 pub found_as : (shared : Shared) (old now : Hand) (gate : ℕ) (held : Held NotedGate GateDeed) (state : NotedGate) → state ≡ machine_of held
     → IsInGate shared old now gate (machine_of held).gate.log [] held
     → IsFoundAs state gate (length shared.shards.items) (machine_of held).gate.log
@@ -217,10 +219,10 @@ as_found P state gate shards before found holds =
 
 -- a program's visits were seen by the gatekeeper if the hand has seen them
 pub ends_there : GateLaws → (old : Hand) (m : NotedGate) → GateIsKept m.gate m.notes
-    → IsWithin (without_oracle (seen_by old)) (seen_of m.gate m.notes) → (request : ℕ) → EndsAsSeen (seen_by old) request
-    → EndsAsSeen (seen_of m.gate m.notes) request
+    → IsWithin (without_oracle (seen_by old)) (seen_of_gate m.gate m.notes) → (request : ℕ) → EndsAsSeen (seen_by old) request
+    → EndsAsSeen (seen_of_gate m.gate m.notes) request
 ends_there rules old m kept within request ends =
-    rules.stays m.gate.gates m.gate.shards (without_oracle (seen_by old)) (seen_of m.gate m.notes) within.gates within.store within.shards
+    rules.stays m.gate.gates m.gate.shards (without_oracle (seen_by old)) (seen_of_gate m.gate m.notes) within.gates within.store within.shards
     kept.legal.shard_logs [] 0 (Finished request)
     (record { program = ends.program; reads = ends.reads; read = ends.read; whole = ends.whole })
 
@@ -231,11 +233,11 @@ OfFetched result P = IfOk result (λ found. ForSome found P)
 module _ (new : Hand) (state : NotedGate) (gate shards shard number : ℕ) (before : List GateEntry)
     (was : IsFoundAs state gate shards before) where
   -- a message that was fetched may arrive
-  pub may_arrive : {F : Type 0} (result : Result (Option Message) F)
-      → gate_log (seen_by new) gate ≡ before ++ [] → seen_of state.gate state.notes ≡ without_oracle (seen_by new)
-      → OfFetched result (λ one. Contains (addressed_to shard state.gate.log) (record { shard = shard; number = number; message = one }))
-      → OfFetched result (λ one. IsMade state.gate.shards (seen_of state.gate state.notes).store shard one)
-      → OfFetched result (λ one. ArrivesAsSeen (seen_by new) shards shard gate number one)
+  pub may_arrive : {F : Type 0} (r : Result (Option Message) F)
+      → gate_log (seen_by new) gate ≡ before ++ [] → seen_of_gate state.gate state.notes ≡ without_oracle (seen_by new)
+      → OfFetched r (λ one. Contains (addressed_to shard state.gate.log) (record { shard = shard; number = number; message = one }))
+      → OfFetched r (λ one. IsMade state.gate.shards (seen_of_gate state.gate state.notes).store shard one)
+      → OfFetched r (λ one. ArrivesAsSeen (seen_by new) shards shard gate number one)
   may_arrive (Ok found) left same sent made = λ one is. record {
     sent = subst (λ (l : List GateEntry). Contains (addressed_to shard l) (record { shard = shard; number = number; message = one }))
         (was.log ∙ (sym (append-nil before) ∙ sym left)) (sent one is);

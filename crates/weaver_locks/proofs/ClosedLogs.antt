@@ -13,12 +13,12 @@ use Rattle.chronicle.specs.declared.pass.Pass.{Pass}
 use Rattle.chronicle.specs.Frames.{Frame}
 use Rattle.chronicle.specs.Logs.{Log, entries_of, IsGrown}
 use Rattle.chronicle.specs.Locks.{Lock, lock_of}
-use Rattle.chronicle.specs.Passes.{number_of, seen, own}
+use Rattle.chronicle.specs.Passes.{number_of, seen_by_pass, own_entries}
 use Rattle.lock_row.proofs.Lists.{one_of}
 use Rattle.weaver_locks.specs.declared.hand.Hand.{Hand}
 use Rattle.weaver_locks.specs.Hands.{hand_number}
 use Rattle.weaver_locks.specs.Rooms.{HaveGathered}
-use Rattle.weaver_locks.specs.ClosedRows.{IsClosed, AreClosed}
+use Rattle.weaver_locks.specs.ClosedRows.{CameOut, AreClosed}
 use Rattle.weaver_locks.specs.ClosingLaws.{OwnEntries}
 use Rattle.weaver_locks.proofs.Lists.{all_unmapped, any_unmapped}
 
@@ -54,21 +54,21 @@ module _ {E : Type 0} (hands : List Hand) where
   module _ {M : Type 0} (frame_of : M → Frame) (log_of : M → Log E) where
     -- what `close` says of passes, said of hands
     pub closed_log : (part : Hand → Pass E) (lock : Lock E) (m : M) (ps : List (Pass E)) → ps ≡ map part hands
-        → All (λ h. number_of (part h) ≡ hand_number h) hands → IsClosed frame_of log_of lock ps m
-        → IsClosedLog (λ h. seen (part h)) lock.passes lock.start (log_of m)
+        → All (λ h. number_of (part h) ≡ hand_number h) hands → CameOut frame_of log_of lock ps m
+        → IsClosedLog (λ h. seen_by_pass (part h)) lock.passes lock.start (log_of m)
     closed_log part lock m ps is numbers closed = record {
-      longest = any_unmapped (λ p. seen p ≡ log_of m) part hands (subst (Any (λ p. seen p ≡ log_of m)) is closed.longest);
-      prefixes = all_unmapped (λ p. IsPrefix (seen p) (log_of m)) part hands (subst (All (λ p. IsPrefix (seen p) (log_of m))) is closed.prefixes);
-      own = λ k d low. subst (λ (n : ℕ). entries_of n (log_of m) ≡ entries_of n (seen (part (get_or hands k d)))) (numbers k d low)
-          (all_unmapped (λ p. entries_of (number_of p) (log_of m) ≡ own p) part hands
-          (subst (All (λ p. entries_of (number_of p) (log_of m) ≡ own p)) is closed.own) k d low);
+      longest = any_unmapped (λ p. seen_by_pass p ≡ log_of m) part hands (subst (Any (λ p. seen_by_pass p ≡ log_of m)) is closed.longest);
+      prefixes = all_unmapped (λ p. IsPrefix (seen_by_pass p) (log_of m)) part hands (subst (All (λ p. IsPrefix (seen_by_pass p) (log_of m))) is closed.prefixes);
+      own = λ k d low. subst (λ (n : ℕ). entries_of n (log_of m) ≡ entries_of n (seen_by_pass (part (get_or hands k d)))) (numbers k d low)
+          (all_unmapped (λ p. entries_of (number_of p) (log_of m) ≡ own_entries p) part hands
+          (subst (All (λ p. entries_of (number_of p) (log_of m) ≡ own_entries p)) is closed.own) k d low);
       authors = closed.authors;
     }
 
     module _ (row : Hand → List (Pass E)) (locks : List (Chronicle M E)) (rooms : List (Vec (Pass E) Global)) (machines : List M) (passes count : ℕ)
         (hand : Hand) (there : Contains hands hand) (lengths : All (λ h. length (row h) ≡ length locks) hands) where
       abbrev seen_at : ℕ → Hand → Log E
-      seen_at k h = get_or (map seen (row h)) k []
+      seen_at k h = get_or (map seen_by_pass (row h)) k []
 
       abbrev start_at : ℕ → Log E
       start_at k = get_or (map (λ (c : Chronicle M E). (lock_of c).start) locks) k []
@@ -83,7 +83,7 @@ module _ {E : Type 0} (hands : List Hand) where
           let log : log_at k ≡ [] = get_or_past (map log_of machines) k [] (omega (arith, far, long, length-map machines log_of)) in
           subst (λ (z : Log E × Log E). IsClosedLog (seen_at k) passes z.0 z.1) (λ i. (sym start i, sym log i))
           (closed_alike (λ h. []) (seen_at k) passes [] []
-          (λ j d low. let r = row (get_or hands j d) in sym (get_or_past (map seen r) k [] (omega (arith, far, lengths j d low, length-map r seen))))
+          (λ j d low. let r = row (get_or hands j d) in sym (get_or_past (map seen_by_pass r) k [] (omega (arith, far, lengths j d low, length-map r seen_by_pass))))
           (closed_empty passes hand there))
 
       near_closed : (k : ℕ) → k < length locks → length machines ≡ length locks → length rooms ≡ length locks
@@ -105,8 +105,8 @@ module _ {E : Type 0} (hands : List Hand) where
           let start : lock.start ≡ start_at k = sym (get_or-map S locks k c [] low) in
           let log : log_of (get_or machines k m) ≡ log_at k = sym (get_or-map log_of machines k m [] (omega (arith, low, long))) in
           subst (λ (z : ℕ × Log E × Log E). IsClosedLog (seen_at k) z.0 z.1 z.2) (λ i. (all k c low i, start i, log i))
-          (closed_alike (λ h. seen (part h)) (seen_at k) lock.passes lock.start (log_of (get_or machines k m))
-          (λ j d l. let r = row (get_or hands j d) in sym (get_or-map seen r k p [] (omega (arith, low, lengths j d l)))) is)
+          (closed_alike (λ h. seen_by_pass (part h)) (seen_at k) lock.passes lock.start (log_of (get_or machines k m))
+          (λ j d l. let r = row (get_or hands j d) in sym (get_or-map seen_by_pass r k p [] (omega (arith, low, lengths j d l)))) is)
 
       -- the closed logs of a row, by place
       pub row_closed : length machines ≡ length locks → length rooms ≡ length locks

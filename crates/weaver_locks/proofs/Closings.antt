@@ -20,21 +20,21 @@ use Rattle.chronicle.specs.declared.pass.Pass.{Pass}
 use Rattle.chronicle.specs.Frames.{Frame}
 use Rattle.chronicle.specs.Logs.{Log}
 use Rattle.chronicle.specs.Locks.{Lock, lock_of}
-use Rattle.chronicle.specs.Passes.{AreAll, IsReady, number_of, seen}
+use Rattle.chronicle.specs.Passes.{AreAll, IsReady, number_of, seen_by_pass}
 use Rattle.lock_row.specs.Rows.{AreReady}
 use Rattle.lock_row.proofs.Lists.{one_of}
-use Rattle.gate_lock.specs.declared.noted.NotedGate.{NotedGate}
-use Rattle.gate_lock.specs.Notes as gate
+use Rattle.gate_lock.specs.declared.noted_gate.NotedGate.{NotedGate}
+use Rattle.gate_lock.specs.Notes.{frame_of_gate}
 use Rattle.oracle_lock.specs.declared.noted_oracle.NotedOracle.{NotedOracle}
 use Rattle.store_lock.specs.declared.noted_store.NotedStore.{NotedStore}
-use Rattle.shard_lock.specs.declared.noted.NotedShard.{NotedShard}
-use Rattle.shard_lock.specs.Notes as shard
+use Rattle.shard_lock.specs.declared.noted_shard.NotedShard.{NotedShard}
+use Rattle.shard_lock.specs.Notes.{frame_of_shard}
 use Rattle.weaver_locks.specs.declared.hand.Hand.{Hand}
 use Rattle.weaver_locks.specs.declared.shared.Shared.{Shared}
 use Rattle.weaver_locks.specs.Locks.{hands_of, start_of}
 use Rattle.weaver_locks.specs.Hands.{hand_number, made_by, seen_by, IsHand}
 use Rattle.weaver_locks.specs.Rooms.{AreRooms, HaveGathered, IsRoom}
-use Rattle.weaver_locks.specs.ClosedRows.{AreClosed, HaveAll, IsClosed}
+use Rattle.weaver_locks.specs.ClosedRows.{AreClosed, HaveAll, CameOut}
 use Rattle.weaver_locks.specs.Closing.{AreInOrder, AreEntriesOfHands, entries_by, logs_of, seen_by_number}
 use Rattle.weaver_locks.specs.ClosingLaws.{ClosingLaws}
 use Rattle.weaver_locks.proofs.Lists.{map_twice}
@@ -46,6 +46,7 @@ use Rattle.weaver_locks.proofs.OwnLogs.{closed_own}
 pub fewer : {A : Type 0} (n m : ℕ) (room : Vec A Global) → m ≤ n → IsRoom n room → IsRoom m room
 fewer n m room le is = record { none = is.none; space = omega (arith, is.space, le) }
 
+-- and so it is with each room of a row
 pub fewer_each : {A : Type 0} (n m : ℕ) (rooms : List (Vec A Global)) → m ≤ n → AreRooms n rooms → AreRooms m rooms
 fewer_each n m rooms le are k room low = fewer n m (get_or rooms k room) le (are k room low)
 
@@ -74,6 +75,7 @@ module _ (laws : ClosingLaws) where
   shards_back [] = refl
   shards_back (n ∷ ns) = let first = laws.shard_records n.shard.log in let rest = shards_back ns in λ i. sym first i ∷ rest i
 
+  -- the logs of the machines make the same account as their locks' logs do
   pub logs_back : (gates : List NotedGate) (store : NotedStore) (oracle : NotedOracle) (shards : List NotedShard)
       → logs_of (map (λ (n : NotedGate). n.gate) gates) store.store oracle.oracle (map (λ (n : NotedShard). n.shard) shards)
       ≡ account_of_logs (map (λ (n : NotedGate). map gate_pair n.gate.log) gates) (map store_pair store.store)
@@ -104,6 +106,7 @@ module _ (shared : Shared) (hands : List Hand) (each : All (IsHand shared) hands
     module _ {M : Type 0} (row : Hand → List (Pass E)) (locks : List (Chronicle M E)) (rooms : List (Vec (Pass E) Global)) (count : ℕ)
         (lengths : All (λ h. length (row h) ≡ length locks) hands) (numbers : All (λ h. All (λ p. number_of p ≡ hand_number h) (row h)) hands)
         (many : All (λ (c : Chronicle M E). (lock_of c).passes ≡ hands_of shared) locks) where
+      -- if the passes of all hands were put into the rooms of a row, each room has all passes of its lock
       pub row_all : length rooms ≡ length locks → HaveGathered row count hands rooms → All (λ h. AreReady locks (row h)) hands → HaveAll locks rooms
       row_all long gathered ready k c room low =
           let first = first_hand in
@@ -113,22 +116,23 @@ module _ (shared : Shared) (hands : List Hand) (each : All (IsHand shared) hands
           (gathered k p room (omega (arith, low, long))).items (many k c low)
           (λ j d l. ready j d l k c p low) (λ j d l. numbers j d l k p (omega (arith, low, lengths j d l)))
 
+      -- if a row's locks are closed with all hands' passes, some hand has seen each log whole, all a beginning of it
       pub row_logs : (frame_of : M → Frame) (log_of : M → Log E) (machines : List M) → length machines ≡ length locks
           → length rooms ≡ length locks → AreClosed frame_of log_of locks rooms machines → HaveGathered row count hands rooms
-          → (k : ℕ) → IsClosedLog hands (λ h. get_or (map seen (row h)) k []) (hands_of shared)
+          → (k : ℕ) → IsClosedLog hands (λ h. get_or (map seen_by_pass (row h)) k []) (hands_of shared)
           (get_or (map (λ (c : Chronicle M E). (lock_of c).start) locks) k []) (get_or (map log_of machines) k [])
       row_logs frame_of log_of machines long rooms_long closed gathered =
           let first = first_hand in
           row_closed hands frame_of log_of row locks rooms machines (hands_of shared) count first.0 first.1 lengths long rooms_long closed gathered many numbers
 
   abbrev gate_frame_of : NotedGate → Frame
-  gate_frame_of n = gate.frame_of n.gate n.notes
+  gate_frame_of n = frame_of_gate n.gate n.notes
 
   abbrev gate_log_of : NotedGate → Log GateDeed
   gate_log_of n = map gate_pair n.gate.log
 
   abbrev shard_frame_of : NotedShard → Frame
-  shard_frame_of n = shard.frame_of n.shard n.shards n.notes
+  shard_frame_of n = frame_of_shard n.shard n.shards n.notes
 
   abbrev shard_log_of : NotedShard → Log ShardDeed
   shard_log_of n = map shard_pair n.shard.log
@@ -146,8 +150,8 @@ module _ (shared : Shared) (hands : List Hand) (each : All (IsHand shared) hands
     pub oracle_gathered : oracle_room ≡ map (λ h. h.oracle) hands
     pub shards_gathered : HaveGathered (λ h. h.shards.items) count hands shard_rooms
     pub gates_closed : AreClosed gate_frame_of gate_log_of shared.gates.items gate_rooms gates
-    pub store_closed : IsClosed (λ (n : NotedStore). (lock_of shared.store).frame) (λ n. map store_pair n.store) (lock_of shared.store) store_room store
-    pub oracle_closed : IsClosed (λ (n : NotedOracle). (lock_of shared.oracle).frame) (λ n. map oracle_pair n.oracle) (lock_of shared.oracle) oracle_room oracle
+    pub store_closed : CameOut (λ (n : NotedStore). (lock_of shared.store).frame) (λ n. map store_pair n.store) (lock_of shared.store) store_room store
+    pub oracle_closed : CameOut (λ (n : NotedOracle). (lock_of shared.oracle).frame) (λ n. map oracle_pair n.oracle) (lock_of shared.oracle) oracle_room oracle
     pub shards_closed : AreClosed shard_frame_of shard_log_of shared.shards.items shard_rooms shards
 
   module _ (gate_rooms : List (Vec (Pass GateDeed) Global)) (store_room : List (Pass StoreDeed)) (oracle_room : List (Pass OracleDeed))
@@ -188,6 +192,7 @@ module _ (shared : Shared) (hands : List Hand) (each : All (IsHand shared) hands
         let numbers = gate_numbers v.number v.gates (get_or shards k n).shards k (length shared.gates.items) (length shared.shards.items) _ _ is in
         (ap (λ (x : ShardView). x.number) at ∙ numbers.0, ap (λ (x : ShardView). x.gates) at ∙ numbers.1)
 
+    -- the gatekeepers and shards that came out are in order
     pub in_order : AreInOrder gates_out shards_out
     in_order =
         let gate_count : length gates_out ≡ length shared.gates.items = length-map gates (λ (n : NotedGate). n.gate) ∙ out.gate_count in
@@ -211,7 +216,7 @@ module _ (shared : Shared) (hands : List Hand) (each : All (IsHand shared) hands
           shared.framed.gate_passes gate_frame_of gate_log_of gates out.gate_count out.gate_room_count out.gates_closed out.gates_gathered;
       store_log = closed_log hands (λ (n : NotedStore). (lock_of shared.store).frame) (λ n. map store_pair n.store) (λ h. h.store) (lock_of shared.store)
           store store_room out.store_gathered (λ k d low. refl) out.store_closed;
-      oracle_log = subst (λ (n : ℕ). IsClosedLog hands (λ h. seen h.oracle) n (lock_of shared.oracle).start (map oracle_pair oracle.oracle))
+      oracle_log = subst (λ (n : ℕ). IsClosedLog hands (λ h. seen_by_pass h.oracle) n (lock_of shared.oracle).start (map oracle_pair oracle.oracle))
           shared.framed.oracle_passes
           (closed_log hands (λ (n : NotedOracle). (lock_of shared.oracle).frame) (λ n. map oracle_pair n.oracle) (λ h. h.oracle) (lock_of shared.oracle)
           oracle oracle_room out.oracle_gathered
@@ -229,12 +234,14 @@ module _ (shared : Shared) (hands : List Hand) (each : All (IsHand shared) hands
       back : logs_out ≡ account_of_logs (map gate_log_of gates) (map store_pair store.store) (map oracle_pair oracle.oracle) (map shard_log_of shards)
       back = logs_back laws gates store oracle shards
 
+      -- the logs of the machines that came out are legal
       pub legal : AreLegal (length shared.gates.items) (length shared.shards.items) logs_out
       legal = subst (AreLegal (length shared.gates.items) (length shared.shards.items)) (sym back)
           (closed_legal laws hands (hands_of shared) _ _ _ _ (map gate_log_of gates) (map store_pair store.store) (map oracle_pair oracle.oracle)
           (map shard_log_of shards) run (length shared.gates.items) (length shared.shards.items)
           (All-weaker (IsHand shared) (λ h. AreLegal (length shared.gates.items) (length shared.shards.items) (seen_by h)) (λ h is. is.legal) hands each))
 
+      -- what each hand has seen is within these logs
       pub within : All (λ h. IsWithin (seen_by h) logs_out) hands
       within k d low =
           let h : Hand = get_or hands k d in
@@ -243,12 +250,14 @@ module _ (shared : Shared) (hands : List Hand) (each : All (IsHand shared) hands
           (starts_of shared.shards.items) (map gate_log_of gates) (map store_pair store.store) (map oracle_pair oracle.oracle) (map shard_log_of shards)
           run h (Contains-get_or hands k d low))
 
+      -- each entry of these logs was there at the start, or is of a hand, which has seen it
       pub entries : AreEntriesOfHands (hands_of shared) (start_of shared) (seen_by_number hands) logs_out
       entries = subst (AreEntriesOfHands (hands_of shared) (start_of shared) (seen_by_number hands)) (sym back)
           (closed_entries laws hands (hands_of shared) (starts_of shared.gates.items) (lock_of shared.store).start (lock_of shared.oracle).start
           (starts_of shared.shards.items) (map gate_log_of gates) (map store_pair store.store) (map oracle_pair oracle.oracle) (map shard_log_of shards)
           run all)
 
+      -- if the hands' visits since the start are of their own programs, these logs are of these hands
       pub of_hands : ((n : ℕ) → n < hands_of shared → VisitsOwnPrograms n (start_of shared) (seen_by_number hands n))
           → AreOfHands (length shared.shards.items) (hands_of shared) (start_of shared) (seen_by_number hands) logs_out
       of_hands visits = subst (AreOfHands (length shared.shards.items) (hands_of shared) (start_of shared) (seen_by_number hands)) (sym back)
@@ -256,6 +265,7 @@ module _ (shared : Shared) (hands : List Hand) (each : All (IsHand shared) hands
           (starts_of shared.shards.items) (map gate_log_of gates) (map store_pair store.store) (map oracle_pair oracle.oracle) (map shard_log_of shards)
           run all (length shared.shards.items) shared.framed.some_pass (λ k d low. (each k d low).seen) visits)
 
+      -- the entries in these logs with a hand's number are those that the hand made
       pub made : All (λ h. entries_by (hand_number h) logs_out ≡ made_by h) hands
       made k d low =
           let h : Hand = get_or hands k d in

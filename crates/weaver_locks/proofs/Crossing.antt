@@ -25,14 +25,14 @@ use Rattle.weave_entries.specs.contracts.oracle_log.OracleDeed as oracle_deed
 use Rattle.weave_entries.specs.contracts.shard_log.ShardDeed as shard_deed
 use Rattle.weave_entries.specs.contracts.store_log.StoreDeed as store_deed
 use Rattle.gate_lock.proofs.Crossing as gate_lock
-use Rattle.gate_lock.specs.contracts.noted.NotedGate as noted_gate
-use Rattle.gate_lock.specs.contracts.noted.NotedGateMachine.TheImpl as gate_machine
+use Rattle.gate_lock.specs.contracts.noted_gate.NotedGate as noted_gate
+use Rattle.gate_lock.specs.contracts.noted_gate.NotedGateMachine.TheImpl as gate_machine
 use Rattle.oracle_lock.proofs.noted_oracle.NotedOracle.TheSendSync as oracle_sends
 use Rattle.oracle_lock.specs.contracts.noted_oracle.NotedOracle as noted_oracle
 use Rattle.oracle_lock.specs.contracts.noted_oracle.NotedOracleMachine.TheImpl as oracle_machine
 use Rattle.shard_lock.proofs.Crossing as shard_lock
-use Rattle.shard_lock.specs.contracts.noted.NotedShard as noted_shard
-use Rattle.shard_lock.specs.contracts.noted.NotedShardMachine.TheImpl as shard_machine
+use Rattle.shard_lock.specs.contracts.noted_shard.NotedShard as noted_shard
+use Rattle.shard_lock.specs.contracts.noted_shard.NotedShardMachine.TheImpl as shard_machine
 use Rattle.store_lock.proofs.noted_store.NotedStore.TheSendSync as store_sends
 use Rattle.store_lock.specs.contracts.noted_store.NotedStore as noted_store
 use Rattle.store_lock.specs.contracts.noted_store.NotedStoreMachine.TheImpl as store_machine
@@ -55,6 +55,7 @@ hand_send_within = struct_send (shape hand.the_type) (
   ),
 )
 
+-- a hand may be sent to another thread
 pub hand_send : IsSend hand.the_row
 hand_send = recorded_send hand.the_field.row _ _ hand.the_type.to_one hand_send_within
 
@@ -121,6 +122,7 @@ store_sync = chronicle_sync_within noted_store.the_row store_deed.the_row store_
 oracle_sync : IsSync (chronicle.the_field noted_oracle.the_row oracle_deed.the_row oracle_machine.ghosts).row
 oracle_sync = chronicle_sync_within noted_oracle.the_row oracle_deed.the_row oracle_machine.ghosts oracle_sends.the_send
 
+-- the locks of a run may be shared by threads
 pub shared_sync : IsSync shared.the_row
 shared_sync = record {
   shared = λ s. let f = shared.the_type.to s in struct_sync_at (shape shared.the_type) f (

@@ -14,6 +14,7 @@ module _ (locks : Locks) (count : ℕ) where
   abbrev pub DealtSoFar : List Hand → ℕ → Type 0
   DealtSoFar hands i = (k : ℕ) (h : Hand) → k < i → IsNewHand locks (count - 1 - k) (get_or hands k h)
 
+  -- with the new hand of the next lower number at the end, one hand more is dealt, from the last number down
   pub dealt_more : (hands : List Hand) (i : ℕ) (hand : Hand) → length hands ≡ i → DealtSoFar hands i
       → IsNewHand locks (count - 1 - i) hand → DealtSoFar (hands ++ hand ∷ []) (i + 1)
   dealt_more hands i hand long so_far one k h below = dite (ℕ_discrete k i)

@@ -25,17 +25,21 @@ row-at f none row k = list_at f none row k
 
 -- the entries of a log with this author, at each place
 module _ (number : ℕ) (account : Account) where
+  -- the author's part of a gatekeeper's log has just the entries there with its number
   pub gate-by : (home : ℕ) → gate_log (entries_by number account) home ≡ filter (λ (e : GateEntry). eqb e.author number) (gate_log account home)
   gate-by = row-at (filter (λ (e : GateEntry). eqb e.author number)) refl account.gates
 
+  -- the same of a shard's log
   pub shard-by : (shard : ℕ) → shard_log (entries_by number account) shard ≡ filter (λ (e : ShardEntry). eqb e.author number) (shard_log account shard)
   shard-by = row-at (filter (λ (e : ShardEntry). eqb e.author number)) refl account.shards
 
 -- what a hand made at each place
 module _ (shared : Shared) (hand : Hand) (is : IsHand shared hand) where
+  -- what the hand made at a gatekeeper are just the entries with its number that it has seen there
   pub own-gate : (home : ℕ) → gate_log (made_by hand) home ≡ filter (λ (e : GateEntry). eqb e.author (hand_number hand)) (gate_log (seen_by hand) home)
   own-gate home = ap (λ (a : Account). gate_log a home) (made_of_seen shared hand is) ∙ gate-by (hand_number hand) (seen_by hand) home
 
+  -- the same of a shard
   pub own-shard : (shard : ℕ) → shard_log (made_by hand) shard ≡ filter (λ (e : ShardEntry). eqb e.author (hand_number hand)) (shard_log (seen_by hand) shard)
   own-shard shard = ap (λ (a : Account). shard_log a shard) (made_of_seen shared hand is) ∙ shard-by (hand_number hand) (seen_by hand) shard
 
@@ -48,22 +52,26 @@ there {E} author number seen whole on e has by =
 
 module _ (one other : Hand) (closed : Account) (within : IsWithin (seen_by other) closed)
     (made : entries_by (hand_number one) closed ≡ made_by one) where
+  -- once locks are closed, an entry with a hand's number that another hand has seen at a gatekeeper is the hand's own
   pub seen-gate-made : (home : ℕ) (e : GateEntry) → Contains (gate_log (seen_by other) home) e → e.author ≡ hand_number one
       → Contains (gate_log (made_by one) home) e
   seen-gate-made home e has by =
       subst (λ (l : List GateEntry). Contains l e) (sym (gate-by (hand_number one) closed home) ∙ ap (λ (a : Account). gate_log a home) made)
       (there (λ (x : GateEntry). x.author) (hand_number one) (gate_log (seen_by other) home) (gate_log closed home) (within.gates home) e has by)
 
+  -- the same of the store
   pub seen-store-made : (e : StoreEntry) → Contains (seen_by other).store e → e.author ≡ hand_number one → Contains (made_by one).store e
   seen-store-made e has by =
       subst (λ (l : List StoreEntry). Contains l e) (ap (λ (a : Account). a.store) made)
       (there (λ (x : StoreEntry). x.author) (hand_number one) (seen_by other).store closed.store within.store e has by)
 
+  -- the same of the oracle
   pub seen-oracle-made : (e : OracleEntry) → Contains (seen_by other).oracle e → e.author ≡ hand_number one → Contains (made_by one).oracle e
   seen-oracle-made e has by =
       subst (λ (l : List OracleEntry). Contains l e) (ap (λ (a : Account). a.oracle) made)
       (there (λ (x : OracleEntry). x.author) (hand_number one) (seen_by other).oracle closed.oracle within.oracle e has by)
 
+  -- the same of a shard
   pub seen-shard-made : (shard : ℕ) (e : ShardEntry) → Contains (shard_log (seen_by other) shard) e → e.author ≡ hand_number one
       → Contains (shard_log (made_by one) shard) e
   seen-shard-made shard e has by =

@@ -10,12 +10,12 @@ use Rattle.shard_node.specs.Shards.{ShardView}
 use Rattle.seen_logs.specs.Entries.{gate_pair, oracle_pair, shard_pair, store_pair}
 use Rattle.chronicle.specs.Passes.{lock_noted}
 use Rattle.lock_row.proofs.Lists.{one_of}
-use Rattle.gate_lock.specs.declared.noted.NotedGate.{NotedGate}
+use Rattle.gate_lock.specs.declared.noted_gate.NotedGate.{NotedGate}
 use Rattle.gate_lock.specs.Frames.{gate_frame}
-use Rattle.gate_lock.specs.Notes as gate
-use Rattle.shard_lock.specs.declared.noted.NotedShard.{NotedShard}
+use Rattle.gate_lock.specs.Notes.{frame_of_gate}
+use Rattle.shard_lock.specs.declared.noted_shard.NotedShard.{NotedShard}
 use Rattle.shard_lock.specs.Frames.{shard_frame}
-use Rattle.shard_lock.specs.Notes as shard
+use Rattle.shard_lock.specs.Notes.{frame_of_shard}
 use Rattle.weaver_locks.specs.declared.locks.Locks.{Locks}
 use Rattle.weaver_locks.specs.declared.machines.Machines.{Machines}
 use Rattle.weaver_locks.specs.Opened.{frame_for_gate, frame_for_oracle, frame_for_shard, frame_for_store, AreOpened}
@@ -25,11 +25,11 @@ module _ (locks : Locks) (gates : List GateView) (store : List StoreEntry) (orac
     (opened : AreOpened locks gates store oracle shards) (gate_count : length locks.gates.items ≡ length gates)
     (shard_count : length locks.shards.items ≡ length shards) where
   -- the frame that a gatekeeper's notes give
-  noted_frame : (n : NotedGate) → GateNotesStart locks n.notes → gate.frame_of n.gate n.notes ≡ frame_for_gate locks n.gate
+  noted_frame : (n : NotedGate) → GateNotesStart locks n.notes → frame_of_gate n.gate n.notes ≡ frame_for_gate locks n.gate
   noted_frame n is i = gate_frame n.gate.home n.gate.gates n.gate.shards (is.gates.names i) (is.store.lock_is i) (is.shards.names i)
 
   noted_shard_frame : (n : NotedShard) → n.shards ≡ length shards → ShardNotesStart locks n.notes
-      → shard.frame_of n.shard n.shards n.notes ≡ frame_for_shard locks (length shards) n.shard
+      → frame_of_shard n.shard n.shards n.notes ≡ frame_for_shard locks (length shards) n.shard
   noted_shard_frame n many is i = shard_frame n.shard.number n.shard.gates (many i) (is.store.lock_is i) (is.oracle.lock_is i) (is.gates.names i)
 
   -- machines whose views are these, and whose notes start as the locks are

@@ -6,7 +6,7 @@ use Rattle.chronicle.specs.declared.chronicle.Chronicle.{Chronicle}
 use Rattle.chronicle.specs.Frames.{Frame}
 use Rattle.chronicle.specs.Locks.{lock_of}
 use Rattle.lock_row.specs.Rows.{names_of}
-use Rattle.gate_lock.specs.declared.noted.NotedGate.{NotedGate}
+use Rattle.gate_lock.specs.declared.noted_gate.NotedGate.{NotedGate}
 use Rattle.weaver_locks.specs.declared.shared.Shared.{Shared}
 
 -- its first list, its second, and all but its first

@@ -63,6 +63,7 @@ module _ (within : (seen : Account) → IsWithin seen seen) (gate_first : (home 
         absurd (no-entry before _ asked.after (sym (shard-none shard) ∙ asked.at));
   }
 
+  -- from 1 to 8 gatekeepers and from 1 to 16 shards, without entries and in order, may be put behind locks
   pub may-start : 1 ≤ length gates → length gates ≤ 8 → 1 ≤ length shards → length shards ≤ 16 → AreInOrder gates shards
       → MayStart gates [] [] shards
   may-start some few some_shard few_shards order = record {

@@ -15,6 +15,7 @@ module _ {A : Type 0} (elements : List A) (old : List (Vec A Global)) where
   TakenSoFar now i = (k : ℕ) (element : A) (room : Vec A Global) → k < i
       → HasTaken (get_or elements k element) (get_or old k room) (get_or now k room)
 
+  -- if the lists before this one have taken their elements, and it takes its own, one list more has
   pub taken_more : (now : List (Vec A Global)) (k : ℕ) (x : A) (v w : Vec A Global) → k < length now
       → ((d : A) → get_or elements k d ≡ x) → ((r : Vec A Global) → get_or old k r ≡ v) → HasTaken x v w
       → TakenSoFar now k → TakenSoFar (set now k w) (k + 1)
@@ -26,9 +27,11 @@ module _ {A : Type 0} (elements : List A) (old : List (Vec A Global)) where
       (so_far j d r (omega (arith, ne, below))))
 
 module _ {A : Type 0} (part : Hand → A) (count : ℕ) where
+  -- an empty room has gathered from no hand yet
   pub gathered_none : (room : Vec A Global) → IsRoom count room → HasGathered part count [] room
   gathered_none room is = record { items = is.none; space = is.space }
 
+  -- a room that takes what the next hand has there has gathered from this hand too
   pub gathered_more : (done : List Hand) (hand : Hand) (old new : Vec A Global) → HasTaken (part hand) old new
       → HasGathered part count done old → HasGathered part count (done ++ hand ∷ []) new
   gathered_more done hand old new taken was = record {
@@ -36,6 +39,7 @@ module _ {A : Type 0} (part : Hand → A) (count : ℕ) where
     space = omega (arith, taken.space, was.space);
   }
 
+  -- a room that has gathered from fewer hands than it is for has space for one more
   pub has_space : (done : List Hand) (room : Vec A Global) → length done < count → HasGathered part count done room
       → vec_len room < vec_capacity room
   has_space done room low was =
@@ -43,15 +47,18 @@ module _ {A : Type 0} (part : Hand → A) (count : ℕ) where
       omega (arith, low, many, was.space, room.ok.0, length-map done part)
 
 module _ {A : Type 0} (row : Hand → List A) (count : ℕ) where
+  -- empty rooms of a row have gathered from no hand yet
   pub row_gathered_none : (rooms : List (Vec A Global)) → AreRooms count rooms → HaveGathered row count [] rooms
   row_gathered_none rooms are k part room low = gathered_none (λ h. get_or (row h) k part) count (get_or rooms k room) (are k room low)
 
+  -- if each room of a row takes what the next hand has at its place, they have gathered from this hand too
   pub row_gathered_more : (done : List Hand) (hand : Hand) (old new : List (Vec A Global)) → length new ≡ length old
       → AllTake (row hand) old new → HaveGathered row count done old → HaveGathered row count (done ++ hand ∷ []) new
   row_gathered_more done hand old new long taken was k part room low =
       let first : k < length old = omega (arith, low, long) in
       gathered_more (λ h. get_or (row h) k part) count done hand (get_or old k room) (get_or new k room) (taken k part room first) (was k part room first)
 
+  -- if the rooms of a row have gathered from fewer hands than they are for, each has space for one more
   pub row_has_space : (done : List Hand) (hand : Hand) (rooms : List (Vec A Global)) → length done < count → length (row hand) ≡ length rooms
       → HaveGathered row count done rooms → HaveSpace rooms
   row_has_space done hand rooms few long was k room low =

@@ -6,7 +6,7 @@ use Rattle.weave_data.proofs.Members.{flat_has, has_flat, has_last}
 use Rattle.vector_stamp.specs.declared.clock.Stamp.{Stamp}
 use Rattle.weave_entries.specs.declared.gate_log.GateDeed.{GateDeed}
 use Rattle.weave_entries.specs.declared.gate_log.GateEntry.{GateEntry}
-use Rattle.weave_entries.specs.GateReplay.{Begun, begun_by, begun_in}
+use Rattle.weave_entries.specs.GateReplay.{BegunRequest, begun_by, begun_in}
 use Rattle.weave_account.specs.declared.account.Account.{Account}
 use Rattle.weave_account.specs.Account.{gate_log}
 use Rattle.weaver_locks.specs.declared.hand.Hand.{Hand}
@@ -19,7 +19,7 @@ use Rattle.weaver_locks.proofs.Following.{made-gate}
 
 -- what the hand has just begun
 pub hears-begun : (laws : HandLaws) (shared : Shared) (old new : Hand) → IsHand shared new → (gate : ℕ) (before : List GateEntry)
-    (deed : GateDeed) (begun : Begun) → WasAtGate (length shared.shards.items) old new gate before (gate_entry_by old deed ∷ [])
+    (deed : GateDeed) (begun : BegunRequest) → WasAtGate (length shared.shards.items) old new gate before (gate_entry_by old deed ∷ [])
     → Contains (begun_by (hand_number old) deed) begun → MayHear shared new begun.stamp
 hears-begun laws shared old new is_new gate before deed begun was h =
     let entry = gate_entry_by old deed in

@@ -14,14 +14,17 @@ module _ {A : Type 0} where
   of_next P xs done left rest x all is next = All-contains P xs x all (subst (λ (l : List A). Contains l x)
       (sym (is ∙ ap (λ (l : List A). done ++ l) next)) (Contains-append_right done (x ∷ rest) x (0, omega arith, refl)))
 
+  -- if an element of the list is left, what is done is shorter than the list
   pub one_is_left : (xs done left rest : List A) (x : A) → xs ≡ done ++ left → left ≡ x ∷ rest → length done < length xs
   one_is_left xs done left rest x is next =
       let long : length xs ≡ length (done ++ x ∷ rest) = ap (λ (l : List A). length l) (is ∙ ap (λ (l : List A). done ++ l) next) in
       omega (arith, long, length-append done (x ∷ rest))
 
+  -- the list is what is done with the next element at its end, and then the rest
   pub one_done : (xs done left rest : List A) (x : A) → xs ≡ done ++ left → left ≡ x ∷ rest → xs ≡ (done ++ x ∷ []) ++ rest
   one_done xs done left rest x is next = is ∙ (ap (λ (l : List A). done ++ l) next ∙ sym (append_assoc done (x ∷ []) rest))
 
+  -- if nothing is left, what is done is the list
   pub all_done : (xs done left : List A) (n : ℕ) → xs ≡ done ++ left → n ≡ length left → n ≡ 0 → done ≡ xs
   all_done xs done left n is long none =
       let nothing : left ≡ [] = nil_from_length left (omega arith) in
@@ -31,6 +34,7 @@ module _ {A : Type 0} where
   pub from_start : (xs left : List A) (n : ℕ) → n ≡ 0 → left ≡ xs → left ≡ drop n xs
   from_start xs left n none is = subst (λ (i : ℕ). left ≡ drop i xs) (sym none) is
 
+  -- what is left from the place after this one is left from the place with the next number
   pub from_next : {left : List A} (xs : List A) (n m : ℕ) → m ≡ n + 1 → left ≡ drop (n + 1) xs → left ≡ drop m xs
   from_next {left} xs n m more is = subst (λ (i : ℕ). left ≡ drop i xs) (sym more) is
 
@@ -39,6 +43,7 @@ module _ {A B : Type 0} (P : B → Type 0) (f : A → B) (xs : List A) where
   pub all_unmapped : All P (map f xs) → All (λ x. P (f x)) xs
   all_unmapped all k d low = subst P (get_or-map f xs k d (f d) low) (all k (f d) (omega (arith, low, length-map xs f)))
 
+  -- what is said of some image is said of the image of some element
   pub any_unmapped : Any P (map f xs) → Any (λ x. P (f x)) xs
   any_unmapped a =
       let low : a.0 < length xs = omega (arith, a.2, length-map xs f) in
@@ -111,6 +116,7 @@ module _ {A B C : Type 0} (f : A → C) (g : B → C) where
       ∙ (ap (λ (z : C). map f xs ++ z ∷ map g rest) same
       ∙ (ap (λ (l : List B). map f xs ++ map g l) (sym next) ∙ was))))
 
+  -- if nothing is left, the images so far are all of them
   pub mapped_whole : {all : List C} (xs : List A) (left : List B) (n : ℕ) → n ≡ length left → n ≡ 0 → map f xs ++ map g left ≡ all → map f xs ≡ all
   mapped_whole {all} xs left n long none was =
       let nothing : left ≡ [] = nil_from_length left (omega arith) in

@@ -16,7 +16,7 @@ use Rattle.chronicle.specs.declared.chronicle.Chronicle.{Chronicle}
 use Rattle.chronicle.specs.declared.pass.Pass.{Pass}
 use Rattle.chronicle.specs.Logs.{Log}
 use Rattle.chronicle.specs.Locks.{Lock, lock_of, name_of}
-use Rattle.chronicle.specs.Passes.{IsReady, number_of, seen}
+use Rattle.chronicle.specs.Passes.{IsReady, number_of, seen_by_pass}
 use Rattle.lock_row.specs.Hands.{AreDealt}
 use Rattle.lock_row.specs.Openings.{AreOneRow}
 use Rattle.lock_row.specs.Rows.{AreReady}
@@ -54,8 +54,8 @@ module _ {M E : Type 0} (locks : List (Chronicle M E)) (number : ℕ) (passes : 
       let first : k < length locks = omega (arith, low, count) in
       (dealt k (one_of locks k first) p first).number_is ∙ same
 
-  row_seen : map seen passes ≡ map (λ (c : Chronicle M E). (lock_of c).start) locks
-  row_seen = mapped_alike (λ (c : Chronicle M E). (lock_of c).start) seen locks passes count (λ k c p low. (dealt k c p low).seen_is)
+  row_seen : map seen_by_pass passes ≡ map (λ (c : Chronicle M E). (lock_of c).start) locks
+  row_seen = mapped_alike (λ (c : Chronicle M E). (lock_of c).start) seen_by_pass locks passes count (λ k c p low. (dealt k c p low).seen_is)
 
 module _ (locks : Locks) (gates : List GateView) (store : List StoreEntry) (oracle : List OracleEntry) (shards : List ShardView)
     (start : MayStart gates store oracle shards) (opened : AreOpened locks gates store oracle shards)
@@ -107,6 +107,7 @@ module _ (locks : Locks) (gates : List GateView) (store : List StoreEntry) (orac
   started = account_of_logs (map (λ c. (lock_of c).start) after.gates.items) (lock_of after.store).start (lock_of after.oracle).start
       (map (λ c. (lock_of c).start) after.shards.items)
 
+  -- the locks with their machines in them start with the machines' logs
   pub begins : started ≡ logs_of gates store oracle shards
   begins =
       let a = row_starts locks.gates.items after.gates.items filled.gates filled.gate_count in
@@ -128,12 +129,14 @@ module _ (locks : Locks) (gates : List GateView) (store : List StoreEntry) (orac
     pub seen_all : IsSeenByHand (length after.shards.items) (hand_number hand) started (seen_by hand)
 
   module _ (number : ℕ) (hand : Hand) (is : IsNewHand locks number hand) where
+    -- a new hand has seen just the machines' logs
     pub sees : seen_by hand ≡ logs_of gates store oracle shards
     sees =
         let a = row_seen locks.gates.items number hand.gates.items is.gates is.gate_count in
         let e = row_seen locks.shards.items number hand.shards.items is.shards is.shard_count in
         (λ i. account_of_logs (a i) (is.store.seen_is i) (is.oracle.seen_is i) (e i)) ∙ start_is
 
+    -- a new hand is a hand of the locks with their machines in them
     pub new_hand : IsHandOf hand
     new_hand =
         let gates_many = filled.gate_count in

@@ -13,6 +13,7 @@ module _ (gates : List GateView) (shards : List ShardView) (gate_count shard_cou
     (gates_are : length gates ≡ gate_count) (shards_are : length shards ≡ shard_count)
     (new_gates : (k : ℕ) (g : GateView) → k < gate_count → IsNew k gate_count shard_count (get_or gates k g))
     (new_shards : (k : ℕ) (s : ShardView) → k < shard_count → IsNewShard k gate_count (get_or shards k s)) where
+  -- the new machines are in order
   pub in-order : AreInOrder gates shards
   in-order = record {
     homes = λ k g low. (new_gates k g (omega (arith, low, gates_are))).home_is;
@@ -22,9 +23,11 @@ module _ (gates : List GateView) (shards : List ShardView) (gate_count shard_cou
     shard_gates = λ k s low. ap (λ (v : ShardView). v.gates) (new_shards k s (omega (arith, low, shards_are))) ∙ sym gates_are;
   }
 
+  -- the log of each new gatekeeper is empty
   pub no-gate-log : (k : ℕ) (g : GateView) → k < length gates → (get_or gates k g).log ≡ []
   no-gate-log k g low = (new_gates k g (omega (arith, low, gates_are))).log_is
 
+  -- the log of each new shard is empty
   pub no-shard-log : (k : ℕ) (s : ShardView) → k < length shards → (get_or shards k s).log ≡ []
   no-shard-log k s low = ap (λ (v : ShardView). v.log) (new_shards k s (omega (arith, low, shards_are)))
 

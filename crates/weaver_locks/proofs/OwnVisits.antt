@@ -14,7 +14,7 @@ use Rattle.weave_entries.specs.Logs.{AtEachEntry}
 use Rattle.weave_entries.specs.GateReplay.{program_by, programs_of}
 use Rattle.weave_account.specs.declared.account.Account.{Account}
 use Rattle.weave_account.specs.Account.{gate_log, shard_log}
-use Rattle.seen_logs.specs.Seen.{IsOwn, IsWithin, VisitsItsOwn, VisitsOwnPrograms, since}
+use Rattle.seen_logs.specs.Seen.{IsOwn, IsWithin, VisitsItsOwn, VisitsOwnPrograms, entries_since}
 use Rattle.seen_logs.proofs.Listed.{flat-on, has-on, longer}
 use Rattle.seen_logs.proofs.Onward.{since-on}
 use Rattle.weaver_locks.specs.declared.hand.Hand.{Hand}
@@ -40,11 +40,11 @@ program-begins shared old new gate request stamp before is_old was =
     let few : length start ≤ length before =
     (let a = longer start (gate_log (seen_by old) gate) (is_old.seen.starts.gates gate) in
     let b = longer (gate_log (seen_by old) gate) before was.found in omega (arith, a, b)) in
-    let left : since start log ≡ since start before ++ entry ∷ [] =
+    let left : entries_since start log ≡ entries_since start before ++ entry ∷ [] =
     ap (drop (length start)) was.left ∙ drop-append-le (length start) before (entry ∷ []) few in
-    let there : Contains (since start log) entry = subst (λ (l : List GateEntry). Contains l entry) (sym left) (has_last (since start before) entry) in
-    subst (λ n. Contains (programs_of (since start log)) (record { author = n; request = request; stamp = stamp })) (sym was.number)
-    (has_flat (λ (e : GateEntry). program_by e.author e.deed) (since start log) entry _ there (has_head _ []))
+    let there : Contains (entries_since start log) entry = subst (λ (l : List GateEntry). Contains l entry) (sym left) (has_last (entries_since start before) entry) in
+    subst (λ n. Contains (programs_of (entries_since start log)) (record { author = n; request = request; stamp = stamp })) (sym was.number)
+    (has_flat (λ (e : GateEntry). program_by e.author e.deed) (entries_since start log) entry _ there (has_head _ []))
 
 -- it stays begun
 pub program-stays : (shared : Shared) (old new : Hand) → IsHand shared old → hand_number new ≡ hand_number old → IsWithin (seen_by old) (seen_by new)
@@ -53,9 +53,9 @@ program-stays shared old new is_old number more home request stamp h =
     let start = gate_log (start_of shared) home in
     let before = gate_log (seen_by old) home in
     let after = gate_log (seen_by new) home in
-    subst (λ m. Contains (programs_of (since start after)) (record { author = m; request = request; stamp = stamp })) (sym number)
-    (has-on (programs_of (since start before)) (programs_of (since start after))
-    (flat-on (λ (e : GateEntry). program_by e.author e.deed) (since start before) (since start after)
+    subst (λ m. Contains (programs_of (entries_since start after)) (record { author = m; request = request; stamp = stamp })) (sym number)
+    (has-on (programs_of (entries_since start before)) (programs_of (entries_since start after))
+    (flat-on (λ (e : GateEntry). program_by e.author e.deed) (entries_since start before) (entries_since start after)
     (since-on start before after (longer start before (is_old.seen.starts.gates home)) (more.gates home))) _ h)
 
 -- its begin was seen

@@ -16,7 +16,7 @@ use Rattle.weave_account.specs.GoesOn.{IsBeginningOf}
 use Rattle.seen_logs.specs.Entries.{account_of_logs, gate_entry, gate_pair, oracle_entry, oracle_pair, shard_entry, shard_pair, store_entry, store_pair}
 use Rattle.chronicle.specs.declared.pass.Pass.{Pass}
 use Rattle.chronicle.specs.Logs.{Log, entries_of}
-use Rattle.chronicle.specs.Passes.{number_of, seen}
+use Rattle.chronicle.specs.Passes.{number_of, seen_by_pass}
 use Rattle.lock_row.proofs.Lists.{one_of}
 use Rattle.weaver_locks.specs.HandLaws.{HandLaws, KeepsPlaces}
 use Rattle.weaver_locks.specs.Onward.{GoesOnWithout, OnlySees}
@@ -33,28 +33,28 @@ pub stays : {E : Type 0} (number : ℕ) (log : Log E) → GoesOnWithout number l
 stays number log = record { own_is = refl; more = ([], append-nil log) }
 
 -- what a pass has seen that only sees more
-pub without : {E : Type 0} (number : ℕ) (p q : Pass E) → number_of p ≡ number → OnlySees p q → GoesOnWithout number (seen p) (seen q)
+pub without : {E : Type 0} (number : ℕ) (p q : Pass E) → number_of p ≡ number → OnlySees p q → GoesOnWithout number (seen_by_pass p) (seen_by_pass q)
 without {E} number p q is sees = record {
-  own_is = subst (λ (n : ℕ). entries_of n (seen q) ≡ entries_of n (seen p)) is
-      (ap (λ (n : ℕ). entries_of n (seen q)) (sym sees.number) ∙ sees.own_is);
+  own_is = subst (λ (n : ℕ). entries_of n (seen_by_pass q) ≡ entries_of n (seen_by_pass p)) is
+      (ap (λ (n : ℕ). entries_of n (seen_by_pass q)) (sym sees.number) ∙ sees.own_is);
   more = sees.more;
 }
 
 -- at a place of a row, or past its end
 pub at_place : {E : Type 0} (number k : ℕ) (before after : List (Pass E)) → length after ≡ length before
-    → ((p : Pass E) → k < length before → GoesOnWithout number (seen (get_or before k p)) (seen (get_or after k p)))
-    → GoesOnWithout number (get_or (map seen before) k []) (get_or (map seen after) k [])
+    → ((p : Pass E) → k < length before → GoesOnWithout number (seen_by_pass (get_or before k p)) (seen_by_pass (get_or after k p)))
+    → GoesOnWithout number (get_or (map seen_by_pass before) k []) (get_or (map seen_by_pass after) k [])
 at_place {E} number k before after long sees =
     let P : Log E × Log E → Type 0 = λ z. GoesOnWithout number z.0 z.1 in
     elim (cases_lt k (length before)) [
       | inl low ↦
           let p = one_of before k low in
-          let a : get_or (map seen before) k [] ≡ seen (get_or before k p) = get_or-map seen before k p [] low in
-          let b : get_or (map seen after) k [] ≡ seen (get_or after k p) = get_or-map seen after k p [] (omega (arith, low, long)) in
+          let a : get_or (map seen_by_pass before) k [] ≡ seen_by_pass (get_or before k p) = get_or-map seen_by_pass before k p [] low in
+          let b : get_or (map seen_by_pass after) k [] ≡ seen_by_pass (get_or after k p) = get_or-map seen_by_pass after k p [] (omega (arith, low, long)) in
           subst P (λ i. (sym a i, sym b i)) (sees p low)
       | inr past ↦
-          let a : get_or (map seen before) k [] ≡ [] = get_or_past (map seen before) k [] (omega (arith, length-map before seen, past)) in
-          let b : get_or (map seen after) k [] ≡ [] = get_or_past (map seen after) k [] (omega (arith, length-map after seen, long, past)) in
+          let a : get_or (map seen_by_pass before) k [] ≡ [] = get_or_past (map seen_by_pass before) k [] (omega (arith, length-map before seen_by_pass, past)) in
+          let b : get_or (map seen_by_pass after) k [] ≡ [] = get_or_past (map seen_by_pass after) k [] (omega (arith, length-map after seen_by_pass, long, past)) in
           subst P (λ i. (sym a i, sym b i)) (stays number [])
     ]
 
@@ -62,6 +62,7 @@ at_place {E} number k before after long sees =
 
 module _ {D R : Type 0} (pair : R → ℕ × D) (entry : ℕ × D → R) (back : (log : Log D) → map pair (map entry log) ≡ log)
     (author : R → ℕ) (author_is : (r : R) → (pair r).0 ≡ author r) (places : KeepsPlaces D) where
+  -- if a log goes on without new entries of an author, it does so as its machine has the entries, too
   pub none_of : (number : ℕ) (xs ys : Log D) → GoesOnWithout number xs ys → AddsNone author number (map entry xs) (map entry ys)
   none_of number xs ys on before e after at new =
       let split : ys ≡ map pair before ++ pair e ∷ map pair after =
@@ -80,6 +81,7 @@ module _ (laws : HandLaws) (number : ℕ) (gates later : List (Log GateDeed)) (s
   abbrev after : Account
   after = account_of_logs later last asked further
 
+  -- if what was seen of a gatekeeper's log goes on without new entries of an author, so it does in the account
   pub gate_none : (home : ℕ) → GoesOnWithout number (get_or gates home []) (get_or later home [])
       → AddsNone gate_author number (gate_log before home) (gate_log after home)
   gate_none home on =
@@ -87,12 +89,15 @@ module _ (laws : HandLaws) (number : ℕ) (gates later : List (Log GateDeed)) (s
       subst P (λ i. (sym (laws.at_gate gates store oracle shards home) i, sym (laws.at_gate later last asked further home) i))
       (none_of gate_pair gate_entry laws.gate_back gate_author (λ r. refl) laws.gate_places number (get_or gates home []) (get_or later home []) on)
 
+  -- the same of the store's log
   pub store_none : GoesOnWithout number store last → AddsNone store_author number before.store after.store
   store_none on = none_of store_pair store_entry laws.store_back store_author (λ r. refl) laws.store_places number store last on
 
+  -- the same of the oracle's log
   pub oracle_none : GoesOnWithout number oracle asked → AddsNone oracle_author number before.oracle after.oracle
   oracle_none on = none_of oracle_pair oracle_entry laws.oracle_back oracle_author (λ r. refl) laws.oracle_places number oracle asked on
 
+  -- the same of a shard's log
   pub shard_none : (shard : ℕ) → GoesOnWithout number (get_or shards shard []) (get_or further shard [])
       → AddsNone shard_author number (shard_log before shard) (shard_log after shard)
   shard_none shard on =

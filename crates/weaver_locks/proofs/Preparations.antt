@@ -8,6 +8,7 @@ use native.Mathlib.Decide.{ℕ_discrete}
 use Rattle.lock_row.proofs.Lists.{last}
 use Rattle.weaver_locks.specs.Rooms.{AreRooms, IsRoom}
 
+-- rooms for this many and one such room more are rooms for this many
 pub rooms_more : {A : Type 0} (count : ℕ) (rooms : List (Vec A Global)) (room : Vec A Global) → AreRooms count rooms → IsRoom count room
     → AreRooms count (rooms ++ room ∷ [])
 rooms_more {A} count rooms room so_far one k r low = dite (ℕ_discrete k (length rooms))

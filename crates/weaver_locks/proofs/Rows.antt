@@ -11,7 +11,7 @@ use Rattle.chronicle.specs.declared.pass.Pass.{Pass}
 use Rattle.chronicle.specs.declared.note.Note.{Note}
 use Rattle.chronicle.specs.Locks.{Lock}
 use Rattle.chronicle.specs.Logs.{Log, entries_of}
-use Rattle.chronicle.specs.Passes.{number_of, own, seen}
+use Rattle.chronicle.specs.Passes.{number_of, own_entries, seen_by_pass}
 use Rattle.lock_row.specs.Rows.{AreReady}
 use Rattle.lock_row.specs.Meetings.{AllMet, HaveMet}
 use Rattle.lock_row.proofs.Lists.{mapped_alike, one_of}
@@ -24,6 +24,7 @@ module _ {A B : Type 0} (f : A → B) where
   image_at (x ∷ xs) zero a b low = refl
   image_at (x ∷ xs) (suc k) a b low = image_at xs k a b (omega (arith, low))
 
+  -- past the end of a list there is no image, so the default is what is found
   pub image_past : (xs : List A) (k : ℕ) (b : B) → length xs ≤ k → get_or (map f xs) k b ≡ b
   image_past [] k b past = refl
   image_past (x ∷ xs) zero b past = absurd (omega (arith, past))
@@ -41,6 +42,7 @@ module _ {A B : Type 0} (f : A → B) where
   image_set (x ∷ xs) zero a = refl
   image_set (x ∷ xs) (suc k) a = ap (λ (l : List B). f x ∷ l) (image_set xs k a)
 
+  -- the images of images are the images by both functions in turn
   pub image_twice : {C : Type 0} (g : B → C) (xs : List A) → map g (map f xs) ≡ map (λ (a : A). g (f a)) xs
   image_twice g [] = refl
   image_twice {C} g (x ∷ xs) = ap (λ (l : List C). g (f x) ∷ l) (image_twice g xs)
@@ -51,6 +53,7 @@ set_here [] k a d low = absurd (omega (arith, low))
 set_here (x ∷ xs) zero a d low = refl
 set_here (x ∷ xs) (suc k) a d low = set_here xs k a d (omega (arith, low))
 
+-- and the other elements are as they were
 pub set_there : {A : Type 0} (xs : List A) (k j : ℕ) (a d : A) → j ≢ k → get_or (set xs k a) j d ≡ get_or xs j d
 set_there [] k j a d other = refl
 set_there (x ∷ xs) zero zero a d other = absurd (other refl)
@@ -64,6 +67,7 @@ set_twice [] k a b = refl
 set_twice (x ∷ xs) zero a b = refl
 set_twice {A} (x ∷ xs) (suc k) a b = ap (λ (l : List A). x ∷ l) (set_twice xs k a b)
 
+-- a list in which one element was exchanged is as long as it was
 pub set_length : {A : Type 0} (xs : List A) (k : ℕ) (a : A) → length (set xs k a) ≡ length xs
 set_length [] k a = refl
 set_length (x ∷ xs) zero a = refl
@@ -73,6 +77,7 @@ set_length (x ∷ xs) (suc k) a = ap suc (set_length xs k a)
 pub nothing_more : {A : Type 0} (l : List A) → IsBeginningOf l l
 nothing_more l = ([], sym (append-nil l))
 
+-- what begins a beginning of a list begins the list
 pub begins_more : {A : Type 0} (a b c : List A) → IsPrefix a b → IsPrefix b c → IsPrefix a c
 begins_more {A} a b c p q = (p.0 ++ q.0, sym (append_assoc a p.0 q.0) ∙ (ap (λ (l : List A). l ++ q.0) p.1 ∙ q.1))
 
@@ -85,21 +90,22 @@ module _ {M E : Type 0} (locks : List (Chronicle M E)) (before after : List (Pas
       → (k : ℕ) (p : Pass E) → k < length locks → P (get_or before k p) (get_or after k p)
   at_place P from k p low = from _ _ _ (on.each k (one_of locks k low) p low)
 
+  -- each pass of the row as it went on is of the lock at its place, and in no hold
   pub row_ready : AreReady locks after
   row_ready k c p low = (on.each k c p low).ready
 
   -- what the passes have seen goes on
-  pub row_seen : (k : ℕ) → IsBeginningOf (get_or (map seen before) k []) (get_or (map seen after) k [])
+  pub row_seen : (k : ℕ) → IsBeginningOf (get_or (map seen_by_pass before) k []) (get_or (map seen_by_pass after) k [])
   row_seen k = elim (cases_lt k (length locks)) [
     | inl low ↦
         let p = one_of before k (omega (arith, low, count)) in
-        let more = at_place (λ x y. IsPrefix (seen x) (seen y)) (λ lock x y h. h.more) k p low in
+        let more = at_place (λ x y. IsPrefix (seen_by_pass x) (seen_by_pass y)) (λ lock x y h. h.more) k p low in
         subst (λ (z : Log E × Log E). IsBeginningOf z.0 z.1)
-        (λ i. (sym (image_at seen before k p [] (omega (arith, low, count))) i, sym (image_at seen after k p [] (omega (arith, low, after_count))) i))
+        (λ i. (sym (image_at seen_by_pass before k p [] (omega (arith, low, count))) i, sym (image_at seen_by_pass after k p [] (omega (arith, low, after_count))) i))
         (more.0, sym more.1)
     | inr past ↦
         subst (λ (z : Log E × Log E). IsBeginningOf z.0 z.1)
-        (λ i. (sym (image_past seen before k [] (omega (arith, past, count))) i, sym (image_past seen after k [] (omega (arith, past, after_count))) i))
+        (λ i. (sym (image_past seen_by_pass before k [] (omega (arith, past, count))) i, sym (image_past seen_by_pass after k [] (omega (arith, past, after_count))) i))
         ([], refl)
   ]
 
@@ -110,15 +116,15 @@ module _ {M E : Type 0} (locks : List (Chronicle M E)) (before after : List (Pas
       at_place (λ x y. number_of y ≡ number_of x) (λ lock x y h. h.number) k d here ∙ all k d (omega (arith, here, count))
 
   -- and the same own entries
-  pub row_own : map own after ≡ map own before
-  row_own = mapped_alike own own before after on.count (λ k a b low.
+  pub row_own : map own_entries after ≡ map own_entries before
+  row_own = mapped_alike own_entries own_entries before after on.count (λ k a b low.
       let here : k < length locks = omega (arith, low, count) in
-      ap own (get_or_default after k b a (omega (arith, here, after_count)))
-      ∙ at_place (λ x y. own y ≡ own x) (λ lock x y h. h.own_is) k a here)
+      ap own_entries (get_or_default after k b a (omega (arith, here, after_count)))
+      ∙ at_place (λ x y. own_entries y ≡ own_entries x) (λ lock x y h. h.own_is) k a here)
 
   -- so all entries of theirs were seen before
   pub row_entries : (n : ℕ) → All (λ (p : Pass E). number_of p ≡ n) before → (k : ℕ)
-      → entries_of n (get_or (map seen after) k []) ≡ entries_of n (get_or (map seen before) k [])
+      → entries_of n (get_or (map seen_by_pass after) k []) ≡ entries_of n (get_or (map seen_by_pass before) k [])
   row_entries n all k = elim (cases_lt k (length locks)) [
     | inl low ↦
         let p = one_of before k (omega (arith, low, count)) in
@@ -126,19 +132,20 @@ module _ {M E : Type 0} (locks : List (Chronicle M E)) (before after : List (Pas
         let is = get_or after k p in
         let number : number_of was ≡ n = all k p (omega (arith, low, count)) in
         let later : number_of is ≡ n = row_numbers n all k p (omega (arith, low, after_count)) in
-        let same : own is ≡ own was = at_place (λ x y. own y ≡ own x) (λ lock x y h. h.own_is) k p low in
-        ap (entries_of n) (image_at seen after k p [] (omega (arith, low, after_count)))
-        ∙ (ap (λ (m : ℕ). entries_of m (seen is)) (sym later) ∙ (same ∙ (ap (λ (m : ℕ). entries_of m (seen was)) number
-        ∙ ap (entries_of n) (sym (image_at seen before k p [] (omega (arith, low, count)))))))
+        let same : own_entries is ≡ own_entries was = at_place (λ x y. own_entries y ≡ own_entries x) (λ lock x y h. h.own_is) k p low in
+        ap (entries_of n) (image_at seen_by_pass after k p [] (omega (arith, low, after_count)))
+        ∙ (ap (λ (m : ℕ). entries_of m (seen_by_pass is)) (sym later) ∙ (same ∙ (ap (λ (m : ℕ). entries_of m (seen_by_pass was)) number
+        ∙ ap (entries_of n) (sym (image_at seen_by_pass before k p [] (omega (arith, low, count)))))))
     | inr past ↦
-        ap (entries_of n) (image_past seen after k [] (omega (arith, past, after_count))
-        ∙ sym (image_past seen before k [] (omega (arith, past, count))))
+        ap (entries_of n) (image_past seen_by_pass after k [] (omega (arith, past, after_count))
+        ∙ sym (image_past seen_by_pass before k [] (omega (arith, past, count))))
   ]
 
 -- passes that met notes go on
 pub met_on : {E : Type 0} (lock : Lock E) (p q : Pass E) (n m : Note E) → HaveMet lock p q n m → GoesOnAs lock p q
 met_on lock p q n m met = record { ready = met.ready; number = met.number; own_is = met.own_is; more = met.pass_before }
 
+-- and so do all those of a row, if it has a note of each lock and as many passes as before
 pub all_met_on : {M E : Type 0} (locks : List (Chronicle M E)) (before after : List (Pass E)) (notes later : List (Note E))
     → AllMet locks before after notes later (length locks) → length notes ≡ length locks → length after ≡ length before
     → AllGoOn locks before after

@@ -10,7 +10,7 @@ use Rattle.weave_data.proofs.ListPlaces.{not-true}
 use Rattle.weave_entries.specs.declared.gate_log.GateDeed.{GateDeed}
 use Rattle.weave_entries.specs.declared.gate_log.GateDeed.TheVariants.{BeganTx, BeganProgram, Sent, Nop, Heard, Raised, Finished}
 use Rattle.weave_entries.specs.declared.gate_log.GateEntry.{GateEntry}
-use Rattle.weave_entries.specs.GateReplay.{Begun, is_begun, running_after, running_of}
+use Rattle.weave_entries.specs.GateReplay.{BegunRequest, is_begun, running_after, running_of}
 use Rattle.weave_account.specs.Account.{gate_log}
 use Rattle.weaver_locks.specs.declared.hand.Hand.{Hand}
 use Rattle.weaver_locks.specs.declared.shared.Shared.{Shared}
@@ -19,7 +19,7 @@ use Rattle.weaver_locks.specs.Hands.{hand_number, IsHand, seen_by}
 use Rattle.weaver_locks.specs.HoldLaws.{HoldLaws}
 use Rattle.weaver_locks.proofs.Beside.{gates_on, no_gate_entry}
 
-still_runs : (running : List Begun) (by : ℕ) (deed : GateDeed) (p : Begun) → (by ≡ p.author → ⊥) → Contains running p
+still_runs : (running : List BegunRequest) (by : ℕ) (deed : GateDeed) (p : BegunRequest) → (by ≡ p.author → ⊥) → Contains running p
     → Contains (running_after running by deed) p
 still_runs running by (BeganProgram r s) p other h = Contains-append_left running (record { author = by; request = r; stamp = s } ∷ []) p h
 still_runs running by (Finished r) p other h =
@@ -32,21 +32,23 @@ still_runs running by (Nop shard number stamp low) p other h = h
 still_runs running by (Heard clock) p other h = h
 still_runs running by (Raised epoch) p other h = h
 
-runs_on : (more : List GateEntry) (running : List Begun) (p : Begun) → ((e : GateEntry) → Contains more e → e.author ≡ p.author → ⊥)
+runs_on : (more : List GateEntry) (running : List BegunRequest) (p : BegunRequest) → ((e : GateEntry) → Contains more e → e.author ≡ p.author → ⊥)
     → Contains running p → Contains (fold (λ now (entry : GateEntry). running_after now entry.author entry.deed) running more) p
 runs_on [] running p none h = h
 runs_on (e ∷ more) running p none h =
     runs_on more (running_after running e.author e.deed) p (λ x has. none x (has_tail e more x has))
     (still_runs running e.author e.deed p (none e (has_head e more)) h)
 
-pub still_running : (log more : List GateEntry) (p : Begun) → ((e : GateEntry) → Contains more e → e.author ≡ p.author → ⊥)
+-- a program that was running still is after entries of other authors
+pub still_running : (log more : List GateEntry) (p : BegunRequest) → ((e : GateEntry) → Contains more e → e.author ≡ p.author → ⊥)
     → Contains (running_of log) p → Contains (running_of (log ++ more)) p
 still_running log more p none h =
-    subst (λ (l : List Begun). Contains l p) (sym (fold-append (λ (now : List Begun) (entry : GateEntry). running_after now entry.author entry.deed) [] log more))
+    subst (λ (l : List BegunRequest). Contains l p) (sym (fold-append (λ (now : List BegunRequest) (entry : GateEntry). running_after now entry.author entry.deed) [] log more))
     (runs_on more (running_of log) p none h)
 
 module _ (laws : HoldLaws) (shared : Shared) (old now : Hand) (hand : IsHand shared old) (all : AllGoOn shared.gates.items old.gates.items now.gates.items) where
-  pub running_now : (home : ℕ) (p : Begun) → p.author ≡ hand_number old → Contains (running_of (gate_log (seen_by old) home)) p
+  -- a program of the hand that was running in what it had seen is running in what it has seen now
+  pub running_now : (home : ℕ) (p : BegunRequest) → p.author ≡ hand_number old → Contains (running_of (gate_log (seen_by old) home)) p
       → Contains (running_of (gate_log (seen_by now) home)) p
   running_now home p mine h =
       let on = gates_on shared old now hand all home in

@@ -13,7 +13,7 @@ use Rattle.weave_account.specs.GoesOn.{IsBeginningOf}
 use Rattle.seen_logs.specs.Entries.{gate_entries, oracle_entries, oracle_pairs, shard_entries, shard_pairs, store_entries, store_pairs}
 use Rattle.seen_logs.specs.Seen.{GatesGoOn}
 use Rattle.chronicle.specs.declared.pass.Pass.{Pass}
-use Rattle.chronicle.specs.Passes.{seen}
+use Rattle.chronicle.specs.Passes.{seen_by_pass}
 use Rattle.oracle_lock.specs.Seen.{gates_seen}
 use Rattle.shard_lock.specs.Notes.{at_place}
 use Rattle.weaver_locks.specs.declared.hand.Hand.{Hand}
@@ -25,24 +25,27 @@ pub stores_back : (log : List StoreEntry) → store_entries (store_pairs log) �
 stores_back [] = refl
 stores_back (entry ∷ log) = ap (λ (l : List StoreEntry). entry ∷ l) (stores_back log)
 
+-- the same of the oracle's log
 pub oracles_back : (log : List OracleEntry) → oracle_entries (oracle_pairs log) ≡ log
 oracles_back [] = refl
 oracles_back (entry ∷ log) = ap (λ (l : List OracleEntry). entry ∷ l) (oracles_back log)
 
+-- the same of a shard's log
 pub shards_back : (log : List ShardEntry) → shard_entries (shard_pairs log) ≡ log
 shards_back [] = refl
 shards_back (entry ∷ log) = ap (λ (l : List ShardEntry). entry ∷ l) (shards_back log)
 
 -- the logs of an account of what passes have seen
-pub gate_at : (hand : Hand) (home : ℕ) → gate_log (seen_by hand) home ≡ gate_entries (get_or (map seen hand.gates.items) home [])
-gate_at hand home = image_or gate_entries (map seen hand.gates.items) home [] [] refl
+pub gate_at : (hand : Hand) (home : ℕ) → gate_log (seen_by hand) home ≡ gate_entries (get_or (map seen_by_pass hand.gates.items) home [])
+gate_at hand home = image_or gate_entries (map seen_by_pass hand.gates.items) home [] [] refl
 
-pub shard_at : (hand : Hand) (shard : ℕ) → shard_log (seen_by hand) shard ≡ shard_entries (get_or (map seen hand.shards.items) shard [])
-shard_at hand shard = image_or shard_entries (map seen hand.shards.items) shard [] [] refl
+-- the same of a shard's log
+pub shard_at : (hand : Hand) (shard : ℕ) → shard_log (seen_by hand) shard ≡ shard_entries (get_or (map seen_by_pass hand.shards.items) shard [])
+shard_at hand shard = image_or shard_entries (map seen_by_pass hand.shards.items) shard [] [] refl
 
 -- the gatekeepers' logs, as the machines of other locks name them
-pub gates_named : (passes : List (Pass GateDeed)) → map gate_entries (map seen passes) ≡ gates_seen passes
-gates_named passes = image_twice seen gate_entries passes
+pub gates_named : (passes : List (Pass GateDeed)) → map gate_entries (map seen_by_pass passes) ≡ gates_seen passes
+gates_named passes = image_twice seen_by_pass gate_entries passes
 
 -- accounts with the same logs of gatekeepers go on to each other
 pub same_gates : (one two : Account) → one.gates ≡ two.gates → GatesGoOn one two
@@ -67,5 +70,6 @@ placed_there (suc number) (suc k) own other = placed_there number k own (λ e. o
 pub begins_longer : {A : Type 0} (a b more : List A) → IsBeginningOf a b → IsBeginningOf a (b ++ more)
 begins_longer {A} a b more on = (on.0 ++ more, ap (λ (l : List A). l ++ more) on.1 ∙ append_assoc a on.0 more)
 
+-- the images of a beginning of a list begin the images of the list
 pub mapped_more : {A B : Type 0} (f : A → B) (a b : List A) → IsBeginningOf a b → IsBeginningOf (map f a) (map f b)
 mapped_more {A} {B} f a b on = (map f on.0, ap (λ (l : List A). map f l) on.1 ∙ map-append f a on.0)

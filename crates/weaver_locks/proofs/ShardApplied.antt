@@ -19,6 +19,7 @@ module _ (old : Hand) (author gate : ℕ) (author_is : author ≡ hand_number ol
   abbrev pub added : List ShardEntry
   added = shard_entries_of old (Applied gate (processed_count gate held.shard.log + 1)) r
 
+  -- the call adds the entry of a processed message if it succeeds, and nothing if it is refused
   pub applied : OnOk r (AddsEntry s.shard m.shard author (Applied gate (processed_count gate s.shard.log + 1))) → OnErr r (m.shard ≡ s.shard)
       → m.shards ≡ s.shards → m.notes ≡ s.notes → IsCalled s m added
   applied adds same shards notes = subst (λ (v : NotedShardView). IsCalled s m (shard_entries_of old (Applied gate (processed_count gate v.shard.log + 1)) r)) s_is

@@ -14,7 +14,7 @@ use Rattle.chronicle.specs.declared.pass.Pass.{Pass}
 use Rattle.chronicle.specs.Holds.{log_at_entry, machine_of}
 use Rattle.chronicle.specs.Logs.{Follows}
 use Rattle.chronicle.specs.Passes.{number_of}
-use Rattle.shard_lock.specs.declared.noted.NotedShard.{NotedShard}
+use Rattle.shard_lock.specs.declared.noted_shard.NotedShard.{NotedShard}
 use Rattle.shard_lock.specs.Notes.{ShardIsKept, NotedShardView}
 use Rattle.weaver_locks.specs.declared.hand.Hand.{Hand}
 use Rattle.weaver_locks.specs.declared.shared.Shared.{Shared}
@@ -36,6 +36,7 @@ pub no_visits : {A F : Type 0} (hand : Hand) (deed : ShardDeed) (r : Result A F)
 no_visits hand deed (Ok a) other v has = other v (ap (λ (e : ShardEntry). e.deed) (only _ (visit_entry v) has))
 no_visits hand deed (Err f) other v has = has_none (visit_entry v) has
 
+-- the processing of a message is no visit
 pub applied_apart : (gate number : ℕ) (v : Visit) → Applied gate number ≡ Visited v.request v.stamp v.vertex v.updates v.settled → ⊥
 applied_apart gate number v is = absurd cc
 
@@ -45,9 +46,11 @@ module _ (shared : Shared) (old now : Hand) (shard : ℕ) (held : Held NotedShar
   here : IsCalled (machine_of held) m added
   here = subst (λ (v : NotedShardView). IsCalled v m added) s_is called
 
+  -- since the hold began, the shard's log went on by entries of the hand alone
   pub called_follows : (p : Pass ShardDeed) → Follows (number_of (get_or now.shards.items shard p)) (log_at_entry held) (shard_pairs m.shard.log)
   called_follows = follows shared old now shard held hand low i m.shard.log added here.goes.log by
 
+  -- if the shard keeps what shards keep, and no visit was added, the hand is done in the shard
   pub called_done : ShardIsKept m.shard m.shards m.notes → ((v : Visit) → Contains added (visit_entry v) → ⊥)
       → IsDoneInShard shared old now shard m.shard.log (machine_of held).shard.log added []
   called_done kept none = done shared old now shard held hand low i m added here.goes here.shards here.notes kept by none

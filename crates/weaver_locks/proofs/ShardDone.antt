@@ -19,13 +19,13 @@ use Rattle.chronicle.specs.declared.held.Held.{Held}
 use Rattle.chronicle.specs.declared.pass.Pass.{Pass}
 use Rattle.chronicle.specs.Holds.{lock_in, log_at_entry, machine_of, WentInWith}
 use Rattle.chronicle.specs.Logs.{Follows, Log, entries_of}
-use Rattle.chronicle.specs.Passes.{lock_noted, number_of, seen}
+use Rattle.chronicle.specs.Passes.{lock_noted, number_of, seen_by_pass}
 use Rattle.oracle_lock.specs.Seen.{gates_noted}
 use Rattle.shard_node.specs.Shards.{AddsEntry, ShardView}
-use Rattle.shard_lock.specs.declared.noted.NotedShard.{NotedShard}
+use Rattle.shard_lock.specs.declared.noted_shard.NotedShard.{NotedShard}
 use Rattle.shard_lock.specs.declared.notes.ShardNotes.{ShardNotes}
 use Rattle.shard_lock.specs.Frames.{shard_frame}
-use Rattle.shard_lock.specs.Notes.{at_place, frame_of, ShardIsKept, NotedShardView, seen_by_passes, seen_of}
+use Rattle.shard_lock.specs.Notes.{at_place, frame_of_shard, ShardIsKept, NotedShardView, seen_by_shard_passes, seen_of_shard}
 use Rattle.weaver_locks.specs.declared.hand.Hand.{Hand}
 use Rattle.weaver_locks.specs.declared.shared.Shared.{Shared}
 use Rattle.weaver_locks.specs.Hands.{hand_number, IsHand}
@@ -42,6 +42,7 @@ pub record GoesBy (old new : ShardView) (added : List ShardEntry) : Type 0 where
   pub number : new.number ≡ old.number
   pub gates : new.gates ≡ old.gates
 
+-- a shard that is as it was has no entries more
 pub goes_by_none : (old new : ShardView) → new ≡ old → GoesBy old new []
 goes_by_none old new is = record {
   log = ap (λ (v : ShardView). v.log) is ∙ sym (append-nil old.log);
@@ -49,6 +50,7 @@ goes_by_none old new is = record {
   gates = ap (λ (v : ShardView). v.gates) is;
 }
 
+-- a shard to which an entry was added has this one more
 pub goes_by_one : (old new : ShardView) (author n : ℕ) (deed : ShardDeed) → author ≡ n → AddsEntry old new author deed
     → GoesBy old new (record { author = n; deed = deed } ∷ [])
 goes_by_one old new author n deed is adds = record {
@@ -61,6 +63,7 @@ pairs_back : (log : Log OracleDeed) → oracle_pairs (oracle_entries log) ≡ lo
 pairs_back [] = refl
 pairs_back (e ∷ log) = ap (λ (l : Log OracleDeed). e ∷ l) (pairs_back log)
 
+-- entries that are all of one author are so as the lock's log has them, too
 pub all_by : (n author : ℕ) (added : List ShardEntry) → author ≡ n → ((e : ShardEntry) → Contains added e → e.author ≡ n)
     → All (λ (e : ℕ × ShardDeed). e.0 ≡ author) (shard_pairs added)
 all_by n author [] is by = All-nil (λ (e : ℕ × ShardDeed). e.0 ≡ author)
@@ -76,6 +79,7 @@ module _ (shared : Shared) (old now : Hand) (shard : ℕ) (held : Held NotedShar
   pub its_pass : (p : Pass ShardDeed) → get_or now.shards.items shard p ≡ i.pass
   its_pass p = ap (λ (l : List (Pass ShardDeed)). get_or l shard p) i.shards ∙ set_here old.shards.items shard i.pass p (has_shard shared old hand shard low)
 
+  -- the hand has as many passes of shards' locks as there are shards
   pub as_many : length now.shards.items ≡ length shared.shards.items
   as_many = ap (λ (l : List (Pass ShardDeed)). length l) i.shards ∙ (set_length old.shards.items shard i.pass ∙ hand.shards)
 
@@ -97,7 +101,7 @@ module _ (shared : Shared) (old now : Hand) (shard : ℕ) (held : Held NotedShar
 
   -- the frame stays
   pub still_framed : (m : NotedShardView) → m.shard.number ≡ was.shard.number → m.shard.gates ≡ was.shard.gates → m.shards ≡ was.shards
-      → m.notes ≡ was.notes → frame_of m.shard m.shards m.notes ≡ (lock_in held).frame
+      → m.notes ≡ was.notes → frame_of_shard m.shard m.shards m.notes ≡ (lock_in held).frame
   still_framed m number gates shards notes =
       (λ j. shard_frame (number j) (gates j) (shards j) (lock_noted (notes j).store) (lock_noted (notes j).oracle) (map lock_noted (notes j).gates.items))
       ∙ i.frame
@@ -113,14 +117,14 @@ module _ (shared : Shared) (old now : Hand) (shard : ℕ) (held : Held NotedShar
     H = length shared.shards.items
 
     abbrev by_passes : Account
-    by_passes = seen_by_passes shard (was.shard.log ++ added) now.gates.items now.store now.oracle
+    by_passes = seen_by_shard_passes shard (was.shard.log ++ added) now.gates.items now.store now.oracle
 
     -- the notes have seen what the passes have
-    one_account : seen_of m.shard m.notes ≡ by_passes
+    one_account : seen_of_shard m.shard m.notes ≡ by_passes
     one_account = λ j. record {
       gates = (ap (λ (ns : ShardNotes). gates_noted ns.gates.items) notes ∙ ap (λ (a : Account). a.gates) i.same) j;
-      store = (ap (λ (ns : ShardNotes). (seen_of was.shard ns).store) notes ∙ ap (λ (a : Account). a.store) i.same) j;
-      oracle = (ap (λ (ns : ShardNotes). (seen_of was.shard ns).oracle) notes ∙ ap (λ (a : Account). a.oracle) i.same) j;
+      store = (ap (λ (ns : ShardNotes). (seen_of_shard was.shard ns).store) notes ∙ ap (λ (a : Account). a.store) i.same) j;
+      oracle = (ap (λ (ns : ShardNotes). (seen_of_shard was.shard ns).oracle) notes ∙ ap (λ (a : Account). a.oracle) i.same) j;
       shards = at_place ((goes.number ∙ i.place) j) (goes.log j);
       sessions = [];
     }
@@ -137,14 +141,14 @@ module _ (shared : Shared) (old now : Hand) (shard : ℕ) (held : Held NotedShar
       low = low;
       gates_on = i.gates;
       store_on = i.store;
-      settled = oracle_entries (seen now.oracle);
+      settled = oracle_entries (seen_by_pass now.oracle);
       oracle_adds = record {
         ready = i.oracle.ready;
         number = i.oracle.number ∙ hand.oracle_number;
-        found = subst (λ (l : Log OracleDeed). IsPrefix (seen old.oracle) l) (sym (pairs_back (seen now.oracle))) i.oracle.more;
-        own_is = ap (entries_of (hand_number old)) (pairs_back (seen now.oracle))
-            ∙ (ap (λ (n : ℕ). entries_of n (seen now.oracle)) (sym (i.oracle.number ∙ hand.oracle_number)) ∙ i.oracle.own_is);
-        left = sym (ap (λ (l : List OracleEntry). oracle_pairs l) (append-nil (oracle_entries (seen now.oracle))) ∙ pairs_back (seen now.oracle));
+        found = subst (λ (l : Log OracleDeed). IsPrefix (seen_by_pass old.oracle) l) (sym (pairs_back (seen_by_pass now.oracle))) i.oracle.more;
+        own_is = ap (entries_of (hand_number old)) (pairs_back (seen_by_pass now.oracle))
+            ∙ (ap (λ (n : ℕ). entries_of n (seen_by_pass now.oracle)) (sym (i.oracle.number ∙ hand.oracle_number)) ∙ i.oracle.own_is);
+        left = sym (ap (λ (l : List OracleEntry). oracle_pairs l) (append-nil (oracle_entries (seen_by_pass now.oracle))) ∙ pairs_back (seen_by_pass now.oracle));
         by = λ e h. absurd (has_none e h);
       };
       asked_refers = λ e h. absurd (has_none e h);
@@ -161,16 +165,19 @@ module _ (shared : Shared) (old now : Hand) (shard : ℕ) (held : Held NotedShar
           absurd (no_visit a (beyond was.shard.log added cut after (visit_entry a) at over));
     }
 
+    -- so the hand is done in the shard, and asked the oracle for nothing
     pub done : IsDoneInShard shared old now shard m.shard.log was.shard.log added []
     done = record { log_is = goes.log; pass = i.pass; shards = i.shards; number = i.number; does = does }
 
 -- the entry of a call that adds at most one
 module _ {A F : Type 0} (hand : Hand) (author : ℕ) (deed : ShardDeed) (was new : ShardView) (is : author ≡ hand_number hand) where
+  -- after a call the shard's log has the call's entry more, or nothing more if the call was refused
   pub goes_by : (r : Result A F) → OnOk r (AddsEntry was new author deed) → OnErr r (new ≡ was)
       → GoesBy was new (shard_entries_of hand deed r)
   goes_by (Ok a) adds same = goes_by_one was new author (hand_number hand) deed is adds
   goes_by (Err f) adds same = goes_by_none was new same
 
+-- the entry of a call is the hand's own
 pub entries_by : {A F : Type 0} (hand : Hand) (deed : ShardDeed) (r : Result A F) (e : ShardEntry)
     → Contains (shard_entries_of hand deed r) e → e.author ≡ hand_number hand
 entries_by hand deed (Ok a) e has = ap (λ (x : ShardEntry). x.author) (sym (only _ e has))

@@ -23,10 +23,10 @@ use Rattle.chronicle.specs.declared.chronicle.Chronicle.{Chronicle}
 use Rattle.chronicle.specs.declared.pass.Pass.{Pass}
 use Rattle.chronicle.specs.Locks.{lock_of}
 use Rattle.chronicle.specs.Logs.{Log, entries_of}
-use Rattle.chronicle.specs.Passes.{IsReady, number_of, own, seen}
+use Rattle.chronicle.specs.Passes.{IsReady, number_of, own_entries, seen_by_pass}
 use Rattle.oracle_lock.specs.Seen.{gates_seen, of_gates}
-use Rattle.shard_lock.specs.declared.noted.NotedShard.{NotedShard}
-use Rattle.shard_lock.specs.Notes.{seen_by_passes}
+use Rattle.shard_lock.specs.declared.noted_shard.NotedShard.{NotedShard}
+use Rattle.shard_lock.specs.Notes.{seen_by_shard_passes}
 use Rattle.weaver_locks.specs.declared.hand.Hand.{Hand}
 use Rattle.weaver_locks.specs.declared.shared.Shared.{Shared}
 use Rattle.weaver_locks.specs.Hands.{hand_number, IsHand, made_by, seen_by, with_shard_entries}
@@ -44,7 +44,7 @@ module _ (laws : HoldLaws) (shared : Shared) (old new : Hand) (shard : ℕ) (bef
     (d : DoesInShard shared old shard new.gates.items new.store new.oracle before added asked)
     (p : Pass ShardDeed) (shards_is : new.shards.items ≡ set old.shards.items shard p)
     (ready : (c : Chronicle NotedShard ShardDeed) → IsReady (lock_of (get_or shared.shards.items shard c)) p)
-    (number_is : number_of p ≡ hand_number old) (seen_is : seen p ≡ shard_pairs (before ++ added)) where
+    (number_is : number_of p ≡ hand_number old) (seen_is : seen_by_pass p ≡ shard_pairs (before ++ added)) where
   abbrev n : ℕ
   n = hand_number old
 
@@ -63,32 +63,32 @@ module _ (laws : HoldLaws) (shared : Shared) (old new : Hand) (shard : ℕ) (bef
   -- The store's log
 
   store_on : IsBeginningOf was.store next.store
-  store_on = records_on store_entry store_pair (λ x. refl) (seen old.store) (seen new.store) d.store_on.more
+  store_on = records_on store_entry store_pair (λ x. refl) (seen_by_pass old.store) (seen_by_pass new.store) d.store_on.more
 
   no_store_entry : (cut after : List StoreEntry) (e : StoreEntry) → next.store ≡ cut ++ e ∷ after → IsOwn n was.store cut e.author → ⊥
   no_store_entry cut after e at mine =
-      none_past store_entry store_pair (λ x. refl) laws.hand.store_places n (seen old.store) (seen new.store) d.store_on.more
-      (ap (λ (m : ℕ). entries_of m (seen new.store)) (sym d.store_on.number) ∙ d.store_on.own_is) cut after e at mine.0 mine.1
+      none_past store_entry store_pair (λ x. refl) laws.hand.store_places n (seen_by_pass old.store) (seen_by_pass new.store) d.store_on.more
+      (ap (λ (m : ℕ). entries_of m (seen_by_pass new.store)) (sym d.store_on.number) ∙ d.store_on.own_is) cut after e at mine.0 mine.1
 
   -- The logs of shards
 
-  seen_set : map seen new.shards.items ≡ set (map seen old.shards.items) shard (seen p)
-  seen_set = ap (λ (l : List (Pass ShardDeed)). map seen l) shards_is ∙ image_set seen old.shards.items shard p
+  seen_set : map seen_by_pass new.shards.items ≡ set (map seen_by_pass old.shards.items) shard (seen_by_pass p)
+  seen_set = ap (λ (l : List (Pass ShardDeed)). map seen_by_pass l) shards_is ∙ image_set seen_by_pass old.shards.items shard p
 
   here : shard_log next shard ≡ before ++ added
   here = shard_at new shard ∙ (ap (λ (l : List (Log ShardDeed)). shard_entries (get_or l shard [])) seen_set
-      ∙ (ap shard_entries (set_here (map seen old.shards.items) shard (seen p) [] (omega (arith, low_old, length-map old.shards.items seen)))
+      ∙ (ap shard_entries (set_here (map seen_by_pass old.shards.items) shard (seen_by_pass p) [] (omega (arith, low_old, length-map old.shards.items seen_by_pass)))
       ∙ (ap shard_entries seen_is ∙ shards_back (before ++ added))))
 
   there : (k : ℕ) → k ≢ shard → shard_log next k ≡ shard_log was k
   there k other = shard_at new k ∙ (ap (λ (l : List (Log ShardDeed)). shard_entries (get_or l k [])) seen_set
-      ∙ (ap shard_entries (set_there (map seen old.shards.items) shard k (seen p) [] other) ∙ sym (shard_at old k)))
+      ∙ (ap shard_entries (set_there (map seen_by_pass old.shards.items) shard k (seen_by_pass p) [] other) ∙ sym (shard_at old k)))
 
   abbrev had : Log ShardDeed
-  had = seen (get_or old.shards.items shard p)
+  had = seen_by_pass (get_or old.shards.items shard p)
 
   had_is : shard_log was shard ≡ shard_entries had
-  had_is = shard_at old shard ∙ ap shard_entries (image_at seen old.shards.items shard p [] low_old)
+  had_is = shard_at old shard ∙ ap shard_entries (image_at seen_by_pass old.shards.items shard p [] low_old)
 
   found : IsBeginningOf (shard_log was shard) before
   found = subst (λ (z : List ShardEntry × List ShardEntry). IsBeginningOf z.0 z.1) (λ i. (sym had_is i, shards_back before i))
@@ -100,6 +100,7 @@ module _ (laws : HoldLaws) (shared : Shared) (old new : Hand) (shard : ℕ) (bef
       (subst (λ (l : List ShardEntry). IsBeginningOf (shard_log was shard) l) (sym here) (begins_longer (shard_log was shard) before added found)))
       (λ other. subst (λ (l : List ShardEntry). IsBeginningOf (shard_log was k) l) (sym (there k other)) (nothing_more (shard_log was k)))
 
+  -- the hand has seen no less than it had
   pub within : IsWithin was next
   within = record { gates = gates_on shared old new d.hand d.gates_on; store = store_on; oracle = oracle_on shared old new d.hand d.settled asked d.oracle_adds; shards = shards_on }
 
@@ -130,8 +131,9 @@ module _ (laws : HoldLaws) (shared : Shared) (old new : Hand) (shard : ℕ) (bef
   -- What was added refers to what was seen
 
   abbrev by_passes : Account
-  by_passes = seen_by_passes shard (before ++ added) new.gates.items new.store new.oracle
+  by_passes = seen_by_shard_passes shard (before ++ added) new.gates.items new.store new.oracle
 
+  -- the hand has seen all that the entries in this shard's log refer to
   pub refers : ShardRefersWithin many next shard
   refers cut e after at =
       laws.shard_stays many shard by_passes next (same_gates by_passes next (sym (named shared old new d.hand d.gates_on))) (nothing_more next.store) (nothing_more next.oracle)
@@ -188,6 +190,7 @@ module _ (laws : HoldLaws) (shared : Shared) (old new : Hand) (shard : ℕ) (bef
       (subst (P shard) (sym (set_here old.shards.items shard p q low_old)) now))
       (λ other. subst (P k) (sym (set_there old.shards.items shard k p q other)) (others k q low)))
 
+  -- so it is a hand again: all its passes are ready, and it has seen what its entries refer to
   pub is_hand : IsHand shared new
   is_hand = record {
     gates = d.gates_on.count ∙ d.hand.gates;
@@ -207,19 +210,19 @@ module _ (laws : HoldLaws) (shared : Shared) (old new : Hand) (shard : ℕ) (bef
 
   -- What the hand made
 
-  shard_made : shard_entries (own p) ≡ shard_log (made_by old) shard ++ added
-  shard_made = ap (λ (m : ℕ). shard_entries (entries_of m (seen p))) number_is
+  shard_made : shard_entries (own_entries p) ≡ shard_log (made_by old) shard ++ added
+  shard_made = ap (λ (m : ℕ). shard_entries (entries_of m (seen_by_pass p))) number_is
       ∙ (ap (λ (l : Log ShardDeed). shard_entries (entries_of n l)) seen_is
-      ∙ (own_adds shard_entry shard_pair (λ x. refl) (λ x. refl) n before added (own (get_or old.shards.items shard p)) (d.own_is p) d.added_by
-      ∙ ap (λ (l : List ShardEntry). l ++ added) (sym (image_or shard_entries (map own old.shards.items) shard [] [] refl
-      ∙ ap shard_entries (image_at own old.shards.items shard p [] low_old)))))
+      ∙ (own_adds shard_entry shard_pair (λ x. refl) (λ x. refl) n before added (own_entries (get_or old.shards.items shard p)) (d.own_is p) d.added_by
+      ∙ ap (λ (l : List ShardEntry). l ++ added) (sym (image_or shard_entries (map own_entries old.shards.items) shard [] [] refl
+      ∙ ap shard_entries (image_at own_entries old.shards.items shard p [] low_old)))))
 
-  shards_made : map shard_entries (map own new.shards.items)
-      ≡ set (map shard_entries (map own old.shards.items)) shard (shard_log (made_by old) shard ++ added)
-  shards_made = ap (λ (l : List (Pass ShardDeed)). map shard_entries (map own l)) shards_is
-      ∙ (ap (λ (l : List (Log ShardDeed)). map shard_entries l) (image_set own old.shards.items shard p)
-      ∙ (image_set shard_entries (map own old.shards.items) shard (own p)
-      ∙ ap (λ (l : List ShardEntry). set (map shard_entries (map own old.shards.items)) shard l) shard_made))
+  shards_made : map shard_entries (map own_entries new.shards.items)
+      ≡ set (map shard_entries (map own_entries old.shards.items)) shard (shard_log (made_by old) shard ++ added)
+  shards_made = ap (λ (l : List (Pass ShardDeed)). map shard_entries (map own_entries l)) shards_is
+      ∙ (ap (λ (l : List (Log ShardDeed)). map shard_entries l) (image_set own_entries old.shards.items shard p)
+      ∙ (image_set shard_entries (map own_entries old.shards.items) shard (own_entries p)
+      ∙ ap (λ (l : List ShardEntry). set (map shard_entries (map own_entries old.shards.items)) shard l) shard_made))
 
   made : made_by new ≡ with_shard_entries shard added asked (made_by old)
   made = λ i. record {
@@ -230,6 +233,7 @@ module _ (laws : HoldLaws) (shared : Shared) (old new : Hand) (shard : ℕ) (bef
     sessions = [];
   }
 
+  -- the hand was in the shard's lock, and added these entries there and to the oracle's log, and nothing else
   pub was_there : WasAtShard many old new shard before added asked
   was_there = record {
     number = d.store_on.number;

@@ -12,7 +12,7 @@ use Rattle.std.proofs.lemmas.List.Elements.{Contains-append_right}
 use Rattle.graph_ops.specs.Operations.{State}
 use Rattle.weave_data.specs.declared.name.Name.{Name}
 use Rattle.vector_stamp.specs.declared.clock.Stamp.{Stamp}
-use Rattle.vector_stamp.specs.Precedence.{Given, precedes}
+use Rattle.vector_stamp.specs.Precedence.{GivenPair, precedes}
 use Rattle.vector_stamp.specs.Seeing.{last_seen}
 use Rattle.vector_stamp.specs.Settling.{additions_from, entries_of_call, places_of}
 use Rattle.weave_entries.specs.declared.gate_log.GateDeed.{GateDeed}
@@ -23,7 +23,7 @@ use Rattle.weave_entries.specs.declared.shard_log.ShardDeed.{ShardDeed}
 use Rattle.weave_entries.specs.declared.shard_log.ShardEntry.{ShardEntry}
 use Rattle.weave_entries.specs.declared.store_log.StoreDeed.{StoreDeed}
 use Rattle.weave_entries.specs.declared.store_log.StoreEntry.{StoreEntry}
-use Rattle.weave_entries.specs.OracleReplay.{oracle_entry, pairs_of_log, settled_entry}
+use Rattle.weave_entries.specs.OracleReplay.{oracle_entry_of, pairs_of_log, settled_entry}
 use Rattle.weave_entries.specs.ShardReplay.{Update, Visit, visit_by}
 use Rattle.weave_entries.specs.ShardRules.{entries_of_visit, is_settled_by, FitsShard, IsKeptFor, IsShardLog, last_read, update_stamps, updates_read}
 use Rattle.weave_entries.specs.StoreRule.{IsStoreLog}
@@ -41,15 +41,15 @@ use Rattle.chronicle.specs.declared.pass.Pass.{Pass}
 use Rattle.chronicle.specs.Holds.{log_at_entry, machine_of}
 use Rattle.chronicle.specs.Locks.{lock_of}
 use Rattle.chronicle.specs.Logs.{Follows, Log, entries_of}
-use Rattle.chronicle.specs.Passes.{IsReady, noted, number_of, own, seen}
+use Rattle.chronicle.specs.Passes.{IsReady, seen_by_note, number_of, own_entries, seen_by_pass}
 use Rattle.lock_row.specs.Meetings.{AllMet}
 use Rattle.lock_row.proofs.Lists.{written}
-use Rattle.gate_lock.specs.declared.noted.NotedGate.{NotedGate}
+use Rattle.gate_lock.specs.declared.noted_gate.NotedGate.{NotedGate}
 use Rattle.oracle_lock.specs.Seen.{gates_noted, gates_seen, of_gates, oracle_seen, OracleIsKept}
 use Rattle.shard_node.specs.declared.fault.VisitFault.{VisitFault}
 use Rattle.shard_node.specs.Shards.{ShardView}
-use Rattle.shard_lock.specs.declared.noted.NotedShard.{NotedShard}
-use Rattle.shard_lock.specs.Notes.{at_place, ShardIsKept, NotedShardView, seen_by_passes, seen_of}
+use Rattle.shard_lock.specs.declared.noted_shard.NotedShard.{NotedShard}
+use Rattle.shard_lock.specs.Notes.{at_place, ShardIsKept, NotedShardView, seen_by_shard_passes, seen_of_shard}
 use Rattle.shard_lock.specs.Visited.{VisitsOver}
 use Rattle.weaver_locks.specs.declared.hand.Hand.{Hand}
 use Rattle.weaver_locks.specs.declared.shared.Shared.{Shared}
@@ -93,19 +93,19 @@ asked_by_hand old stamp vertex before settled (Ok a) e has =
 asked_by_hand old stamp vertex before settled (Err f) e has = absurd (has_none e has)
 
 -- an entry of a call says what was asked, and some event did not precede
-record IsCall (earlier : List Stamp) (later : Stamp) (pairs : List Given) (e : OracleEntry) : Type 0 where
+record IsCall (earlier : List Stamp) (later : Stamp) (pairs : List GivenPair) (e : OracleEntry) : Type 0 where
   pub earlier_is : (settled_entry e).earlier ≡ earlier
   pub later_is : (settled_entry e).later ≡ later
 
-call_is : (n : ℕ) (earlier : List Stamp) (later : Stamp) (pairs : List Given) (places : List ℕ) (e : OracleEntry)
-    → Contains (map oracle_entry (entries_of_call n earlier later places)) e → IsCall earlier later pairs e
+call_is : (n : ℕ) (earlier : List Stamp) (later : Stamp) (pairs : List GivenPair) (places : List ℕ) (e : OracleEntry)
+    → Contains (map oracle_entry_of (entries_of_call n earlier later places)) e → IsCall earlier later pairs e
 call_is n earlier later pairs [] e has = absurd (has_none e has)
 call_is n earlier later pairs (place ∷ places) e has =
-    let first : OracleEntry = oracle_entry (record { author = n; earlier = earlier; later = later; places = place ∷ places }) in
+    let first : OracleEntry = oracle_entry_of (record { author = n; earlier = earlier; later = later; places = place ∷ places }) in
     subst (λ (x : OracleEntry). IsCall earlier later pairs x) (only first e has) (record { earlier_is = refl; later_is = refl })
 
 -- if all events precede, nothing is added
-none_added : (place : ℕ) (pairs : List Given) (read : List Stamp) (later : Stamp) → list_any (λ (u : Stamp). not (precedes pairs u later)) read ≡ false
+none_added : (place : ℕ) (pairs : List GivenPair) (read : List Stamp) (later : Stamp) → list_any (λ (u : Stamp). not (precedes pairs u later)) read ≡ false
     → additions_from place pairs read later ≡ []
 none_added place pairs [] later is = refl
 none_added place pairs (u ∷ us) later is =
@@ -123,21 +123,21 @@ true_or true = inl refl
 true_or false = inr refl
 
 -- a visit that added a pair is marked
-is_marked : (n : ℕ) (pairs : List Given) (stamp : Stamp) (vertex : Name) (before : List ShardEntry) (e : OracleEntry)
-    → Contains (map oracle_entry (entries_of_visit pairs n stamp vertex before)) e → IsTrue (is_settled_by pairs stamp vertex before)
+is_marked : (n : ℕ) (pairs : List GivenPair) (stamp : Stamp) (vertex : Name) (before : List ShardEntry) (e : OracleEntry)
+    → Contains (map oracle_entry_of (entries_of_visit pairs n stamp vertex before)) e → IsTrue (is_settled_by pairs stamp vertex before)
 is_marked n pairs stamp vertex before e has = elim (true_or (is_settled_by pairs stamp vertex before)) [
   | inl marked ↦ marked
   | inr none_marked ↦
       let read = last_read pairs stamp vertex before in
       let none = none_added 0 pairs read stamp none_marked in
-      absurd (has_none e (subst (λ (l : List (ℕ × Stamp)). Contains (map oracle_entry (entries_of_call n read stamp (places_of l))) e) none has))
+      absurd (has_none e (subst (λ (l : List (ℕ × Stamp)). Contains (map oracle_entry_of (entries_of_call n read stamp (places_of l))) e) none has))
 ]
 
 module _ (laws : AskLaws) (old : Hand) (gates request : ℕ) (stamp : Stamp) (vertex : Name) (before : List ShardEntry) (settled : List OracleEntry) where
   abbrev n : ℕ
   n = hand_number old
 
-  abbrev pairs : List Given
+  abbrev pairs : List GivenPair
   pairs = pairs_of_log settled
 
   abbrev visit : Visit
@@ -205,7 +205,7 @@ oracle_log_on old request stamp v was new had mine has settled (Err f) visits =
 module _ (shared : Shared) (old now : Hand) (shard : ℕ) (held : Held NotedShard ShardDeed) (hand : IsHand shared old)
     (low : shard < length shared.shards.items) (i : IsInShard shared old now shard held) (s m : NotedShardView) (s_is : s ≡ machine_of held)
     (request : ℕ) (stamp : Stamp) (vertex : Name) (r : Result State VisitFault) (oracle : Pass OracleDeed) (settled : List OracleEntry)
-    (visits : VisitsOver (number_of now.oracle) request stamp vertex s.shard m.shard (seen now.oracle) (own now.oracle) (seen oracle) settled r) where
+    (visits : VisitsOver (number_of now.oracle) request stamp vertex s.shard m.shard (seen_by_pass now.oracle) (own_entries now.oracle) (seen_by_pass oracle) settled r) where
   abbrev was : NotedShardView
   was = machine_of held
 
@@ -221,16 +221,18 @@ module _ (shared : Shared) (old now : Hand) (shard : ℕ) (held : Held NotedShar
   number_is : number_of now.oracle ≡ hand_number old
   number_is = i.oracle.number ∙ hand.oracle_number
 
-  pub visited_here : VisitsOver (hand_number old) request stamp vertex was.shard m.shard (seen now.oracle) (own now.oracle) (seen oracle) settled r
-  visited_here = subst (λ (z : ℕ × ShardView). VisitsOver z.0 request stamp vertex z.1 m.shard (seen now.oracle) (own now.oracle) (seen oracle) settled r)
+  -- the visit is by the hand, and over the log of the shard as the hold began
+  pub visited_here : VisitsOver (hand_number old) request stamp vertex was.shard m.shard (seen_by_pass now.oracle) (own_entries now.oracle) (seen_by_pass oracle) settled r
+  visited_here = subst (λ (z : ℕ × ShardView). VisitsOver z.0 request stamp vertex z.1 m.shard (seen_by_pass now.oracle) (own_entries now.oracle) (seen_by_pass oracle) settled r)
       (λ j. (number_is j, ap (λ (v : NotedShardView). v.shard) s_is j)) visits
 
   goes : GoesBy was.shard m.shard added
-  goes = shard_log_on old request stamp vertex was.shard m.shard (seen now.oracle) (own now.oracle) (seen oracle) settled r visited_here
+  goes = shard_log_on old request stamp vertex was.shard m.shard (seen_by_pass now.oracle) (own_entries now.oracle) (seen_by_pass oracle) settled r visited_here
 
-  oracle_left : seen oracle ≡ oracle_pairs (settled ++ asked)
-  oracle_left = oracle_log_on old request stamp vertex was.shard m.shard (seen now.oracle) (own now.oracle) (seen oracle) settled r visited_here
+  oracle_left : seen_by_pass oracle ≡ oracle_pairs (settled ++ asked)
+  oracle_left = oracle_log_on old request stamp vertex was.shard m.shard (seen_by_pass now.oracle) (own_entries now.oracle) (seen_by_pass oracle) settled r visited_here
 
+  -- since the hold began, the shard's log went on by entries of the hand alone
   pub visit_follows : (p : Pass ShardDeed) → Follows (number_of (get_or now.shards.items shard p)) (log_at_entry held) (shard_pairs m.shard.log)
   visit_follows = follows shared old now shard held hand low i m.shard.log added goes.log (made_by_hand old request stamp vertex before settled r)
 
@@ -238,7 +240,7 @@ module _ (shared : Shared) (old now : Hand) (shard : ℕ) (held : Held NotedShar
   oracle_adds ready number = record {
     ready = ready;
     number = number ∙ number_is;
-    found = begins_more (seen old.oracle) (seen now.oracle) (oracle_pairs settled) i.oracle.more visited_here.begins;
+    found = begins_more (seen_by_pass old.oracle) (seen_by_pass now.oracle) (oracle_pairs settled) i.oracle.more visited_here.begins;
     own_is = visited_here.own_then ∙ i.oracle.own_is;
     left = oracle_left;
     by = asked_by_hand old stamp vertex before settled r;
@@ -247,10 +249,10 @@ module _ (shared : Shared) (old now : Hand) (shard : ℕ) (held : Held NotedShar
   -- Where the hand's entries were
 
   abbrev had : Log ShardDeed
-  had = seen (get_or old.shards.items shard i.pass)
+  had = seen_by_pass (get_or old.shards.items shard i.pass)
 
   had_is : shard_log (seen_by old) shard ≡ shard_entries had
-  had_is = shard_at old shard ∙ ap shard_entries (image_at seen old.shards.items shard i.pass [] (has_shard shared old hand shard low))
+  had_is = shard_at old shard ∙ ap shard_entries (image_at seen_by_pass old.shards.items shard i.pass [] (has_shard shared old hand shard low))
 
   found : IsBeginningOf (shard_log (seen_by old) shard) before
   found = subst (λ (z : List ShardEntry × List ShardEntry). IsBeginningOf z.0 z.1) (λ j. (sym had_is j, shards_back before j))
@@ -267,9 +269,9 @@ module _ (shared : Shared) (old now : Hand) (shard : ℕ) (held : Held NotedShar
   module _ (laws : HoldLaws) (ask : AskLaws) (passes later : List (Pass GateDeed)) (passes_is : passes ≡ now.gates.items)
       (locks : List (Chronicle NotedGate GateDeed)) (locks_is : locks ≡ shared.gates.items)
       (gates_still : m.notes.gates ≡ s.notes.gates) (store_still : m.notes.store ≡ s.notes.store) (shards_still : m.shards ≡ s.shards)
-      (one : noted m.notes.oracle ≡ seen oracle) (ready : IsReady (lock_of shared.oracle) oracle) (number : number_of oracle ≡ number_of now.oracle)
+      (one : seen_by_note m.notes.oracle ≡ seen_by_pass oracle) (ready : IsReady (lock_of shared.oracle) oracle) (number : number_of oracle ≡ number_of now.oracle)
       (count : length later ≡ length passes) (on : GatesGoOn (of_gates (gates_seen passes)) (of_gates (gates_seen later)))
-      (oracle_kept : OracleIsKept s.shards (gates_seen later) (oracle_entries (seen oracle)))
+      (oracle_kept : OracleIsKept s.shards (gates_seen later) (oracle_entries (seen_by_pass oracle)))
       (met : (notes : List (Note GateDeed)) × (last : List (Note GateDeed)) × (length notes ≡ length locks)
       × AllMet locks passes later notes last (length locks)) (kept : ShardIsKept m.shard m.shards m.notes) where
     abbrev G : ℕ
@@ -289,10 +291,10 @@ module _ (shared : Shared) (old now : Hand) (shard : ℕ) (held : Held NotedShar
         (λ j. (locks_is j, passes_is j, sym back j)) met.3
 
     abbrev by_notes : Account
-    by_notes = seen_of m.shard m.notes
+    by_notes = seen_of_shard m.shard m.notes
 
     abbrev by_passes : Account
-    by_passes = seen_by_passes shard (before ++ added) gates_now now.store oracle
+    by_passes = seen_by_shard_passes shard (before ++ added) gates_now now.store oracle
 
     notes_on : GatesGoOn by_notes by_passes
     notes_on = subst (λ (z : List (List GateEntry) × List (Pass GateDeed)). GatesGoOn (of_gates z.0) (of_gates (gates_seen z.1)))
@@ -303,8 +305,8 @@ module _ (shared : Shared) (old now : Hand) (shard : ℕ) (held : Held NotedShar
         )) on
 
     store_is : by_notes.store ≡ by_passes.store
-    store_is = ap (λ (t : Note StoreDeed). store_entries (noted t)) store_still
-        ∙ (ap (λ (v : NotedShardView). store_entries (noted v.notes.store)) s_is ∙ ap (λ (a : Account). a.store) i.same)
+    store_is = ap (λ (t : Note StoreDeed). store_entries (seen_by_note t)) store_still
+        ∙ (ap (λ (v : NotedShardView). store_entries (seen_by_note v.notes.store)) s_is ∙ ap (λ (a : Account). a.store) i.same)
 
     place_is : m.shard.number ≡ shard
     place_is = goes.number ∙ i.place
@@ -327,13 +329,13 @@ module _ (shared : Shared) (old now : Hand) (shard : ℕ) (held : Held NotedShar
     shard_legal : IsShardLog G (before ++ added)
     shard_legal = subst (λ (z : ℕ × List ShardEntry). IsShardLog z.0 z.1) (λ j. ((goes.gates ∙ i.gate_count) j, log_is j)) (kept.legal.shard_logs shard)
 
-    oracle_is_kept : OracleIsKept H (gates_seen gates_now) (oracle_entries (seen oracle))
-    oracle_is_kept = subst (λ (z : ℕ × List (Pass GateDeed)). OracleIsKept z.0 (gates_seen z.1) (oracle_entries (seen oracle)))
+    oracle_is_kept : OracleIsKept H (gates_seen gates_now) (oracle_entries (seen_by_pass oracle))
+    oracle_is_kept = subst (λ (z : ℕ × List (Pass GateDeed)). OracleIsKept z.0 (gates_seen z.1) (oracle_entries (seen_by_pass oracle)))
         (λ j. ((ap (λ (v : NotedShardView). v.shards) s_is ∙ i.shard_count) j, sym back j)) oracle_kept
 
     asked_there : (e : OracleEntry) → Contains asked e → OracleRefersAs (of_gates (gates_seen gates_now)) e.deed
     asked_there e has =
-        let log = oracle_entries (seen oracle) in
+        let log = oracle_entries (seen_by_pass oracle) in
         let all : log ≡ settled ++ asked = ap oracle_entries oracle_left ∙ oracles_back (settled ++ asked) in
         let cut = cut_at log e (subst (λ (l : List OracleEntry). Contains l e) (sym all) (Contains-append_right settled asked e has)) in
         laws.oracle_stays (oracle_seen (gates_seen gates_now) log) (of_gates (gates_seen gates_now))
@@ -365,6 +367,7 @@ module _ (shared : Shared) (old now : Hand) (shard : ℕ) (held : Held NotedShar
           found (own_there laws) r shard_legal;
     }
 
+    -- the hand is done in the shard, with what it added there and what it asked the oracle for
     pub visit_done : IsDoneInShard shared old (record { gates = with_items now.gates later; store = now.store; oracle = oracle; shards = now.shards }) shard
         m.shard.log before added asked
     visit_done = record { log_is = goes.log; pass = i.pass; shards = i.shards; number = i.number; does = does }
@@ -373,13 +376,14 @@ module _ (shared : Shared) (old now : Hand) (shard : ℕ) (held : Held NotedShar
     pub oracle_was : AddsToOracle shared old oracle settled asked
     oracle_was = oracle_adds ready number
 
-    pub oracle_keeps : OracleIsKept H (gates_seen gates_now) (oracle_entries (seen oracle))
+    -- the hand's passes have seen all that the oracle's entries refer to, and what they have seen is legal
+    pub oracle_keeps : OracleIsKept H (gates_seen gates_now) (oracle_entries (seen_by_pass oracle))
     oracle_keeps = oracle_is_kept
 
 -- the hand has seen all that the oracle's log refers to
 pub oracle_refers_on : HoldLaws → (shards : ℕ) (new : Hand) (gates : List (Pass GateDeed)) (oracle : Pass OracleDeed) → new.gates.items ≡ gates
-    → new.oracle ≡ oracle → OracleIsKept shards (gates_seen gates) (oracle_entries (seen oracle)) → OracleRefersWithin (seen_by new)
+    → new.oracle ≡ oracle → OracleIsKept shards (gates_seen gates) (oracle_entries (seen_by_pass oracle)) → OracleRefersWithin (seen_by new)
 oracle_refers_on laws shards new gates oracle gates_is oracle_is kept cut e after at =
-    let known : Account = oracle_seen (gates_seen gates) (oracle_entries (seen oracle)) in
+    let known : Account = oracle_seen (gates_seen gates) (oracle_entries (seen_by_pass oracle)) in
     laws.oracle_stays known (seen_by new) (same_gates known (seen_by new) (sym (gates_named new.gates.items ∙ ap gates_seen gates_is))) e.deed
-    (kept.refers cut e after (ap (λ (p : Pass OracleDeed). oracle_entries (seen p)) (sym oracle_is) ∙ at))
+    (kept.refers cut e after (ap (λ (p : Pass OracleDeed). oracle_entries (seen_by_pass p)) (sym oracle_is) ∙ at))

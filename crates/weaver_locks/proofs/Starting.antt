@@ -19,15 +19,15 @@ use Rattle.chronicle.specs.declared.chronicle.Chronicle.{Chronicle}
 use Rattle.chronicle.specs.declared.note.Note.{Note}
 use Rattle.chronicle.specs.Logs.{Log}
 use Rattle.chronicle.specs.Locks.{lock_of, name_of}
-use Rattle.chronicle.specs.Passes.{lock_noted, noted}
+use Rattle.chronicle.specs.Passes.{lock_noted, seen_by_note}
 use Rattle.lock_row.specs.Rows.{names_of}
 use Rattle.lock_row.proofs.Lists.{mapped_alike}
-use Rattle.gate_lock.specs.declared.noted.NotedGate.{NotedGate}
+use Rattle.gate_lock.specs.declared.noted_gate.NotedGate.{NotedGate}
 use Rattle.gate_lock.specs.declared.notes.GateNotes.{GateNotes}
 use Rattle.gate_lock.specs.Notes as gate
 use Rattle.oracle_lock.specs.Seen.{oracle_seen, OracleIsKept}
 use Rattle.store_lock.specs.Seen.{store_seen, StoreIsKept}
-use Rattle.shard_lock.specs.declared.noted.NotedShard.{NotedShard}
+use Rattle.shard_lock.specs.declared.noted_shard.NotedShard.{NotedShard}
 use Rattle.shard_lock.specs.declared.notes.ShardNotes.{ShardNotes}
 use Rattle.shard_lock.specs.Notes as shard
 use Rattle.weaver_locks.specs.declared.locks.Locks.{Locks}
@@ -65,19 +65,23 @@ module _ (laws : OpeningLaws) (locks : Locks) (gates : List GateView) (store : L
   abbrev shard_start : Chronicle NotedShard ShardDeed → Log ShardDeed
   shard_start c = (lock_of c).start
 
+  -- the gatekeepers' locks start with the gatekeepers' logs
   pub gates_are : map gate_entries (map gate_start locks.gates.items) ≡ map (λ (g : GateView). g.log) gates
   gates_are = map_twice gate_entries gate_start locks.gates.items
       ∙ mapped_alike (λ (g : GateView). g.log) (λ (c : Chronicle NotedGate GateDeed). gate_entries (lock_of c).start) gates locks.gates.items gate_count
       (λ k g c low. ap gate_entries (opened.gate_locks k c g (omega (arith, low, gate_count))).start_is ∙ laws.gate_records (get_or gates k g).log)
 
+  -- the shards' locks start with the shards' logs
   pub shards_are : map shard_entries (map shard_start locks.shards.items) ≡ map (λ (s : ShardView). s.log) shards
   shards_are = map_twice shard_entries shard_start locks.shards.items
       ∙ mapped_alike (λ (s : ShardView). s.log) (λ (c : Chronicle NotedShard ShardDeed). shard_entries (lock_of c).start) shards locks.shards.items shard_count
       (λ k s c low. ap shard_entries (opened.shard_locks k c s (omega (arith, low, shard_count))).start_is ∙ laws.shard_records (get_or shards k s).log)
 
+  -- the store's lock starts with the store's log
   pub store_is : store_entries (lock_of locks.store).start ≡ store
   store_is = ap store_entries opened.store_lock.start_is ∙ laws.store_records store
 
+  -- the oracle's lock starts with the oracle's log
   pub oracle_is : oracle_entries (lock_of locks.oracle).start ≡ oracle
   oracle_is = ap oracle_entries opened.oracle_lock.start_is ∙ laws.oracle_records oracle
 
@@ -99,6 +103,7 @@ module _ (laws : OpeningLaws) (locks : Locks) (gates : List GateView) (store : L
   shard_refers k before entry after at = (start.refers 0).shard_entries k before entry after at
       (inr (was_there (shard_log account k) before after entry at))
 
+  -- a gatekeeper with notes of the logs at the start has seen legal logs, and all that its entries refer to
   pub kept_gate : (k : ℕ) (g : GateView) → k < length gates → (notes : GateNotes) → GateNotesStart locks notes → gate.GateIsKept (get_or gates k g) notes
   kept_gate k g low notes is =
       let v : GateView = get_or gates k g in
@@ -106,11 +111,11 @@ module _ (laws : OpeningLaws) (locks : Locks) (gates : List GateView) (store : L
       let many : v.gates ≡ length gates = start.order.gates_of k g low in
       let shard_many : v.shards ≡ length shards = start.order.shards_of k g low in
       let logs : List (List GateEntry) = map (λ (x : GateView). x.log) gates in
-      let seen : map gate_entries (map noted notes.gates.items) ≡ logs = ap (map gate_entries) is.gates.starts ∙ gates_are in
+      let seen : map gate_entries (map seen_by_note notes.gates.items) ≡ logs = ap (map gate_entries) is.gates.starts ∙ gates_are in
       let own : v.log ≡ get_or logs v.home [] = sym (ap (λ (j : ℕ). get_or logs j []) home ∙ get_or-map (λ (x : GateView). x.log) gates k g [] low) in
-      let whole : set (map gate_entries (map noted notes.gates.items)) v.home v.log ≡ logs =
+      let whole : set (map gate_entries (map seen_by_note notes.gates.items)) v.home v.log ≡ logs =
       ap (λ (l : List (List GateEntry)). set l v.home v.log) seen ∙ (ap (set logs v.home) own ∙ set-get_or logs v.home []) in
-      let shards_seen : map shard_entries (map noted notes.shards.items) ≡ account.shards = ap (map shard_entries) is.shards.starts ∙ shards_are in
+      let shards_seen : map shard_entries (map seen_by_note notes.shards.items) ≡ account.shards = ap (map shard_entries) is.shards.starts ∙ shards_are in
       laws.gate_kept v notes account (omega (arith, home, many, low))
       (as_many locks.gates.items notes.gates.items is.gates ∙ (gate_count ∙ sym many))
       (as_many locks.shards.items notes.shards.items is.shards ∙ (shard_count ∙ sym shard_many))
@@ -120,14 +125,15 @@ module _ (laws : OpeningLaws) (locks : Locks) (gates : List GateView) (store : L
       (ap store_entries is.store.start ∙ store_is)
       (λ j. ap (λ (l : List (List ShardEntry)). get_or l j []) shards_seen)
 
+  -- the same of a shard
   pub kept_shard : (k : ℕ) (s : ShardView) → k < length shards → (notes : ShardNotes) → ShardNotesStart locks notes
       → shard.ShardIsKept (get_or shards k s) (length shards) notes
   kept_shard k s low notes is =
       let v : ShardView = get_or shards k s in
       let number : v.number ≡ k = start.order.numbers k s low in
       let many : v.gates ≡ length gates = start.order.shard_gates k s low in
-      let seen : map (λ (n : Note GateDeed). gate_entries (noted n)) notes.gates.items ≡ account.gates =
-      sym (map_twice gate_entries noted notes.gates.items) ∙ (ap (map gate_entries) is.gates.starts ∙ gates_are) in
+      let seen : map (λ (n : Note GateDeed). gate_entries (seen_by_note n)) notes.gates.items ≡ account.gates =
+      sym (map_twice gate_entries seen_by_note notes.gates.items) ∙ (ap (map gate_entries) is.gates.starts ∙ gates_are) in
       laws.shard_kept v (length shards) notes account (omega (arith, number, low))
       (as_many locks.gates.items notes.gates.items is.gates ∙ (gate_count ∙ sym many))
       (subst (λ (n : ℕ). AreLegal n (length shards) account) (sym many) start.legal)
@@ -147,6 +153,7 @@ module _ (laws : OpeningLaws) (locks : Locks) (gates : List GateView) (store : L
     shards = λ k. subst (λ (l : List (List ShardEntry)). IsBeginningOf (get_or l k []) (shard_log account k)) (sym none) (shard_log account k, refl);
   }
 
+  -- the same of the store, which has seen the gatekeepers' and the oracle's logs at the start
   pub kept_store : StoreIsKept (length shards) (gates_start locks) (oracle_entries (lock_of locks.oracle).start) store
   kept_store =
       let seen : Account = store_seen account.gates oracle store in
@@ -157,6 +164,7 @@ module _ (laws : OpeningLaws) (locks : Locks) (gates : List GateView) (store : L
             (laws.beginnings (length gates) (length shards) seen account (part_within seen refl refl (itself store) refl) start.legal);
       }
 
+  -- the same of the oracle, which has seen the gatekeepers' logs at the start
   pub kept_oracle : OracleIsKept (length shards) (gates_start locks) oracle
   kept_oracle =
       let seen : Account = oracle_seen account.gates oracle in

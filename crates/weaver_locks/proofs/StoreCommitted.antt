@@ -19,7 +19,7 @@ use Rattle.weave_entries.specs.declared.store_log.StoreEntry.{StoreEntry}
 use Rattle.weave_entries.specs.declared.verdict.Counted.{Counted}
 use Rattle.weave_entries.specs.declared.verdict.Verdict.{Verdict}
 use Rattle.weave_entries.specs.declared.verdict.Verdict.TheVariants.{Committed, Conflict, Refused}
-use Rattle.weave_entries.specs.OracleReplay.{oracle_entry, pairs_of_log}
+use Rattle.weave_entries.specs.OracleReplay.{oracle_entry_of, pairs_of_log}
 use Rattle.weave_entries.specs.StoreReplay.{commit_by}
 use Rattle.weave_entries.specs.StoreRule.{IsStoreLog}
 use Rattle.backing_store.specs.Commits.{asked_at, judged_entry}
@@ -35,10 +35,10 @@ use Rattle.chronicle.specs.declared.pass.Pass.{Pass}
 use Rattle.chronicle.specs.Holds.{log_at_entry, machine_of}
 use Rattle.chronicle.specs.Locks.{lock_of}
 use Rattle.chronicle.specs.Logs.{Follows, Log}
-use Rattle.chronicle.specs.Passes.{IsReady, noted, number_of, own, seen}
+use Rattle.chronicle.specs.Passes.{IsReady, seen_by_note, number_of, own_entries, seen_by_pass}
 use Rattle.lock_row.specs.Meetings.{AllMet}
 use Rattle.lock_row.proofs.Lists.{written}
-use Rattle.gate_lock.specs.declared.noted.NotedGate.{NotedGate}
+use Rattle.gate_lock.specs.declared.noted_gate.NotedGate.{NotedGate}
 use Rattle.oracle_lock.specs.Seen.{gates_noted, gates_seen, of_gates, OracleIsKept}
 use Rattle.store_lock.specs.declared.noted_store.NotedStore.{NotedStore}
 use Rattle.store_lock.specs.Judged.{JudgesOver}
@@ -60,7 +60,7 @@ judged_by_hand n request stamp ops before (Err f) e has = absurd (has_none e has
 
 -- the entry of a call is its caller's
 pub call_by : (n : ℕ) (asked : List Stamp) (stamp : Stamp) (places : List ℕ) (e : OracleEntry)
-    → Contains (map oracle_entry (entries_of_call n asked stamp places)) e → e.author ≡ n
+    → Contains (map oracle_entry_of (entries_of_call n asked stamp places)) e → e.author ≡ n
 call_by n asked stamp [] e has = absurd (has_none e has)
 call_by n asked stamp (place ∷ places) e has = ap (λ (x : OracleEntry). x.author) (sym (only _ e has))
 
@@ -75,10 +75,10 @@ asked_by_hand n stamp ops before settled (Err f) e has = absurd (has_none e has)
 -- the pairs were asked for by the commit that is made in the same hold
 call_asked : (n request : ℕ) (stamp : Stamp) (ops : List Op) (before : List StoreEntry) (verdict : Verdict) (number : ℕ) (answers : List Got) (counts : List Counted)
     → verdict ≡ Committed number answers counts → (next : Account) → next.store ≡ before ++ judged_entry n request stamp ops before verdict ∷ []
-    → (places : List ℕ) (e : OracleEntry) → Contains (map oracle_entry (entries_of_call n (asked_at before stamp ops) stamp places)) e → IsAskedAsSeen next e
+    → (places : List ℕ) (e : OracleEntry) → Contains (map oracle_entry_of (entries_of_call n (asked_at before stamp ops) stamp places)) e → IsAskedAsSeen next e
 call_asked n request stamp ops before verdict number answers counts is next at [] e has = absurd (has_none e has)
 call_asked n request stamp ops before verdict number answers counts is next at (place ∷ places) e has =
-    let first : OracleEntry = oracle_entry (record { author = n; earlier = asked_at before stamp ops; later = stamp; places = place ∷ places }) in
+    let first : OracleEntry = oracle_entry_of (record { author = n; earlier = asked_at before stamp ops; later = stamp; places = place ∷ places }) in
     subst (λ (x : OracleEntry). IsAskedAsSeen next x) (only first e has) (inl (record {
       before = before;
       entry = judged_entry n request stamp ops before verdict;
@@ -122,7 +122,7 @@ all_by n author (e ∷ added) is by = All-cons (λ (x : ℕ × StoreDeed). x.0 �
 module _ {F : Type 0} (shared : Shared) (old now : Hand) (held : Held NotedStore StoreDeed) (hand : IsHand shared old)
     (i : IsInStore shared old now held) (s m : StoreView) (s_is : s ≡ machine_of held) (request : ℕ) (stamp : Stamp) (ops : List Op)
     (r : Result Verdict F) (oracle : Pass OracleDeed) (settled : List OracleEntry)
-    (judges : JudgesOver (number_of now.oracle) request stamp ops s.store m.store (seen now.oracle) (own now.oracle) (seen oracle) settled r) where
+    (judges : JudgesOver (number_of now.oracle) request stamp ops s.store m.store (seen_by_pass now.oracle) (own_entries now.oracle) (seen_by_pass oracle) settled r) where
   abbrev n : ℕ
   n = hand_number old
 
@@ -135,13 +135,15 @@ module _ {F : Type 0} (shared : Shared) (old now : Hand) (held : Held NotedStore
   abbrev asked : List OracleEntry
   asked = settled_entries n stamp ops before settled r
 
-  pub judged : JudgesOver n request stamp ops before m.store (seen old.oracle) (own old.oracle) (seen oracle) settled r
-  judged = subst (λ (z : ℕ × List StoreEntry × Pass OracleDeed). JudgesOver z.0 request stamp ops z.1 m.store (seen z.2) (own z.2) (seen oracle) settled r)
+  -- the judgement is by the hand, and over the store's log as the hold began
+  pub judged : JudgesOver n request stamp ops before m.store (seen_by_pass old.oracle) (own_entries old.oracle) (seen_by_pass oracle) settled r
+  judged = subst (λ (z : ℕ × List StoreEntry × Pass OracleDeed). JudgesOver z.0 request stamp ops z.1 m.store (seen_by_pass z.2) (own_entries z.2) (seen_by_pass oracle) settled r)
       (λ j. ((ap number_of i.oracle ∙ hand.oracle_number) j, ap (λ (v : StoreView). v.store) s_is j, i.oracle j)) judges
 
   log_is : m.store ≡ before ++ added
-  log_is = store_log_on n request stamp ops before m.store (seen old.oracle) (own old.oracle) (seen oracle) settled r judged
+  log_is = store_log_on n request stamp ops before m.store (seen_by_pass old.oracle) (own_entries old.oracle) (seen_by_pass oracle) settled r judged
 
+  -- since the hold began, the store's log went on by entries of the hand alone
   pub follows : Follows (hand_number now) (log_at_entry held) (store_pairs m.store)
   follows = (
     store_pairs added,
@@ -151,13 +153,13 @@ module _ {F : Type 0} (shared : Shared) (old now : Hand) (held : Held NotedStore
 
   module _ (laws : HoldLaws) (passes later : List (Pass GateDeed)) (passes_is : passes ≡ now.gates.items)
       (locks : List (Chronicle NotedGate GateDeed)) (locks_is : locks ≡ shared.gates.items)
-      (gates_still : m.gates ≡ s.gates) (shards_still : m.shards ≡ s.shards) (one : noted m.oracle ≡ seen oracle)
+      (gates_still : m.gates ≡ s.gates) (shards_still : m.shards ≡ s.shards) (one : seen_by_note m.oracle ≡ seen_by_pass oracle)
       (ready : IsReady (lock_of shared.oracle) oracle) (number : number_of oracle ≡ number_of now.oracle)
       (count : length later ≡ length passes) (on : GatesGoOn (of_gates (gates_seen passes)) (of_gates (gates_seen later)))
-      (oracle_kept : OracleIsKept s.shards (gates_seen later) (oracle_entries (seen oracle)))
+      (oracle_kept : OracleIsKept s.shards (gates_seen later) (oracle_entries (seen_by_pass oracle)))
       (met : (notes : List (Note GateDeed)) × (last : List (Note GateDeed)) × (length notes ≡ length locks)
       × AllMet locks passes later notes last (length locks))
-      (kept : StoreIsKept m.shards (gates_noted m.gates) (oracle_entries (noted m.oracle)) m.store) where
+      (kept : StoreIsKept m.shards (gates_noted m.gates) (oracle_entries (seen_by_note m.oracle)) m.store) where
     back : (with_items now.gates later).items ≡ later
     back = written now.gates.len later now.gates.items (count ∙ ap (λ (l : List (Pass GateDeed)). length l) passes_is ∙ sym now.gates.ok.0)
 
@@ -166,10 +168,10 @@ module _ {F : Type 0} (shared : Shared) (old now : Hand) (held : Held NotedStore
         (λ j. (locks_is j, passes_is j, sym back j)) met.3
 
     abbrev by_notes : Account
-    by_notes = store_seen (gates_noted m.gates) (oracle_entries (noted m.oracle)) m.store
+    by_notes = store_seen (gates_noted m.gates) (oracle_entries (seen_by_note m.oracle)) m.store
 
     abbrev by_passes : Account
-    by_passes = store_seen (gates_seen (with_items now.gates later).items) (oracle_entries (seen oracle)) (before ++ added)
+    by_passes = store_seen (gates_seen (with_items now.gates later).items) (oracle_entries (seen_by_pass oracle)) (before ++ added)
 
     notes_on : GatesGoOn by_notes by_passes
     notes_on = subst (λ (z : List (List GateEntry) × List (Pass GateDeed)). GatesGoOn (of_gates z.0) (of_gates (gates_seen z.1)))
@@ -192,7 +194,7 @@ module _ {F : Type 0} (shared : Shared) (old now : Hand) (held : Held NotedStore
         number = number ∙ (ap number_of i.oracle ∙ hand.oracle_number);
         found = judged.begins;
         own_is = judged.own_then;
-        left = oracle_log_on n request stamp ops before m.store (seen old.oracle) (own old.oracle) (seen oracle) settled r judged;
+        left = oracle_log_on n request stamp ops before m.store (seen_by_pass old.oracle) (own_entries old.oracle) (seen_by_pass oracle) settled r judged;
         by = asked_by_hand n stamp ops before settled r;
       };
       asked_for = asked_for_it n request stamp ops before settled r;
@@ -201,10 +203,11 @@ module _ {F : Type 0} (shared : Shared) (old now : Hand) (held : Held NotedStore
       added_by = judged_by_hand n request stamp ops before r;
       store_legal = subst (λ (l : List StoreEntry). IsStoreLog l) log_is kept.legal.store_log;
       refers = refers;
-      oracle_kept = subst (λ (z : ℕ × List (Pass GateDeed)). OracleIsKept z.0 (gates_seen z.1) (oracle_entries (seen oracle)))
+      oracle_kept = subst (λ (z : ℕ × List (Pass GateDeed)). OracleIsKept z.0 (gates_seen z.1) (oracle_entries (seen_by_pass oracle)))
           (λ j. ((ap (λ (v : StoreView). v.shards) s_is ∙ i.shard_count) j, sym back j)) oracle_kept;
     }
 
+    -- the hand is done in the store, with what it added there and what it asked the oracle for
     pub done : IsDoneInStore shared old
         (record { gates = with_items now.gates later; store = now.store; oracle = oracle; shards = now.shards }) m.store before added settled asked
     done = record { log_is = log_is; shards = i.shards; number = i.number; does = does }

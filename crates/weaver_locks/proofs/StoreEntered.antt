@@ -17,11 +17,11 @@ use Rattle.chronicle.specs.Frames.{Frame}
 use Rattle.chronicle.specs.Holds.{lock_in, log_at_entry, machine_of, WentInWith}
 use Rattle.chronicle.specs.Locks.{lock_of, name_of}
 use Rattle.chronicle.specs.Logs.{entries_of}
-use Rattle.chronicle.specs.Passes.{lock_noted, noted, number_of, own, seen}
+use Rattle.chronicle.specs.Passes.{lock_noted, seen_by_note, number_of, own_entries, seen_by_pass}
 use Rattle.lock_row.specs.Meetings.{AllMet}
 use Rattle.lock_row.specs.Rows.{names_of}
 use Rattle.lock_row.proofs.Lists.{written}
-use Rattle.gate_lock.specs.declared.noted.NotedGate.{NotedGate}
+use Rattle.gate_lock.specs.declared.noted_gate.NotedGate.{NotedGate}
 use Rattle.oracle_lock.specs.Seen.{AreGateLogs, gates_noted, gates_seen}
 use Rattle.store_lock.specs.declared.noted_store.NotedStore.{NotedStore}
 use Rattle.store_lock.specs.Seen.{StoreIsKept, StoreView}
@@ -44,6 +44,7 @@ module _ (shared : Shared) (old : Hand) (hand : IsHand shared old) (held : Held 
   oracle_note : lock_noted s.oracle ≡ name_of (lock_of shared.oracle)
   oracle_note = ap (λ (f : Frame). first_of (rest_of f)) frame_is
 
+  -- the store has a note of each gatekeeper's lock, in their order
   pub gate_notes : map lock_noted s.gates ≡ names_of shared.gates.items
   gate_notes = ap (λ (f : Frame). rest_of (rest_of f)) frame_is
 
@@ -58,8 +59,8 @@ module _ (shared : Shared) (old : Hand) (hand : IsHand shared old) (held : Held 
         }
 
     module _ (q : Pass StoreDeed)
-        (log : IsPrefix (seen old.store) (store_pairs (machine_of held).store))
-        (own_then : entries_of (number_of old.store) (store_pairs (machine_of held).store) ≡ own old.store)
+        (log : IsPrefix (seen_by_pass old.store) (store_pairs (machine_of held).store))
+        (own_then : entries_of (number_of old.store) (store_pairs (machine_of held).store) ≡ own_entries old.store)
         (entry : log_at_entry held ≡ store_pairs (machine_of held).store)
         (lock_is : lock_in held ≡ lock_of shared.store) (went : WentInWith q held) (number : number_of q ≡ number_of old.store)
         (locks : List (Chronicle NotedGate GateDeed)) (locks_is : locks ≡ shared.gates.items)
@@ -67,7 +68,7 @@ module _ (shared : Shared) (old : Hand) (hand : IsHand shared old) (held : Held 
         (oracle_still : m.oracle ≡ s.oracle) (count : length later ≡ length gates) (names : map lock_noted m.gates ≡ map lock_noted s.gates)
         (gates_met : AllMet locks gates later s.gates m.gates (length locks)) (one : gates_noted m.gates ≡ gates_seen later)
         (legal : AreGateLogs s.shards (gates_seen later))
-        (kept : StoreIsKept m.shards (gates_noted m.gates) (oracle_entries (noted m.oracle)) m.store) where
+        (kept : StoreIsKept m.shards (gates_noted m.gates) (oracle_entries (seen_by_note m.oracle)) m.store) where
       many : length later ≡ length old.gates.items
       many = count ∙ ap (λ (l : List (Pass GateDeed)). length l) gates_is
 
@@ -92,6 +93,7 @@ module _ (shared : Shared) (old : Hand) (hand : IsHand shared old) (held : Held 
       still : store_frame_of m ≡ store_frame_of s
       still = λ j. (shards_still j ∷ []) ∷ lock_noted (oracle_still j) ∷ names j
 
+      -- so the hand is in the store's lock, with its passes of gatekeepers' locks as they met the notes
       pub entered : IsInStore shared old
           (record { gates = with_items old.gates later; store = q; oracle = old.oracle; shards = old.shards })
           (record { chronicle = held.chronicle; machine = m; seat = held.seat; seated = held.seated; view = held.view; author = held.author })
@@ -106,7 +108,7 @@ module _ (shared : Shared) (old : Hand) (hand : IsHand shared old) (held : Held 
         frame = still ∙ (ap store_frame_of s_is ∙ (framed ∙ ap (λ l. l.frame) (sym lock_is)));
         entry = entry ∙ ap (λ (l : List StoreEntry). store_pairs l) (sym its_log);
         own_is = ap (λ (l : List StoreEntry). entries_of (hand_number old) (store_pairs l)) its_log ∙ own_then;
-        found = subst (λ (l : List StoreEntry). IsPrefix (seen old.store) (store_pairs l)) (sym its_log) log;
+        found = subst (λ (l : List StoreEntry). IsPrefix (seen_by_pass old.store) (store_pairs l)) (sym its_log) log;
         shard_count = shards_still ∙ shard_count;
         oracle_note = ap lock_noted oracle_still ∙ oracle_note;
         one = one ∙ ap gates_seen (sym back);

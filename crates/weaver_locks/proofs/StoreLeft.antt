@@ -19,7 +19,7 @@ use Rattle.seen_logs.specs.Seen.{AddsAsSeen, AreLegal, IsSeenByHand, IsWithin, O
 use Rattle.chronicle.specs.declared.pass.Pass.{Pass}
 use Rattle.chronicle.specs.Locks.{lock_of}
 use Rattle.chronicle.specs.Logs.{Log, entries_of}
-use Rattle.chronicle.specs.Passes.{IsReady, number_of, own, seen}
+use Rattle.chronicle.specs.Passes.{IsReady, number_of, own_entries, seen_by_pass}
 use Rattle.oracle_lock.specs.Seen.{gates_seen, oracle_seen}
 use Rattle.store_lock.specs.Seen.{store_seen}
 use Rattle.weaver_locks.specs.declared.hand.Hand.{Hand}
@@ -37,7 +37,7 @@ use Rattle.weaver_locks.proofs.Seeing.{begins_longer, same_gates, stores_back}
 module _ (laws : HoldLaws) (shared : Shared) (old new : Hand) (before added : List StoreEntry) (settled asked : List OracleEntry)
     (d : DoesInStore shared old new.gates.items new.oracle before added settled asked) (shards_is : new.shards.items ≡ old.shards.items)
     (ready : IsReady (lock_of shared.store) new.store) (number_is : hand_number new ≡ hand_number old)
-    (seen_is : seen new.store ≡ store_pairs (before ++ added)) where
+    (seen_is : seen_by_pass new.store ≡ store_pairs (before ++ added)) where
   abbrev n : ℕ
   n = hand_number old
 
@@ -57,7 +57,7 @@ module _ (laws : HoldLaws) (shared : Shared) (old new : Hand) (before added : Li
 
   found : IsBeginningOf was.store before
   found = subst (λ (l : List StoreEntry). IsBeginningOf was.store l) (stores_back before)
-      (records_on store_entry store_pair (λ x. refl) (seen old.store) (store_pairs before) d.found)
+      (records_on store_entry store_pair (λ x. refl) (seen_by_pass old.store) (store_pairs before) d.found)
 
   store_on : IsBeginningOf was.store next.store
   store_on = subst (λ (l : List StoreEntry). IsBeginningOf was.store l) (sym left) (begins_longer was.store before added found)
@@ -65,7 +65,7 @@ module _ (laws : HoldLaws) (shared : Shared) (old new : Hand) (before added : Li
   -- The shards' logs
 
   shards_same : (k : ℕ) → shard_log next k ≡ shard_log was k
-  shards_same k = ap (λ (l : List (Pass ShardDeed)). get_or (map shard_entries (map seen l)) k []) shards_is
+  shards_same k = ap (λ (l : List (Pass ShardDeed)). get_or (map shard_entries (map seen_by_pass l)) k []) shards_is
 
   within : IsWithin was next
   within = record {
@@ -90,14 +90,14 @@ module _ (laws : HoldLaws) (shared : Shared) (old new : Hand) (before added : Li
   }
 
   abbrev by_store : Account
-  by_store = store_seen (gates_seen new.gates.items) (oracle_entries (seen new.oracle)) (before ++ added)
+  by_store = store_seen (gates_seen new.gates.items) (oracle_entries (seen_by_pass new.oracle)) (before ++ added)
 
   refers : StoreRefersWithin next
   refers cut e after at = laws.store_stays by_store next (same_gates by_store next (sym (named shared old new d.hand d.gates_on))) (nothing_more next.oracle) cut e.author e.deed
       (d.refers cut e after (sym left ∙ at))
 
   abbrev by_oracle : Account
-  by_oracle = oracle_seen (gates_seen new.gates.items) (oracle_entries (seen new.oracle))
+  by_oracle = oracle_seen (gates_seen new.gates.items) (oracle_entries (seen_by_pass new.oracle))
 
   oracle_refers : OracleRefersWithin next
   oracle_refers cut e after at = laws.oracle_stays by_oracle next (same_gates by_oracle next (sym (named shared old new d.hand d.gates_on))) e.deed (d.oracle_kept.refers cut e after at)
@@ -115,6 +115,7 @@ module _ (laws : HoldLaws) (shared : Shared) (old new : Hand) (before added : Li
 
   -- The hand
 
+  -- so it is a hand again: all its passes are ready, and it has seen what its entries refer to
   pub is_hand : IsHand shared new
   is_hand = record {
     gates = d.gates_on.count ∙ d.hand.gates;
@@ -134,20 +135,21 @@ module _ (laws : HoldLaws) (shared : Shared) (old new : Hand) (before added : Li
 
   -- What the hand made
 
-  store_made : store_entries (own new.store) ≡ store_entries (own old.store) ++ added
-  store_made = ap (λ (m : ℕ). store_entries (entries_of m (seen new.store))) number_is
+  store_made : store_entries (own_entries new.store) ≡ store_entries (own_entries old.store) ++ added
+  store_made = ap (λ (m : ℕ). store_entries (entries_of m (seen_by_pass new.store))) number_is
       ∙ (ap (λ (l : Log StoreDeed). store_entries (entries_of n l)) seen_is
-      ∙ own_adds store_entry store_pair (λ x. refl) (λ x. refl) n before added (own old.store) d.own_is d.added_by)
+      ∙ own_adds store_entry store_pair (λ x. refl) (λ x. refl) n before added (own_entries old.store) d.own_is d.added_by)
 
   made : made_by new ≡ with_store_entries added asked (made_by old)
   made = λ i. record {
     gates = gates_made shared old new d.hand d.gates_on i;
     store = store_made i;
     oracle = oracle_made shared old new d.hand settled asked d.oracle_adds i;
-    shards = map shard_entries (map own (shards_is i));
+    shards = map shard_entries (map own_entries (shards_is i));
     sessions = [];
   }
 
+  -- the hand was in the store's lock, and added these entries there and to the oracle's log, and nothing else
   pub was_there : WasAtStore old new before added settled asked
   was_there = record {
     number = number_is;

@@ -1,6 +1,7 @@
 -- What locks are made for, and what is left when they are closed.
 use Rattle.std.specs.Prelude.{◌≡◌, ◌==◌, if◌then◌else◌, ℕ, ◌<◌, ◌≤◌, List, [], ◌∷◌, map, length, slice_index_or}
 use Rattle.std.specs.List.{filter}
+use Rattle.weave_data.specs.Limits.{most_gates, most_shards}
 use Rattle.weave_entries.specs.declared.gate_log.GateEntry.{GateEntry}
 use Rattle.weave_entries.specs.declared.oracle_log.OracleEntry.{OracleEntry}
 use Rattle.weave_entries.specs.declared.shard_log.ShardEntry.{ShardEntry}
@@ -34,7 +35,7 @@ pub record AreInOrder (gates : List GateView) (shards : List ShardView) : Type 0
   pub numbers : (k : ℕ) (s : ShardView) → k < length shards → (slice_index_or shards k s).number ≡ k
   pub shard_gates : (k : ℕ) (s : ShardView) → k < length shards → (slice_index_or shards k s).gates ≡ length gates
 
--- a shard before its first entry, with this number and for that many gatekeepers
+-- a shard before its first entry, with this number and for that many gatekeepers. No public contract cites this.
 abbrev pub IsNewShard : ℕ → ℕ → ShardView → Type 0
 IsNewShard number gates shard = shard ≡ record { number = number; gates = gates; log = [] }
 
@@ -43,9 +44,9 @@ IsNewShard number gates shard = shard ≡ record { number = number; gates = gate
 pub record MayStart (gates : List GateView) (store : List StoreEntry) (oracle : List OracleEntry)
     (shards : List ShardView) : Type 0 where
   pub some_gate : 1 ≤ length gates
-  pub few_gates : length gates ≤ 8
+  pub few_gates : length gates ≤ most_gates
   pub some_shard : 1 ≤ length shards
-  pub few_shards : length shards ≤ 16
+  pub few_shards : length shards ≤ most_shards
   pub order : AreInOrder gates shards
   pub legal : AreLegal (length gates) (length shards) (logs_of gates store oracle shards)
   pub refers : (number : ℕ) → IsSeenByHand (length shards) number (logs_of gates store oracle shards)

@@ -9,7 +9,7 @@ use Rattle.weave_entries.specs.declared.verdict.Verdict.{Verdict}
 use Rattle.weave_entries.specs.Sending.{messages_of}
 use Rattle.weave_entries.specs.declared.gate_log.GateDeed.{GateDeed}
 use Rattle.weave_entries.specs.declared.gate_log.GateEntry.{GateEntry}
-use Rattle.weave_entries.specs.GateReplay.{Begun, clock_of, flight_of}
+use Rattle.weave_entries.specs.GateReplay.{BegunRequest, clock_of, flight_of}
 use Rattle.weave_account.specs.declared.account.Account.{Account}
 use Rattle.weave_account.specs.Account.{gate_log}
 use Rattle.weave_account.specs.Clocks.{IsKnown}
@@ -42,7 +42,7 @@ pub record WasAtGate (shards : ℕ) (old new : Hand) (gate : ℕ) (before added 
 
 -- A transaction of the hand is in flight at the gatekeeper, and this verdict on these operations is its own.
 pub record MaySend (seen : Account) (number gate : ℕ) (ops : List Op) (verdict : Verdict) : Type 0 where
-  pub flight : Begun
+  pub flight : BegunRequest
   pub flies : flight_of (gate_log seen gate) ≡ Some flight
   pub own : flight.author ≡ number
   pub judged : HasJudged seen flight ops verdict
@@ -51,7 +51,7 @@ pub record MaySend (seen : Account) (number gate : ℕ) (ops : List Op) (verdict
 -- out of memory.
 pub record SendsIn (shards : ℕ) (old new : Hand) (gate : ℕ) (before : List GateEntry) (ops : List Op)
     (verdict : Verdict) (result : Result (Unit {0}) GateFault) : Type 0 where
-  pub flight : Begun
+  pub flight : BegunRequest
   pub flies : flight_of before ≡ Some flight
   pub as_seen : flight_of (gate_log (seen_by old) gate) ≡ Some flight
   pub own : flight.author ≡ hand_number old

@@ -1,10 +1,11 @@
 -- The laws of the crates below on gatekeepers, in one. No public contract cites this.
 use Rattle.std.specs.Prelude.{◌≡◌, ℕ, ◌<◌, List, [], ◌∷◌, ◌++◌, IsTrue}
+use Rattle.weave_data.specs.Limits.{most_gates}
 use Rattle.graph_ops.specs.declared.op.Op.{Op}
 use Rattle.vector_stamp.specs.declared.clock.Clock.{Clock}
 use Rattle.vector_stamp.specs.declared.clock.Stamp.{Stamp}
 use Rattle.vector_stamp.specs.Clocks.{counts_no_more}
-use Rattle.vector_stamp.specs.Precedence.{Given}
+use Rattle.vector_stamp.specs.Precedence.{GivenPair}
 use Rattle.weave_entries.specs.declared.gate_log.GateDeed.{GateDeed}
 use Rattle.weave_entries.specs.declared.gate_log.GateEntry.{GateEntry}
 use Rattle.weave_entries.specs.GateReplay.{clock_of, flight_after, flight_of}
@@ -29,11 +30,11 @@ pub record GateLaws : Type 0 where
       → (before : List GateEntry) (author : ℕ) (deed : GateDeed)
       → GateRefersAs seen shards before author deed → GateRefersAs next shards before author deed
   pub own_clock : (shards : ℕ) (seen : Account) (home : ℕ) → GateRefersWithin shards seen home
-      → home < 8 → IsKnown seen (clock_of home (gate_log seen home))
-  pub may_be_heard : (shards home : ℕ) (account : Account) → home < 8
+      → home < most_gates → IsKnown seen (clock_of home (gate_log seen home))
+  pub may_be_heard : (shards home : ℕ) (account : Account) → home < most_gates
       → IsGateLog home shards (gate_log account home) → (clock : Clock) → IsKnown account clock
       → IsTrue (counts_no_more home (clock_of home (gate_log account home)) clock)
   pub flight : (log : List GateEntry) (entry : GateEntry)
       → flight_of (log ++ entry ∷ []) ≡ flight_after (flight_of log) entry.author entry.deed
-  pub counts : (pairs : List Given) (commits : List Commit) (stamp : Stamp) (ops : List Op)
+  pub counts : (pairs : List GivenPair) (commits : List Commit) (stamp : Stamp) (ops : List Op)
       → IsCountsOf ops (verdict_on pairs commits stamp ops)

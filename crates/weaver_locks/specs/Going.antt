@@ -8,7 +8,7 @@ use Rattle.chronicle.specs.declared.chronicle.Chronicle.{Chronicle}
 use Rattle.chronicle.specs.declared.pass.Pass.{Pass}
 use Rattle.chronicle.specs.Locks.{Lock, lock_of}
 use Rattle.chronicle.specs.Logs.{entries_of}
-use Rattle.chronicle.specs.Passes.{IsReady, number_of, seen, own}
+use Rattle.chronicle.specs.Passes.{IsReady, number_of, seen_by_pass, own_entries}
 use Rattle.weaver_locks.specs.declared.hand.Hand.{Hand}
 use Rattle.weaver_locks.specs.declared.shared.Shared.{Shared}
 use Rattle.weaver_locks.specs.Hands.{hand_number}
@@ -18,8 +18,8 @@ module _ {E : Type 0} where
   pub record GoesOnAs (lock : Lock E) (p q : Pass E) : Type 0 where
     pub ready : IsReady lock q
     pub number : number_of q ≡ number_of p
-    pub own_is : own q ≡ own p
-    pub more : IsPrefix (seen p) (seen q)
+    pub own_is : own_entries q ≡ own_entries p
+    pub more : IsPrefix (seen_by_pass p) (seen_by_pass q)
 
 module _ {M E : Type 0} where
   -- each pass of a row goes on like this
@@ -33,7 +33,7 @@ pub record AddsToOracle (shared : Shared) (old : Hand) (oracle : Pass OracleDeed
     : Type 0 where
   pub ready : IsReady (lock_of shared.oracle) oracle
   pub number : number_of oracle ≡ hand_number old
-  pub found : IsPrefix (seen old.oracle) (oracle_pairs settled)
-  pub own_is : entries_of (hand_number old) (oracle_pairs settled) ≡ own old.oracle
-  pub left : seen oracle ≡ oracle_pairs (settled ++ asked)
+  pub found : IsPrefix (seen_by_pass old.oracle) (oracle_pairs settled)
+  pub own_is : entries_of (hand_number old) (oracle_pairs settled) ≡ own_entries old.oracle
+  pub left : seen_by_pass oracle ≡ oracle_pairs (settled ++ asked)
   pub by : (entry : OracleEntry) → Contains asked entry → entry.author ≡ hand_number old

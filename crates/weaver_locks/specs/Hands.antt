@@ -12,7 +12,7 @@ use Rattle.seen_logs.specs.Entries.{account_of_logs}
 use Rattle.seen_logs.specs.Seen.{AreLegal, IsSeenByHand}
 use Rattle.chronicle.specs.declared.pass.Pass.{Pass}
 use Rattle.chronicle.specs.Locks.{lock_of}
-use Rattle.chronicle.specs.Passes.{IsReady, number_of, seen, own}
+use Rattle.chronicle.specs.Passes.{IsReady, number_of, seen_by_pass, own_entries}
 use Rattle.lock_row.specs.Rows.{AreReady}
 use Rattle.weaver_locks.specs.declared.hand.Hand.{Hand}
 use Rattle.weaver_locks.specs.declared.shared.Shared.{Shared}
@@ -25,11 +25,14 @@ hand_number hand = number_of hand.store
 -- what a hand's passes have seen
 abbrev pub seen_by : Hand → Account
 seen_by hand =
-    account_of_logs (map seen hand.gates.items) (seen hand.store) (seen hand.oracle) (map seen hand.shards.items)
+    account_of_logs (map seen_by_pass hand.gates.items) (seen_by_pass hand.store) (seen_by_pass hand.oracle)
+    (map seen_by_pass hand.shards.items)
 
 -- the hand's own entries: those with its number
 abbrev pub made_by : Hand → Account
-made_by hand = account_of_logs (map own hand.gates.items) (own hand.store) (own hand.oracle) (map own hand.shards.items)
+made_by hand =
+    account_of_logs (map own_entries hand.gates.items) (own_entries hand.store) (own_entries hand.oracle)
+    (map own_entries hand.shards.items)
 
 -- logs with these entries at the end of a gatekeeper's, of the store's and the oracle's, of a shard's and the oracle's
 abbrev pub with_gate_entries : ℕ → List GateEntry → Account → Account

@@ -12,11 +12,11 @@ use Rattle.chronicle.specs.declared.pass.Pass.{Pass}
 use Rattle.chronicle.specs.Holds.{log_at_entry, lock_in, machine_of, WentInWith}
 use Rattle.chronicle.specs.Locks.{lock_of}
 use Rattle.chronicle.specs.Logs.{entries_of}
-use Rattle.chronicle.specs.Passes.{IsReady, noted, number_of, own, seen}
+use Rattle.chronicle.specs.Passes.{IsReady, seen_by_note, number_of, own_entries, seen_by_pass}
 use Rattle.lock_row.specs.Rows.{AreReady}
-use Rattle.gate_lock.specs.declared.noted.NotedGate.{NotedGate}
+use Rattle.gate_lock.specs.declared.noted_gate.NotedGate.{NotedGate}
 use Rattle.gate_lock.specs.Frames.{AreReadyBut}
-use Rattle.gate_lock.specs.Notes.{account_of, frame_of, seen_by_passes}
+use Rattle.gate_lock.specs.Notes.{account_of_gate, frame_of_gate, seen_by_gate_passes}
 use Rattle.weaver_locks.specs.declared.hand.Hand.{Hand}
 use Rattle.weaver_locks.specs.declared.shared.Shared.{Shared}
 use Rattle.weaver_locks.specs.Hands.{hand_number}
@@ -42,10 +42,10 @@ pub record SeesElsewhere (shared : Shared) (old now : Hand) (gate : ℕ) : Type 
       → OnlySees (slice_index_or old.shards.items k p) (slice_index_or now.shards.items k p)
 
 -- the gatekeeper's log was `before`: it began with what the hand had seen, and had all of its entries
-pub record HasFound (old : Hand) (gate : ℕ) (before : List GateEntry) : Type 0 where
-  pub more : (p : Pass GateDeed) → IsPrefix (seen (slice_index_or old.gates.items gate p)) (gate_pairs before)
+pub record HasFoundLog (old : Hand) (gate : ℕ) (before : List GateEntry) : Type 0 where
+  pub more : (p : Pass GateDeed) → IsPrefix (seen_by_pass (slice_index_or old.gates.items gate p)) (gate_pairs before)
   pub own_is : (p : Pass GateDeed) → entries_of (hand_number old) (gate_pairs before)
-      ≡ own (slice_index_or old.gates.items gate p)
+      ≡ own_entries (slice_index_or old.gates.items gate p)
 
 -- the hold is of the gatekeeper's lock, and began with the hand's pass of it
 pub record IsHeldBy (shared : Shared) (now : Hand) (gate : ℕ) (before : List GateEntry) (held : Held NotedGate GateDeed)
@@ -61,18 +61,19 @@ pub record HasMachine (shared : Shared) (now : Hand) (number gate : ℕ) (before
   pub gates : noted_gate.gate.gates ≡ length shared.gates.items
   pub shards : noted_gate.gate.shards ≡ length shared.shards.items
   pub frame : (c : Chronicle NotedGate GateDeed)
-      → frame_of noted_gate.gate noted_gate.notes ≡ (lock_of (slice_index_or shared.gates.items gate c)).frame
+      → frame_of_gate noted_gate.gate noted_gate.notes ≡ (lock_of (slice_index_or shared.gates.items gate c)).frame
   pub log : noted_gate.gate.log ≡ before ++ added
   pub by : All (λ (e : GateEntry). e.author ≡ number) added
-  pub notes : (own : List GateEntry)
-      → account_of gate own (map noted noted_gate.notes.gates.items) (noted noted_gate.notes.store)
-      (map noted noted_gate.notes.shards.items)
-      ≡ seen_by_passes gate own now.gates.items now.store now.shards.items
+  pub notes : (own_entries : List GateEntry)
+      → account_of_gate gate own_entries (map seen_by_note noted_gate.notes.gates.items)
+      (seen_by_note noted_gate.notes.store)
+      (map seen_by_note noted_gate.notes.shards.items)
+      ≡ seen_by_gate_passes gate own_entries now.gates.items now.store now.shards.items
 
 -- The hand went in as `old` and is now `now`; the log was `before`, and `added` is what the hand has added.
 pub record IsInGate (shared : Shared) (old now : Hand) (gate : ℕ) (before added : List GateEntry)
     (held : Held NotedGate GateDeed) : Type 0 where
   pub elsewhere : SeesElsewhere shared old now gate
-  pub found : HasFound old gate before
+  pub found : HasFoundLog old gate before
   pub hold : IsHeldBy shared now gate before held
   pub machine : HasMachine shared now (hand_number old) gate before added (machine_of held)

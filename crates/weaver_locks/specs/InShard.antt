@@ -22,10 +22,10 @@ use Rattle.chronicle.specs.declared.pass.Pass.{Pass}
 use Rattle.chronicle.specs.Holds.{lock_in, log_at_entry, machine_of, WentInWith}
 use Rattle.chronicle.specs.Locks.{lock_of}
 use Rattle.chronicle.specs.Logs.{entries_of}
-use Rattle.chronicle.specs.Passes.{number_of, own, seen}
+use Rattle.chronicle.specs.Passes.{number_of, own_entries, seen_by_pass}
 use Rattle.oracle_lock.specs.Seen.{AreGateLogs, gates_seen, of_gates}
-use Rattle.shard_lock.specs.declared.noted.NotedShard.{NotedShard}
-use Rattle.shard_lock.specs.Notes.{frame_of, seen_by_passes, seen_of}
+use Rattle.shard_lock.specs.declared.noted_shard.NotedShard.{NotedShard}
+use Rattle.shard_lock.specs.Notes.{frame_of_shard, seen_by_shard_passes, seen_of_shard}
 use Rattle.weaver_locks.specs.declared.hand.Hand.{Hand}
 use Rattle.weaver_locks.specs.declared.shared.Shared.{Shared}
 use Rattle.weaver_locks.specs.Going.{AddsToOracle, AllGoOn, GoesOnAs}
@@ -42,17 +42,19 @@ pub record IsInShard (shared : Shared) (old now : Hand) (shard : ℕ) (held : He
   pub went : WentInWith pass held
   pub number : number_of pass ≡ hand_number old
   pub lock : (c : _) → lock_in held ≡ lock_of (slice_index_or shared.shards.items shard c)
-  pub frame : frame_of (machine_of held).shard (machine_of held).shards (machine_of held).notes ≡ (lock_in held).frame
+  pub frame : frame_of_shard (machine_of held).shard (machine_of held).shards (machine_of held).notes
+      ≡ (lock_in held).frame
   pub entry : log_at_entry held ≡ shard_pairs (machine_of held).shard.log
   pub own_is : (p : _) → entries_of (hand_number old) (shard_pairs (machine_of held).shard.log)
-      ≡ own (slice_index_or old.shards.items shard p)
+      ≡ own_entries (slice_index_or old.shards.items shard p)
   pub found : (p : _)
-      → IsPrefix (seen (slice_index_or old.shards.items shard p)) (shard_pairs (machine_of held).shard.log)
+      → IsPrefix (seen_by_pass (slice_index_or old.shards.items shard p)) (shard_pairs (machine_of held).shard.log)
   pub place : (machine_of held).shard.number ≡ shard
   pub gate_count : (machine_of held).shard.gates ≡ length shared.gates.items
   pub shard_count : (machine_of held).shards ≡ length shared.shards.items
-  pub same : seen_of (machine_of held).shard (machine_of held).notes
-      ≡ seen_by_passes (machine_of held).shard.number (machine_of held).shard.log now.gates.items now.store now.oracle
+  pub same : seen_of_shard (machine_of held).shard (machine_of held).notes
+      ≡ seen_by_shard_passes (machine_of held).shard.number (machine_of held).shard.log now.gates.items now.store
+      now.oracle
 
 -- the visit that follows these entries of a shard's log asked for no pair of another visit for which the hand answers
 abbrev pub AsksForNewPair : Shared → Hand → ℕ → Account → List ShardEntry → Visit → Type 0
@@ -85,16 +87,16 @@ pub record DoesInShard (shared : Shared) (old : Hand) (shard : ℕ) (gates : Lis
       → OracleRefersAs (of_gates (gates_seen gates)) entry.deed
   pub asked_for : (next : Account) → shard_log next shard ≡ before ++ added
       → (entry : OracleEntry) → Contains asked entry → IsAskedAsSeen next entry
-  pub found : (p : _) → IsPrefix (seen (slice_index_or old.shards.items shard p)) (shard_pairs before)
+  pub found : (p : _) → IsPrefix (seen_by_pass (slice_index_or old.shards.items shard p)) (shard_pairs before)
   pub own_is : (p : _)
-      → entries_of (hand_number old) (shard_pairs before) ≡ own (slice_index_or old.shards.items shard p)
+      → entries_of (hand_number old) (shard_pairs before) ≡ own_entries (slice_index_or old.shards.items shard p)
   pub added_by : (entry : ShardEntry) → Contains added entry → entry.author ≡ hand_number old
   pub gates_legal : AreGateLogs (length shared.shards.items) (gates_seen gates)
-  pub store_legal : IsStoreLog (store_entries (seen store))
-  pub oracle_legal : IsOracleLog (oracle_entries (seen oracle))
+  pub store_legal : IsStoreLog (store_entries (seen_by_pass store))
+  pub oracle_legal : IsOracleLog (oracle_entries (seen_by_pass oracle))
   pub shard_legal : IsShardLog (length shared.gates.items) (before ++ added)
   pub refers : ShardRefersWithin (length shared.shards.items)
-      (seen_by_passes shard (before ++ added) gates store oracle) shard
+      (seen_by_shard_passes shard (before ++ added) gates store oracle) shard
   -- what was added asked for no pair of another visit for which the hand answers
   pub asks_new : AddedAskForNewPairs shared old shard before added
 

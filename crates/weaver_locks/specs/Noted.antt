@@ -5,13 +5,13 @@ use Rattle.seen_logs.specs.Entries.{gate_entries, gate_pair, oracle_pair, shard_
 use Rattle.chronicle.specs.declared.chronicle.Chronicle.{Chronicle}
 use Rattle.chronicle.specs.declared.note.Note.{Note}
 use Rattle.chronicle.specs.Locks.{Lock, lock_of, IsFilled}
-use Rattle.chronicle.specs.Passes.{IsNote, lock_noted, noted}
+use Rattle.chronicle.specs.Passes.{IsNote, lock_noted, seen_by_note}
 use Rattle.lock_row.specs.Openings.{AllFit, AreOneRow}
 use Rattle.lock_row.specs.Rows.{names_of}
-use Rattle.gate_lock.specs.declared.noted.NotedGate.{NotedGate}
-use Rattle.gate_lock.specs.Notes as gate
-use Rattle.shard_lock.specs.declared.noted.NotedShard.{NotedShard}
-use Rattle.shard_lock.specs.Notes as shard
+use Rattle.gate_lock.specs.declared.noted_gate.NotedGate.{NotedGate}
+use Rattle.gate_lock.specs.Notes.{frame_of_gate}
+use Rattle.shard_lock.specs.declared.noted_shard.NotedShard.{NotedShard}
+use Rattle.shard_lock.specs.Notes.{frame_of_shard}
 use Rattle.gate_lock.specs.declared.notes.GateNotes.{GateNotes}
 use Rattle.shard_lock.specs.declared.notes.ShardNotes.{ShardNotes}
 use Rattle.weaver_locks.specs.declared.locks.Locks.{Locks}
@@ -20,12 +20,12 @@ use Rattle.weaver_locks.specs.declared.machines.Machines.{Machines}
 -- the note is of this lock, and has seen the log at the start
 pub record NotesStart {E : Type 0} (lock : Lock E) (note : Note E) : Type 0 where
   pub lock_is : IsNote lock note
-  pub start : noted note ≡ lock.start
+  pub start : seen_by_note note ≡ lock.start
 
 -- there is a note of each lock of the row, which has seen its log at the start
 pub record NoteStarts {M E : Type 0} (locks : List (Chronicle M E)) (notes : List (Note E)) : Type 0 where
   pub names : map lock_noted notes ≡ names_of locks
-  pub starts : map noted notes ≡ map (λ c. (lock_of c).start) locks
+  pub starts : map seen_by_note notes ≡ map (λ c. (lock_of c).start) locks
 
 -- a gatekeeper's notes of all logs to which its entries refer, as they were at the start
 pub record GateNotesStart (locks : Locks) (notes : GateNotes) : Type 0 where
@@ -46,7 +46,8 @@ gates_start locks = map gate_entries (map (λ c. (lock_of c).start) locks.gates.
 -- the locks were opened for these machines
 pub record FitLocks (locks : Locks) (machines : Machines) : Type 0 where
   pub gate_count : vec_len machines.gates ≡ length locks.gates.items
-  pub gates : AllFit (λ (n : NotedGate). gate.frame_of n.gate n.notes) (λ n. map gate_pair n.gate.log) locks.gates.items
+  pub gates : AllFit (λ (n : NotedGate). frame_of_gate n.gate n.notes) (λ n. map gate_pair n.gate.log)
+      locks.gates.items
       machines.gates.items
   pub store_frame : (machines.store.shards ∷ [])
       ∷ lock_noted machines.store.oracle ∷ map lock_noted machines.store.gates ≡ (lock_of locks.store).frame
@@ -54,7 +55,8 @@ pub record FitLocks (locks : Locks) (machines : Machines) : Type 0 where
   pub oracle_frame : (machines.oracle.shards ∷ []) ∷ map lock_noted machines.oracle.gates ≡ (lock_of locks.oracle).frame
   pub oracle_log : map oracle_pair machines.oracle.oracle ≡ (lock_of locks.oracle).start
   pub shard_count : vec_len machines.shards ≡ length locks.shards.items
-  pub shards : AllFit (λ (n : NotedShard). shard.frame_of n.shard n.shards n.notes) (λ n. map shard_pair n.shard.log)
+  pub shards : AllFit (λ (n : NotedShard). frame_of_shard n.shard n.shards n.notes)
+      (λ n. map shard_pair n.shard.log)
       locks.shards.items machines.shards.items
 
 -- the same locks, with their machines

@@ -13,8 +13,8 @@ use Rattle.lock_row.specs.Hands.{AreDealt, AreFirst, HavePasses, IsNewPass}
 use Rattle.lock_row.specs.Openings.{AreVacant}
 use Rattle.lock_row.specs.Reservations.{AreUnopened}
 use Rattle.lock_row.specs.Rows.{names_of}
-use Rattle.gate_lock.specs.declared.noted.NotedGate.{NotedGate}
-use Rattle.shard_lock.specs.declared.noted.NotedShard.{NotedShard}
+use Rattle.gate_lock.specs.declared.noted_gate.NotedGate.{NotedGate}
+use Rattle.shard_lock.specs.declared.noted_shard.NotedShard.{NotedShard}
 use Rattle.gate_lock.specs.Frames.{gate_frame}
 use Rattle.shard_lock.specs.Frames.{shard_frame}
 use Rattle.gatekeeper.specs.Gates.{GateView}

@@ -24,14 +24,14 @@ pub record OpeningLaws : Type 0 where
   pub gate_kept : (g : GateView) (notes : GateNotes) (account : Account) → g.home < g.gates
       → length notes.gates.items ≡ g.gates → length notes.shards.items ≡ g.shards
       → AreLegal g.gates g.shards account → GateRefersWithin g.shards account g.home
-      → ((k : ℕ) → gate_log (gate.seen_of g notes) k ≡ gate_log account k)
-      → (gate.seen_of g notes).store ≡ account.store
-      → ((k : ℕ) → shard_log (gate.seen_of g notes) k ≡ shard_log account k) → gate.GateIsKept g notes
+      → ((k : ℕ) → gate_log (gate.seen_of_gate g notes) k ≡ gate_log account k)
+      → (gate.seen_of_gate g notes).store ≡ account.store
+      → ((k : ℕ) → shard_log (gate.seen_of_gate g notes) k ≡ shard_log account k) → gate.GateIsKept g notes
   pub shard_kept : (s : ShardView) (shards : ℕ) (notes : ShardNotes) (account : Account) → s.number < shards
       → length notes.gates.items ≡ s.gates → AreLegal s.gates shards account
       → ShardRefersWithin shards account s.number
-      → ((k : ℕ) → gate_log (shard.seen_of s notes) k ≡ gate_log account k)
-      → (shard.seen_of s notes).store ≡ account.store → (shard.seen_of s notes).oracle ≡ account.oracle
+      → ((k : ℕ) → gate_log (shard.seen_of_shard s notes) k ≡ gate_log account k)
+      → (shard.seen_of_shard s notes).store ≡ account.store → (shard.seen_of_shard s notes).oracle ≡ account.oracle
       → s.log ≡ shard_log account s.number → shard.ShardIsKept s shards notes
   pub store_stays : (seen next : Account) → GatesGoOn seen next → IsBeginningOf seen.oracle next.oracle
       → (before : List StoreEntry) (author : ℕ) (deed : StoreDeed)

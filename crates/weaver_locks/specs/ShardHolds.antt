@@ -11,7 +11,7 @@ use Rattle.weave_entries.specs.declared.oracle_log.OracleEntry.{OracleEntry}
 use Rattle.weave_entries.specs.declared.shard_log.ShardEntry.{ShardEntry}
 use Rattle.weave_entries.specs.declared.shard_log.ShardDeed.{ShardDeed}
 use Rattle.weave_entries.specs.declared.shard_log.ShardDeed.TheVariants.{Visited}
-use Rattle.weave_entries.specs.OracleReplay.{oracle_entry, pairs_of_log}
+use Rattle.weave_entries.specs.OracleReplay.{oracle_entry_of, pairs_of_log}
 use Rattle.weave_entries.specs.ShardReplay.{first_unready, state_of_updates, updates_of}
 use Rattle.weave_entries.specs.ShardRules.{entries_of_visit, is_settled_by, updates_read}
 use Rattle.weave_account.specs.Account.{shard_log}
@@ -57,7 +57,7 @@ visit_entries hand request stamp vertex before settled result = shard_entries_of
 abbrev pub asked_entries : {A F : Type 0} → Hand → Stamp → Name → List ShardEntry → List OracleEntry → Result A F
     → List OracleEntry
 asked_entries hand stamp vertex before settled (Ok answer) =
-    map oracle_entry (entries_of_visit (pairs_of_log settled) (hand_number hand) stamp vertex before)
+    map oracle_entry_of (entries_of_visit (pairs_of_log settled) (hand_number hand) stamp vertex before)
 asked_entries hand stamp vertex before settled (Err fault) = []
 
 -- A vertex was read for a program in this hold, and in that of the oracle within it, whose log was `settled`.

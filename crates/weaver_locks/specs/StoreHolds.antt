@@ -7,7 +7,7 @@ use Rattle.vector_stamp.specs.declared.clock.Stamp.{Stamp}
 use Rattle.weave_entries.specs.declared.oracle_log.OracleEntry.{OracleEntry}
 use Rattle.weave_entries.specs.declared.store_log.StoreEntry.{StoreEntry}
 use Rattle.weave_entries.specs.declared.verdict.Verdict.{Verdict}
-use Rattle.weave_entries.specs.OracleReplay.{oracle_entry, pairs_of_log}
+use Rattle.weave_entries.specs.OracleReplay.{oracle_entry_of, pairs_of_log}
 use Rattle.backing_store.specs.Commits.{asked_at, entries_added, judged_entry, verdict_at}
 use Rattle.weave_account.specs.GoesOn.{IsBeginningOf}
 use Rattle.seen_logs.specs.Seen.{IsWithin, OracleRefersWithin, StoreRefersWithin}
@@ -38,7 +38,7 @@ judged_entries author request stamp ops before (Err fault) = []
 abbrev pub settled_entries : {F : Type 0} → ℕ → Stamp → List Op → List StoreEntry → List OracleEntry → Result Verdict F
     → List OracleEntry
 settled_entries author stamp ops before settled (Ok verdict) =
-    map oracle_entry (entries_added verdict author (pairs_of_log settled) (asked_at before stamp ops) stamp)
+    map oracle_entry_of (entries_added verdict author (pairs_of_log settled) (asked_at before stamp ops) stamp)
 settled_entries author stamp ops before settled (Err fault) = []
 
 -- A transaction was judged in this hold, by the store's rule over both logs.

@@ -3,7 +3,7 @@ ghost use Rattle.std.specs.Prelude.{◌≡◌, ◌<◌, List, []};
 ghost use Rattle.weave_entries.specs.declared.gate_log.GateEntry.{GateEntry};
 ghost use Rattle.seen_logs.specs.Seen.{IsWithin};
 ghost use Rattle.chronicle.specs.Holds.{machine_of};
-ghost use Rattle.gate_lock.specs.Notes.{GateIsKept, seen_of};
+ghost use Rattle.gate_lock.specs.Notes.{GateIsKept, seen_of_gate};
 ghost use Rattle.weaver_locks.specs.declared.hand.Hand.{Hand};
 ghost use Rattle.weaver_locks.specs.GateHolds.{WasAtGate};
 ghost use Rattle.weaver_locks.specs.Hands.{seen_by, IsHand};
@@ -31,7 +31,7 @@ impl Shared {
         ensures inside { IsInGate self.now hand.old hand.new gate (machine_of result).gate.log [] result }
         ensures kept { GateIsKept (machine_of result).gate (machine_of result).notes }
         ensures within { IsWithin (without_oracle (seen_by hand.old))
-            (seen_of (machine_of result).gate (machine_of result).notes) }
+            (seen_of_gate (machine_of result).gate (machine_of result).notes) }
     {
         hands_keep_their_laws();
         let locks = self.gates.as_slice();
@@ -63,7 +63,8 @@ impl Shared {
             → WasAtGate (shard_count self.now) old hand.new gate before added }
         ensures seen { (old : Hand) (before added : List GateEntry) → IsHand self.now old
             → IsInGate self.now old hand.old gate before added held.entry
-            → seen_of (machine_of held.entry).gate (machine_of held.entry).notes ≡ without_oracle (seen_by hand.new) }
+            → seen_of_gate (machine_of held.entry).gate (machine_of held.entry).notes
+            ≡ without_oracle (seen_by hand.new) }
     {
         hands_keep_their_laws();
         gates_keep_their_laws();

@@ -1,6 +1,7 @@
 //! What follows from the definitions, as contracts without a body.
 ghost use Rattle.std.specs.Prelude.{◌≡◌, ◌≢◌, ◌<◌, ◌≤◌, ◌==◌, ℕ, slice_index_or, List, [], ◌∷◌, length, map, All, Contains, Ok};
 ghost use Rattle.std.specs.List.{filter};
+ghost use Rattle.weave_data.specs.Limits.{most_gates, most_shards};
 ghost use Rattle.graph_ops.specs.declared.op.Op.{Op};
 ghost use Rattle.vector_stamp.specs.declared.clock.Stamp.{Stamp};
 ghost use Rattle.weave_entries.specs.declared.gate_log.GateDeed.{GateDeed};
@@ -9,7 +10,7 @@ ghost use Rattle.weave_entries.specs.declared.oracle_log.OracleEntry.{OracleEntr
 ghost use Rattle.weave_entries.specs.declared.shard_log.ShardEntry.{ShardEntry};
 ghost use Rattle.weave_entries.specs.declared.store_log.StoreEntry.{StoreEntry};
 ghost use Rattle.weave_entries.specs.declared.verdict.Verdict.{Verdict};
-ghost use Rattle.weave_entries.specs.GateReplay.{Begun, begun_by, programs_of, running_of};
+ghost use Rattle.weave_entries.specs.GateReplay.{BegunRequest, begun_by, programs_of, running_of};
 ghost use Rattle.weave_account.specs.declared.account.Account.{Account};
 ghost use Rattle.weave_account.specs.Account.{gate_log, shard_log};
 ghost use Rattle.weave_account.specs.Clocks.{IsKnown};
@@ -57,7 +58,7 @@ pub fn calls_follow_each_other()
 pub fn what_was_not_begun_stays()
     ensures gate { (old new : Hand) (gate : ℕ) (added : List GateEntry)
         → made_by new ≡ with_gate_entries gate added (made_by old) → (r : ℕ)
-        → ((entry : GateEntry) (begun : Begun) → Contains added entry
+        → ((entry : GateEntry) (begun : BegunRequest) → Contains added entry
         → Contains (begun_by entry.author entry.deed) begun → begun.request ≢ r)
         → HasNotBegun old r → HasNotBegun new r }
     ensures others { (old new : Hand) → (made_by new).gates ≡ (made_by old).gates
@@ -97,7 +98,7 @@ pub fn what_was_begun_goes_on()
 /// A hand may let a gatekeeper hear the stamp of what it has just begun, and goes on to be allowed to.
 pub fn what_was_begun_may_be_heard()
     ensures begun { (shared : Shared) (old new : Hand) (gate : ℕ) (before : List GateEntry) (deed : GateDeed)
-        → (begun : Begun) → IsHand shared new
+        → (begun : BegunRequest) → IsHand shared new
         → WasAtGate (shard_count shared) old new gate before (gate_entry_by old deed ∷ [])
         → Contains (begun_by (hand_number old) deed) begun → MayHear shared new begun.stamp }
     ensures gate { (shared : Shared) (old new : Hand) (gate : ℕ) (added : List GateEntry)
@@ -186,8 +187,8 @@ pub fn visits_stay_of_own_programs()
 
 /// Machines without entries may be put behind locks, if they are in order.
 pub fn new_machines_may_start()
-    ensures { (gates : List GateView) (shards : List ShardView) → 1 ≤ length gates → length gates ≤ 8
-        → 1 ≤ length shards → length shards ≤ 16 → AreInOrder gates shards
+    ensures { (gates : List GateView) (shards : List ShardView) → 1 ≤ length gates → length gates ≤ most_gates
+        → 1 ≤ length shards → length shards ≤ most_shards → AreInOrder gates shards
         → ((k : ℕ) (g : GateView) → k < length gates → (slice_index_or gates k g).log ≡ [])
         → ((k : ℕ) (s : ShardView) → k < length shards → (slice_index_or shards k s).log ≡ [])
         → MayStart gates [] [] shards }

@@ -1,7 +1,7 @@
 //! Machines get their notes, of what a new hand has seen.
 ghost use Rattle.std.specs.Prelude.{◌≡◌, IfOk, OnOk, All, length, map};
 ghost use Rattle.chronicle.specs.Locks.{lock_of};
-ghost use Rattle.chronicle.specs.Passes.{lock_noted, noted};
+ghost use Rattle.chronicle.specs.Passes.{lock_noted, seen_by_note};
 ghost use Rattle.lock_row.specs.Hands.{AreDealt};
 ghost use Rattle.lock_row.specs.Rows.{names_of};
 ghost use Rattle.gate_lock.specs.declared.notes.GateNotes.{GateNotes};
@@ -110,8 +110,8 @@ pub(crate) fn note_shards(
     hand: &mut Hand,
 ) -> Result<Vec<NotedShard>, AllocError>
     requires hand { IsNewHand locks.now 0 hand.old }
-    requires kept { All (λ b. (notes : ShardNotes) → ShardNotesStart locks.now notes → shard.ShardIsKept b.shard count notes)
-        bare.items }
+    requires kept { All (λ b. (notes : ShardNotes) → ShardNotesStart locks.now notes
+        → shard.ShardIsKept b.shard count notes) bare.items }
     ensures hand { OnOk result (IsNewHand locks.now 0 hand.new) }
     ensures shards { IfOk result (λ r. map (λ n. n.shard) r.items ≡ map (λ b. b.shard) bare.items) }
     ensures count { IfOk result (λ r. All (λ n. n.shards ≡ count) r.items) }

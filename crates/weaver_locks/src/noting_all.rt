@@ -1,13 +1,12 @@
 //! All machines get their notes, and are put in.
 ghost use Rattle.std.specs.Prelude.{◌≡◌, [], ◌∷◌, IfOk, OnOk, All, length, map, vec_len};
-ghost use Rattle.seen_logs.specs.Entries.{gate_entries, oracle_pair, store_pair};
+ghost use Rattle.seen_logs.specs.Entries.{gate_entries, oracle_pair, store_pair, oracle_entries};
 ghost use Rattle.chronicle.specs.Locks.{lock_of, name_of, IsFilled};
 ghost use Rattle.chronicle.specs.Passes.{lock_noted};
 ghost use Rattle.lock_row.specs.Openings.{AllFit};
 ghost use Rattle.lock_row.specs.Rows.{names_of};
 ghost use Rattle.gate_lock.specs.declared.notes.GateNotes.{GateNotes};
 ghost use Rattle.gate_lock.specs.Notes as gate;
-ghost use Rattle.oracle_lock.specs.Entries.{oracle_entries};
 ghost use Rattle.oracle_lock.specs.Seen.{OracleIsKept};
 ghost use Rattle.store_lock.specs.Seen.{StoreIsKept};
 ghost use Rattle.shard_lock.specs.declared.notes.ShardNotes.{ShardNotes};

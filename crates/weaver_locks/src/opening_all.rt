@@ -1,5 +1,6 @@
 //! All locks of a run are opened.
 ghost use Rattle.std.specs.Prelude.{◌≡◌, ◌≤◌, length, map, All, IfOk, OnOk};
+ghost use Rattle.weave_data.specs.Limits.{most_shards};
 ghost use Rattle.chronicle.specs.Locks.{lock_of, name_of};
 ghost use Rattle.lock_row.specs.Rows.{names_of};
 ghost use Rattle.weaver_locks.specs.Opened.{passes_of, AreEmpty, AreOpened, AreReserved, AreSameLocks, HaveFirst};
@@ -27,7 +28,7 @@ pub(crate) fn open_all(
     shards: &[BareShard<NotedGate, NotedStore, NotedOracle>],
 ) -> Result<(Rooms, Places), AllocError>
     requires reserved { AreReserved locks.old parts }
-    requires few { length shards.now ≤ 16 }
+    requires few { length shards.now ≤ most_shards }
     requires gate_count { length gates.now ≡ length locks.old.gates.items }
     requires gates { All (λ b. (name_of (lock_of b.store.value) ≡ name_of (lock_of locks.old.store))
         × (names_of b.shards.value.items ≡ names_of locks.old.shards.items)) gates.now }

@@ -7,7 +7,7 @@ ghost use Rattle.chronicle.specs.Holds.{lock_in, log_at_entry, machine_of, WentI
 ghost use Rattle.chronicle.specs.Locks.{lock_of};
 ghost use Rattle.chronicle.specs.Logs.{Follows};
 ghost use Rattle.chronicle.specs.Passes.{number_of};
-ghost use Rattle.shard_lock.specs.Notes.{frame_of};
+ghost use Rattle.shard_lock.specs.Notes.{frame_of_shard};
 ghost use Rattle.weaver_locks.specs.declared.hand.Hand.{Hand};
 ghost use Rattle.weaver_locks.specs.Hands.{hand_number, IsHand};
 ghost use Rattle.weaver_locks.specs.InShard.{IsDoneInShard, IsInShard};
@@ -52,7 +52,7 @@ impl Shared {
         requires shards { length hand.old.shards.items ≡ shard_count self.now }
         requires lock { (c : _) → lock_in held ≡ lock_of (slice_index_or self.now.shards.items shard c) }
         requires pass { (p : _) → WentInWith (slice_index_or hand.old.shards.items shard p) held }
-        requires frame { frame_of (machine_of held).shard (machine_of held).shards (machine_of held).notes
+        requires frame { frame_of_shard (machine_of held).shard (machine_of held).shards (machine_of held).notes
             ≡ (lock_in held).frame }
         requires log { (p : _) → Follows (number_of (slice_index_or hand.old.shards.items shard p))
             (log_at_entry held) (shard_pairs (machine_of held).shard.log) }

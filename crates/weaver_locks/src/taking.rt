@@ -4,7 +4,7 @@ ghost use Rattle.graph_ops.specs.declared.part.Part.{Part};
 ghost use Rattle.weave_entries.specs.ShardReplay.{arrived_at};
 ghost use Rattle.shard_node.specs.Shards.{AddsEntry};
 ghost use Rattle.seen_logs.specs.References.{ArrivesAsSeen};
-ghost use Rattle.shard_lock.specs.Notes.{seen_of};
+ghost use Rattle.shard_lock.specs.Notes.{seen_of_shard};
 
 use graph_ops::Part;
 use shard_lock::NotedShard;
@@ -32,7 +32,7 @@ pub(crate) fn take_in(
     requires gate { gate < shard.old.shard.gates }
     requires number { 1 ≤ number }
     requires apart { AllPairs (λ (one other : Part). one.vertex ≢ other.vertex) message.parts }
-    requires seen { ArrivesAsSeen (seen_of shard.old.shard shard.old.notes) shard.old.shards
+    requires seen { ArrivesAsSeen (seen_of_shard shard.old.shard shard.old.notes) shard.old.shards
         shard.old.shard.number gate number message }
     ensures shards { shard.new.shards ≡ shard.old.shards }
     ensures notes { shard.new.notes ≡ shard.old.notes }

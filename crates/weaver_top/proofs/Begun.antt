@@ -18,7 +18,7 @@ use Rattle.report_rules.specs.Lookups.{is_some_and, request_at}
 use Rattle.weave_entries.specs.declared.gate_log.GateDeed.{GateDeed}
 use Rattle.weave_entries.specs.declared.gate_log.GateDeed.TheVariants.{BeganTx, BeganProgram, Sent, Nop, Heard, Raised, Finished}
 use Rattle.weave_entries.specs.declared.gate_log.GateEntry.{GateEntry}
-use Rattle.weave_entries.specs.GateReplay.{Begun, begun_by, begun_in, ended_by, ended_in, flight_of}
+use Rattle.weave_entries.specs.GateReplay.{BegunRequest, begun_by, begun_in, ended_by, ended_in, flight_of}
 use Rattle.weave_entries.specs.SessionReplay.{has_reply_in}
 use Rattle.weave_account.specs.declared.account.Account.{Account}
 use Rattle.weave_account.specs.Account.{all_begun, gate_log, session_log}
@@ -39,12 +39,12 @@ module _ (laws : LawsForCommands) (script : Script) (account : Account) (limits 
       eqb-true request.gate home (and_parts (request.gate == home) (kind request.work)
       (subst (λ q. IsTrue (is_some_and (λ (request : Request). (request.gate == home) && kind request.work) q)) there own)).0
 
-  deed-gate : (home : ℕ) (before : List GateEntry) (author : ℕ) (deed : GateDeed) (b : Begun) (request : Request) → Contains (begun_by author deed) b
+  deed-gate : (home : ℕ) (before : List GateEntry) (author : ℕ) (deed : GateDeed) (b : BegunRequest) (request : Request) → Contains (begun_by author deed) b
       → BeginsAs script account home before deed → request_at script b.request ≡ Some request → request.gate ≡ home
   deed-gate home before author (BeganTx r stamp) b request h rule there =
-      own-gate home r is_change request (ap (λ (k : Begun). request_at script k.request) (only _ b h) ∙ there) rule.own
+      own-gate home r is_change request (ap (λ (k : BegunRequest). request_at script k.request) (only _ b h) ∙ there) rule.own
   deed-gate home before author (BeganProgram r stamp) b request h rule there =
-      own-gate home r is_look request (ap (λ (k : Begun). request_at script k.request) (only _ b h) ∙ there) rule.own
+      own-gate home r is_look request (ap (λ (k : BegunRequest). request_at script k.request) (only _ b h) ∙ there) rule.own
   deed-gate home before author (Sent r messages) b request h rule there = absurd (has_none b h)
   deed-gate home before author (Nop to number stamp low) b request h rule there = absurd (has_none b h)
   deed-gate home before author (Heard clock) b request h rule there = absurd (has_none b h)
@@ -52,14 +52,14 @@ module _ (laws : LawsForCommands) (script : Script) (account : Account) (limits 
   deed-gate home before author (Finished r) b request h rule there = absurd (has_none b h)
 
   -- what was begun at a gatekeeper is a request of it
-  begun-gate : (home : ℕ) (b : Begun) (request : Request) → Contains (begun_in (gate_log account home)) b → request_at script b.request ≡ Some request → request.gate ≡ home
+  begun-gate : (home : ℕ) (b : BegunRequest) (request : Request) → Contains (begun_in (gate_log account home)) b → request_at script b.request ≡ Some request → request.gate ≡ home
   begun-gate home b request h there =
       let entry = flat-has (λ (e : GateEntry). begun_by e.author e.deed) (gate_log account home) b h in
       let place = cut_at (gate_log account home) entry.0 entry.1.0 in
       deed-gate home place.before (entry.0).author (entry.0).deed b request entry.1.1 (is.gatekeepers.begins home place.before entry.0 place.after place.is) there
 
   -- what has ended at a gatekeeper was begun there
-  ended-begun : (home r : ℕ) → Contains (ended_in (gate_log account home)) r → (b : Begun) × Contains (begun_in (gate_log account home)) b × (b.request ≡ r)
+  ended-begun : (home r : ℕ) → Contains (ended_in (gate_log account home)) r → (b : BegunRequest) × Contains (begun_in (gate_log account home)) b × (b.request ≡ r)
   ended-begun home r h =
       let entry = flat-has (λ (e : GateEntry). ended_by e.deed) (gate_log account home) r h in
       let place = cut_at (gate_log account home) entry.0 entry.1.0 in
@@ -73,7 +73,7 @@ module _ (laws : LawsForCommands) (script : Script) (account : Account) (limits 
   -- Replies
 
   -- a transaction in flight has no reply
-  pub flight-unanswered : (home number : ℕ) (flight : Begun) (request : Request) → flight_of (gate_log account home) ≡ Some flight → request_at script flight.request ≡ Some request
+  pub flight-unanswered : (home number : ℕ) (flight : BegunRequest) (request : Request) → flight_of (gate_log account home) ≡ Some flight → request_at script flight.request ≡ Some request
       → IsTrue (has_reply_in flight.request (session_log account number)) → ⊥
   flight-unanswered home number flight request flies there replied =
       let r = flight.request in
@@ -87,7 +87,7 @@ module _ (laws : LawsForCommands) (script : Script) (account : Account) (limits 
       so.1 (subst (λ g. Contains (ended_in (gate_log account g)) r) (sym gate ∙ own) here)
 
   -- a transaction in flight was begun
-  pub flight-begun : (home : ℕ) (flight : Begun) → flight_of (gate_log account home) ≡ Some flight → Contains (all_begun account) flight
+  pub flight-begun : (home : ℕ) (flight : BegunRequest) → flight_of (gate_log account home) ≡ Some flight → Contains (all_begun account) flight
   flight-begun home flight flies =
       all-in account home flight (tx-begun (gate_log account home) flight
       ((laws.in_flight home script.shards (gate_log account home) (is.gatekeepers.logs home) (laws.once script account limits is home) flight).0 flies).0)

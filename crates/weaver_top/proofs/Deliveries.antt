@@ -1,7 +1,7 @@
 -- What was read, and what was delivered of an answer to it.
 -- Used by `execute`, `prepare_from_input`, `prepare_run` and `weave`.
 use Rattle.std.proofs.Common.{◌≡◌, ℕ, ◌<◌, ◌≤◌, List, [], length, true, false, IsTrue, Option, Some, None, IfSome, Result, IfOk, ◌⊎◌, inl, inr, refl, sym, ap, ◌∙◌, subst, arith}
-use Rattle.weave_io.specs.Told.{Told, TakesAtMost, Tells, Writes, WritesPrefix}
+use Rattle.weave_io.specs.Told.{ToldBytes, TakesAtMost, Tells, Writes, WritesPrefix}
 use Rattle.weaver_top.specs.declared.answer.Answer.{Answer}
 use Rattle.weaver_top.specs.declared.status.Status.{Status}
 use Rattle.weaver_top.specs.declared.status.Status.TheVariants.{Done, Read, Refused, Write, Memory, Words, NotRight}
@@ -13,41 +13,43 @@ use Rattle.weaver_top.specs.Loads.{TellsLoad, WritesLoadPrefix}
 use Rattle.weaver_top.specs.Refusals.{TellsRefusal}
 
 -- an answer to what was read is one to what the source had
-pub fits_told : (command : Command) (left : Told) (read bytes : List ℕ) (answer : Answer) → Tells left read → bytes ≡ read → IsAnswerTo command bytes answer → IfSome left (λ input. IsAnswerTo command input answer)
+pub fits_told : (command : Command) (left : ToldBytes) (read bytes : List ℕ) (answer : Answer) → Tells left read → bytes ≡ read → IsAnswerTo command bytes answer → IfSome left (λ input. IsAnswerTo command input answer)
 fits_told command None read bytes answer tells same fits = tt
 fits_told command (Some told) read bytes answer tells same fits = let P : List ℕ → Type 0 = λ input. IsAnswerTo command input answer in subst P (same ∙ sym tells) fits
 
 -- and so is one to an input that is too long
-pub too_long_told : (command : Command) (left : Told) (answer : Answer) → IfSome left (λ input. 4194305 ≤ length input) → ((input : List ℕ) → 4194304 < length input → IsAnswerTo command input answer) → IfSome left (λ input. IsAnswerTo command input answer)
+pub too_long_told : (command : Command) (left : ToldBytes) (answer : Answer) → IfSome left (λ input. 4194305 ≤ length input) → ((input : List ℕ) → 4194304 < length input → IsAnswerTo command input answer) → IfSome left (λ input. IsAnswerTo command input answer)
 too_long_told command None answer long fits = tt
 too_long_told command (Some input) answer long fits = fits input (omega (arith, long))
 
 -- what a command reads is what the source has left, or nothing
-read_told : (command : Command) (left : Told) → reads_input command ≡ true → input_told command left ≡ left
+read_told : (command : Command) (left : ToldBytes) → reads_input command ≡ true → input_told command left ≡ left
 read_told Run left reads = refl
 read_told Check left reads = refl
 read_told Trace left reads = refl
 read_told (Load seed size) left reads = absurd (cc)
 
-unread_told : (command : Command) (left : Told) → reads_input command ≡ false → input_told command left ≡ Some []
+unread_told : (command : Command) (left : ToldBytes) → reads_input command ≡ false → input_told command left ≡ Some []
 unread_told Run left reads = absurd (cc)
 unread_told Check left reads = absurd (cc)
 unread_told Trace left reads = absurd (cc)
 unread_told (Load seed size) left reads = refl
 
-pub fits_read : {E : Type 0} (command : Command) (left : Told) (result : Result Answer E) → reads_input command ≡ true → IfOk result (λ answer. IfSome left (λ input. IsAnswerTo command input answer)) → IfOk result (λ answer. IfSome (input_told command left) (λ input. IsAnswerTo command input answer))
+-- of a command that reads, an answer to what the source has left is one to the command's input
+pub fits_read : {E : Type 0} (command : Command) (left : ToldBytes) (result : Result Answer E) → reads_input command ≡ true → IfOk result (λ answer. IfSome left (λ input. IsAnswerTo command input answer)) → IfOk result (λ answer. IfSome (input_told command left) (λ input. IsAnswerTo command input answer))
 fits_read {E} command left result reads fits =
-    let P : Told → Type 0 = λ told. IfOk result (λ (answer : Answer). IfSome told (λ input. IsAnswerTo command input answer)) in
+    let P : ToldBytes → Type 0 = λ told. IfOk result (λ (answer : Answer). IfSome told (λ input. IsAnswerTo command input answer)) in
     subst P (sym (read_told command left reads)) fits
 
-pub fits_unread : (command : Command) (left : Told) (bytes : List ℕ) (answer : Answer) → reads_input command ≡ false → bytes ≡ [] → IsAnswerTo command bytes answer → IfSome (input_told command left) (λ input. IsAnswerTo command input answer)
+-- and of one that reads nothing an answer to no bytes is
+pub fits_unread : (command : Command) (left : ToldBytes) (bytes : List ℕ) (answer : Answer) → reads_input command ≡ false → bytes ≡ [] → IsAnswerTo command bytes answer → IfSome (input_told command left) (λ input. IsAnswerTo command input answer)
 fits_unread command left bytes answer reads none fits =
-    let P : Told → Type 0 = λ told. IfSome told (λ input. IsAnswerTo command input answer) in
+    let P : ToldBytes → Type 0 = λ told. IfSome told (λ input. IsAnswerTo command input answer) in
     let Q : List ℕ → Type 0 = λ input. IsAnswerTo command input answer in
     subst P (sym (unread_told command left reads)) (subst Q none fits)
 
 -- a source that isn't asked gives nothing
-pub takes_none : (left : Told) (most : ℕ) → TakesAtMost left left most
+pub takes_none : (left : ToldBytes) (most : ℕ) → TakesAtMost left left most
 takes_none None most = (0, omega arith, (tt, refl))
 takes_none (Some bytes) most = (0, omega arith, (omega arith, refl))
 
@@ -62,7 +64,7 @@ not_write : (command : Command) (status : Status) → IsTrue (can_end command st
 not_write command status ends failed = let P : Status → Type 0 = λ status. IsTrue (can_end command status) in no_write command (subst P failed ends)
 
 -- if a command ended with another status than that, its text was written whole
-text_written : (command : Command) (left before after : Told) (answer : Answer) (status : Status) (Failed : Type 0) → IfSome left (λ input. IsAnswerTo command input answer) → Delivers answer status before after Failed → (status ≡ Write → ⊥) → Writes (TellsAt command status) left before after
+text_written : (command : Command) (left before after : ToldBytes) (answer : Answer) (status : Status) (Failed : Type 0) → IfSome left (λ input. IsAnswerTo command input answer) → Delivers answer status before after Failed → (status ≡ Write → ⊥) → Writes (TellsAt command status) left before after
 text_written command None before after answer status Failed fits ends whole = tt
 text_written command (Some input) before after answer status Failed fits (inl (is, appended)) whole =
     let P : Status → Type 0 = λ status. TellsAt command status input answer.text.items in
@@ -70,7 +72,7 @@ text_written command (Some input) before after answer status Failed fits (inl (i
 text_written command (Some input) before after answer status Failed fits (inr (is, failure, prefix)) whole = absurd (whole is)
 
 -- the command that the words ask for is this one, and the status this one
-pub ended_so : (command : Command) (end : Status) (asked : Option Command) (other : Command) (left before after : Told) (answer : Answer) (status : Status) (Failed : Type 0) → (end ≡ Write → ⊥) → Some other ≡ asked → asked ≡ Some command → status ≡ end → IfSome (input_told other left) (λ input. IsAnswerTo other input answer) → Delivers answer status before after Failed → Writes (TellsAt command end) (input_told command left) before after
+pub ended_so : (command : Command) (end : Status) (asked : Option Command) (other : Command) (left before after : ToldBytes) (answer : Answer) (status : Status) (Failed : Type 0) → (end ≡ Write → ⊥) → Some other ≡ asked → asked ≡ Some command → status ≡ end → IfSome (input_told other left) (λ input. IsAnswerTo other input answer) → Delivers answer status before after Failed → Writes (TellsAt command end) (input_told command left) before after
 ended_so command end asked other left before after answer status Failed whole other_is asks is fits ends =
     let same : other ≡ command = cc in
     let P : Command → Type 0 = λ one. IfSome (input_told one left) (λ input. IsAnswerTo one input answer) in
@@ -78,7 +80,7 @@ ended_so command end asked other left before after answer status Failed whole ot
     subst Q is (text_written command (input_told command left) before after answer status Failed (subst P same fits) ends (λ failed. whole (sym is ∙ failed)))
 
 -- of a text that fits more, less is true
-pub writes_less : (Fits Less : List ℕ → List ℕ → Type 0) → ((input text : List ℕ) → Fits input text → Less input text) → (left before after : Told) → Writes Fits left before after → Writes Less left before after
+pub writes_less : (Fits Less : List ℕ → List ℕ → Type 0) → ((input text : List ℕ) → Fits input text → Less input text) → (left before after : ToldBytes) → Writes Fits left before after → Writes Less left before after
 writes_less Fits Less less None before after written = tt
 writes_less Fits Less less (Some input) before after (text, fits, appended) = (text, less input text fits, appended)
 
@@ -89,7 +91,8 @@ only_check Check can = refl
 only_check Trace can = absurd (cc)
 only_check (Load seed size) can = absurd (cc)
 
-pub not_right : (asked : Option Command) (command : Command) (left before after : Told) (answer : Answer) (status : Status) (Failed : Type 0) → Some command ≡ asked → status ≡ NotRight → can_end command answer.status ≡ true → IfSome (input_told command left) (λ input. IsAnswerTo command input answer) → Delivers answer status before after Failed → (asked ≡ Some Check) × Writes (TellsAt Check NotRight) left before after
+-- a command that ends because a report isn't right is `check`, and its text for what the source had left was written
+pub not_right : (asked : Option Command) (command : Command) (left before after : ToldBytes) (answer : Answer) (status : Status) (Failed : Type 0) → Some command ≡ asked → status ≡ NotRight → can_end command answer.status ≡ true → IfSome (input_told command left) (λ input. IsAnswerTo command input answer) → Delivers answer status before after Failed → (asked ≡ Some Check) × Writes (TellsAt Check NotRight) left before after
 not_right asked command left before after answer status Failed asked_is is can fits ends =
     let R : Status → Type 0 = λ one. can_end command one ≡ true in
     let as_answered : answer.status ≡ NotRight = answered ends in
@@ -102,7 +105,7 @@ not_right asked command left before after answer status Failed asked_is is can f
     answered (inr (same, failure, prefix)) = absurd (cc)
 
 -- a command that refuses its input has one
-pub reads_to_refuse : (asked : Option Command) (other command : Command) (left before after : Told) (answer : Answer) (status : Status) (Failed : Type 0) → Some other ≡ asked → asked ≡ Some command → status ≡ Refused → IfSome (input_told other left) (λ input. IsAnswerTo other input answer) → IsTrue (can_end other answer.status) → Delivers answer status before after Failed → IsTrue (reads_input command)
+pub reads_to_refuse : (asked : Option Command) (other command : Command) (left before after : ToldBytes) (answer : Answer) (status : Status) (Failed : Type 0) → Some other ≡ asked → asked ≡ Some command → status ≡ Refused → IfSome (input_told other left) (λ input. IsAnswerTo other input answer) → IsTrue (can_end other answer.status) → Delivers answer status before after Failed → IsTrue (reads_input command)
 reads_to_refuse asked other command left before after answer status Failed other_is asks is fits can ends =
     let same : other ≡ command = cc in
     let R : Status → Type 0 = λ one. IsTrue (can_end other one) in
@@ -114,13 +117,13 @@ reads_to_refuse asked other command left before after answer status Failed other
     answered (inr (same, failure, prefix)) = absurd (cc)
 
 -- if the writing failed, some of such a text was written
-pub some_written : (command : Command) (left before after : Told) (answer : Answer) (status : Status) (Failed : Type 0) → IfSome left (λ input. IsAnswerTo command input answer) → IsTrue (can_end command answer.status) → Delivers answer status before after Failed → status ≡ Write → WritesPrefix (TellsAnswer command) left before after
+pub some_written : (command : Command) (left before after : ToldBytes) (answer : Answer) (status : Status) (Failed : Type 0) → IfSome left (λ input. IsAnswerTo command input answer) → IsTrue (can_end command answer.status) → Delivers answer status before after Failed → status ≡ Write → WritesPrefix (TellsAnswer command) left before after
 some_written command left before after answer status Failed fits ends (inl (is, appended)) failed = absurd (not_write command answer.status ends (sym is ∙ failed))
 some_written command None before after answer status Failed fits ends (inr (is, failure, prefix)) failed = tt
 some_written command (Some input) before after answer status Failed fits ends (inr (is, failure, prefix)) failed = (answer.text.items, (answer.status, fits.tells), prefix)
 
 -- the same of the command that the words ask for
-pub prefix_so : (asked : Option Command) (other command : Command) (left before after : Told) (answer : Answer) (status : Status) (Failed : Type 0) → Some other ≡ asked → asked ≡ Some command → status ≡ Write → IfSome (input_told other left) (λ input. IsAnswerTo other input answer) → IsTrue (can_end other answer.status) → Delivers answer status before after Failed → WritesPrefix (TellsAnswer command) (input_told command left) before after
+pub prefix_so : (asked : Option Command) (other command : Command) (left before after : ToldBytes) (answer : Answer) (status : Status) (Failed : Type 0) → Some other ≡ asked → asked ≡ Some command → status ≡ Write → IfSome (input_told other left) (λ input. IsAnswerTo other input answer) → IsTrue (can_end other answer.status) → Delivers answer status before after Failed → WritesPrefix (TellsAnswer command) (input_told command left) before after
 prefix_so asked other command left before after answer status Failed other_is asks failed fits can ends =
     let same : other ≡ command = cc in
     let P : Command → Type 0 = λ one. WritesPrefix (TellsAnswer one) (input_told one left) before after in
@@ -138,10 +141,12 @@ load_only seed size Memory input text tells = absurd tells
 load_only seed size Words input text tells = absurd tells
 load_only seed size NotRight input text tells = absurd tells
 
-pub load_prefix_so : (seed size : ℕ) (before after : Told) → WritesPrefix (TellsAnswer (Load seed size)) (Some []) before after → WritesLoadPrefix seed size before after
+-- if some of what `load` answers was written, it is some of a summary, from its start
+pub load_prefix_so : (seed size : ℕ) (before after : ToldBytes) → WritesPrefix (TellsAnswer (Load seed size)) (Some []) before after → WritesLoadPrefix seed size before after
 load_prefix_so seed size before after (text, tells, prefix) = (text, (load_only seed size tells.0 [] text tells.1).1, prefix)
 
-pub load_done : (seed size : ℕ) (asked : Option Command) (other : Command) (left before after : Told) (answer : Answer) (status : Status) (Failed : Type 0) → Some other ≡ asked → asked ≡ Some (Load seed size) → ¬ Failed → IfSome (input_told other left) (λ input. IsAnswerTo other input answer) → Delivers answer status before after Failed → status ≡ Done
+-- if the writing can't have failed, `load` ended as done
+pub load_done : (seed size : ℕ) (asked : Option Command) (other : Command) (left before after : ToldBytes) (answer : Answer) (status : Status) (Failed : Type 0) → Some other ≡ asked → asked ≡ Some (Load seed size) → ¬ Failed → IfSome (input_told other left) (λ input. IsAnswerTo other input answer) → Delivers answer status before after Failed → status ≡ Done
 load_done seed size asked other left before after answer status Failed other_is asks fine fits (inl (is, appended)) =
     let same : other ≡ Load seed size = cc in
     let P : Command → Type 0 = λ one. IfSome (input_told one left) (λ input. IsAnswerTo one input answer) in
@@ -149,14 +154,14 @@ load_done seed size asked other left before after answer status Failed other_is 
 load_done seed size asked other left before after answer status Failed other_is asks fine fits (inr (is, failed, prefix)) = absurd (fine failed)
 
 -- a refusal is of an input that was read
-pub refusal_read : (command : Command) (left before after : Told) → Writes (TellsRefusal command) (input_told command left) before after → Writes (TellsRefusal command) left before after
+pub refusal_read : (command : Command) (left before after : ToldBytes) → Writes (TellsRefusal command) (input_told command left) before after → Writes (TellsRefusal command) left before after
 refusal_read Run left before after written = written
 refusal_read Check left before after written = written
 refusal_read Trace left before after written = written
 refusal_read (Load seed size) left before after (text, tells, appended) = absurd tells
 
 -- some of an answer was written, whatever the source had left
-pub prefix_read : (command : Command) (left before after : Told) → WritesPrefix (TellsAnswer command) (input_told command left) before after → WritesPrefix (TellsAnswer command) left before after
+pub prefix_read : (command : Command) (left before after : ToldBytes) → WritesPrefix (TellsAnswer command) (input_told command left) before after → WritesPrefix (TellsAnswer command) left before after
 prefix_read Run left before after written = written
 prefix_read Check left before after written = written
 prefix_read Trace left before after written = written
@@ -168,17 +173,19 @@ pub same_command : (asked : Option Command) (other command : Command) → Some o
 same_command asked other command other_is asks = cc
 
 -- what it was answered with is how it ended
-pub ended_as : (before after : Told) (answer : Answer) (status : Status) (Failed : Type 0) → Delivers answer status before after Failed → (status ≡ Done) ⊎ (status ≡ NotRight) → (answer.status ≡ Done) ⊎ (answer.status ≡ NotRight)
+pub ended_as : (before after : ToldBytes) (answer : Answer) (status : Status) (Failed : Type 0) → Delivers answer status before after Failed → (status ≡ Done) ⊎ (status ≡ NotRight) → (answer.status ≡ Done) ⊎ (answer.status ≡ NotRight)
 ended_as before after answer status Failed (inl (is, appended)) (inl done) = inl (sym is ∙ done)
 ended_as before after answer status Failed (inl (is, appended)) (inr wrong) = inr (sym is ∙ wrong)
 ended_as before after answer status Failed (inr (is, failed, prefix)) (inl done) = absurd (cc)
 ended_as before after answer status Failed (inr (is, failed, prefix)) (inr wrong) = absurd (cc)
 
+-- of two commands that the words ask for, if one reads an input so does the other
 pub reads_too : (asked : Option Command) (other command : Command) → Some other ≡ asked → asked ≡ Some command → IsTrue (reads_input command) → IsTrue (reads_input other)
 reads_too asked other command other_is asks reads =
     let P : Command → Type 0 = λ one. IsTrue (reads_input one) in
     subst P (sym (same_command asked other command other_is asks)) reads
 
+-- a command that the words ask for reads no input if they ask for `load`
 pub unread_too : (seed size : ℕ) (asked : Option Command) (other : Command) → Some other ≡ asked → asked ≡ Some (Load seed size) → reads_input other ≡ false
 unread_too seed size asked other other_is asks =
     let P : Command → Type 0 = λ one. reads_input one ≡ false in

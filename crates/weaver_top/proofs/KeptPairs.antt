@@ -8,13 +8,13 @@ use Rattle.std.proofs.lemmas.Bool.{cases_eq, eqb-true}
 use Rattle.weave_data.proofs.Members.{find_has}
 use Rattle.vector_stamp.specs.declared.clock.Stamp.{Stamp}
 use Rattle.vector_stamp.specs.Order.{id_of}
-use Rattle.vector_stamp.specs.Precedence.{Given, Precedes}
+use Rattle.vector_stamp.specs.Precedence.{GivenPair, Precedes}
 use Rattle.program_defs.specs.declared.script.Script.{Script}
 use Rattle.report_rules.specs.declared.report.Pair.{Pair}
 use Rattle.report_rules.specs.declared.report.Report.{Report}
 use Rattle.report_rules.specs.Lookups.{AreBoth, given_by, given_pairs, stamp_at}
 use Rattle.report_rules.specs.PrintedOrder.{IsNext, IsOfLesserHome, IsPrintedOrder, TakesAll, begun_requests, without_request}
-use Rattle.weave_entries.specs.GateReplay.{Begun}
+use Rattle.weave_entries.specs.GateReplay.{BegunRequest}
 use Rattle.weave_account.specs.declared.account.Account.{Account}
 use Rattle.weave_account.specs.Account.{all_begun, pairs_in, stamp_of}
 use Rattle.weave_account.specs.GoesOn.{IsBeginningOf}
@@ -28,10 +28,10 @@ module _ (report : Report) (pairs : List Pair) (same : given_pairs (record repor
   other = record report { pairs = pairs }
 
   -- no remaining request precedes this one, by these pairs of stamps
-  abbrev IsFreeBy : List Given → List ℕ → ℕ → Type 0
+  abbrev IsFreeBy : List GivenPair → List ℕ → ℕ → Type 0
   IsFreeBy given remaining r = AllByRecursion (λ k. ¬ AreBoth (Precedes given) (stamp_at report k) (stamp_at report r)) remaining
 
-  abbrev IsLeastBy : List Given → List ℕ → ℕ → Type 0
+  abbrev IsLeastBy : List GivenPair → List ℕ → ℕ → Type 0
   IsLeastBy given remaining r =
       AllByRecursion (λ k. IsTrue (not (k == r)) → IsFreeBy given remaining k → IsOfLesserHome report r k) remaining
 
@@ -58,7 +58,7 @@ module _ (report : Report) (pairs : List Pair) (same : given_pairs (record repor
 -- two begun requests have two ids
 abbrev pub IdsDiffer : Account → Type 0
 IdsDiffer account =
-    (a b : Begun) → Contains (all_begun account) a → Contains (all_begun account) b → a.request ≢ b.request → id_of a.stamp ≢ id_of b.stamp
+    (a b : BegunRequest) → Contains (all_begun account) a → Contains (all_begun account) b → a.request ≢ b.request → id_of a.stamp ≢ id_of b.stamp
 
 -- an account has one list of pairs
 abbrev pub PairsAreOne : Script → Account → Type 0
@@ -67,18 +67,18 @@ PairsAreOne script account =
 
 -- a pair in the first account is one in the second
 abbrev pub PairsStay : Account → Account → Type 0
-PairsStay account next = (pair : Pair) (given : Given) → IsPairInAccount account pair given → IsPairInAccount next pair given
+PairsStay account next = (pair : Pair) (given : GivenPair) → IsPairInAccount account pair given → IsPairInAccount next pair given
 
 begun-there : (account : Account) (r : ℕ) (stamp : Stamp) → stamp_of account r ≡ Some stamp
-    → (begun : Begun) × Contains (all_begun account) begun × (begun.request ≡ r) × (begun.stamp ≡ stamp)
-begun-there account r stamp e = at (find (λ (begun : Begun). begun.request == r) (all_begun account)) refl e
+    → (begun : BegunRequest) × Contains (all_begun account) begun × (begun.request ≡ r) × (begun.stamp ≡ stamp)
+begun-there account r stamp e = at (find (λ (begun : BegunRequest). begun.request == r) (all_begun account)) refl e
   where
-    at : (o : Option Begun) → find (λ (begun : Begun). begun.request == r) (all_begun account) ≡ o
-        → option_map (λ (begun : Begun). begun.stamp) o ≡ Some stamp
-        → (begun : Begun) × Contains (all_begun account) begun × (begun.request ≡ r) × (begun.stamp ≡ stamp)
+    at : (o : Option BegunRequest) → find (λ (begun : BegunRequest). begun.request == r) (all_begun account) ≡ o
+        → option_map (λ (begun : BegunRequest). begun.stamp) o ≡ Some stamp
+        → (begun : BegunRequest) × Contains (all_begun account) begun × (begun.request ≡ r) × (begun.stamp ≡ stamp)
     at None is e = cc
     at (Some begun) is e =
-        let has = find_has (λ (begun : Begun). begun.request == r) (all_begun account) begun is in
+        let has = find_has (λ (begun : BegunRequest). begun.request == r) (all_begun account) begun is in
         (begun, has.0, eqb-true begun.request r has.1, cc)
 
 module _ (account : Account) (differ : IdsDiffer account) where
@@ -93,7 +93,7 @@ module _ (account : Account) (differ : IdsDiffer account) where
       ]
 
   -- pairs of the same stamps are given alike, by whatever stamps of their requests
-  given-alike : (of : ℕ → Option Stamp) (ps qs : List Pair) (givens : List Given) → ArePairsOf account ps givens → ArePairsOf account qs givens
+  given-alike : (of : ℕ → Option Stamp) (ps qs : List Pair) (givens : List GivenPair) → ArePairsOf account ps givens → ArePairsOf account qs givens
       → filter_map (λ (pair : Pair). given_by (of pair.earlier) (of pair.later)) ps ≡ filter_map (λ (pair : Pair). given_by (of pair.earlier) (of pair.later)) qs
   given-alike of [] [] [] are too = refl
   given-alike of [] (q ∷ qs) [] are too = absurd too
@@ -107,33 +107,34 @@ module _ (account : Account) (differ : IdsDiffer account) where
       λ i. cons_option (given_by (of (earlier i)) (of (later i))) (rest i)
 
 -- the pairs of the first of these givens, and those of the others
-record Cut (account : Account) (pairs : List Pair) (more : List Given) : Type 0 where
+record Cut (account : Account) (pairs : List Pair) (more : List GivenPair) : Type 0 where
   back : List Pair
   back_are : ArePairsOf account back more
 
-cut : (account : Account) (pairs : List Pair) (givens more : List Given) → ArePairsOf account pairs (givens ++ more) → Cut account pairs more
+cut : (account : Account) (pairs : List Pair) (givens more : List GivenPair) → ArePairsOf account pairs (givens ++ more) → Cut account pairs more
 cut account pairs [] more are = record { back = pairs; back_are = are }
 cut account [] (given ∷ givens) more are = absurd are
 cut account (pair ∷ pairs) (given ∷ givens) more are =
     let rest = cut account pairs givens more are.1 in
     record { back = rest.back; back_are = rest.back_are }
 
-joined : (account : Account) (pairs back : List Pair) (givens more : List Given) → ArePairsOf account pairs givens → ArePairsOf account back more
+joined : (account : Account) (pairs back : List Pair) (givens more : List GivenPair) → ArePairsOf account pairs givens → ArePairsOf account back more
     → ArePairsOf account (pairs ++ back) (givens ++ more)
 joined account [] back [] more are then_are = then_are
 joined account [] back (given ∷ givens) more are then_are = absurd are
 joined account (pair ∷ pairs) back [] more are then_are = absurd are
 joined account (pair ∷ pairs) back (given ∷ givens) more are then_are = (are.0, joined account pairs back givens more are.1 then_are)
 
-all-stay : (account next : Account) → PairsStay account next → (pairs : List Pair) (givens : List Given) → ArePairsOf account pairs givens → ArePairsOf next pairs givens
+all-stay : (account next : Account) → PairsStay account next → (pairs : List Pair) (givens : List GivenPair) → ArePairsOf account pairs givens → ArePairsOf next pairs givens
 all-stay account next stay [] [] are = tt
 all-stay account next stay [] (given ∷ givens) are = absurd are
 all-stay account next stay (pair ∷ pairs) [] are = absurd are
 all-stay account next stay (pair ∷ pairs) (given ∷ givens) are =
     (stay pair given are.0, all-stay account next stay pairs givens are.1)
 
--- the pairs of the first report begin those of the second
+-- a next account that has all pairs of the first one, a different id for each begun request, and one list of pairs
 module _ (script : Script) (account next : Account) (stay : PairsStay account next) (differ : IdsDiffer next) (one : PairsAreOne script next) where
+  -- if the list of pairs of the first account begins that of the second, so do the lists of their reports
   pub pairs-kept : (first second : Report) → MatchesAccount script account first → IsReportOfAccount script next second
       → IsBeginningOf (pairs_in account) (pairs_in next) → IsBeginningOf first.pairs second.pairs
   pairs-kept first second is too begins =

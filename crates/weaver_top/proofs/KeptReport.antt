@@ -110,6 +110,7 @@ module _ (law : AnswersAreOne) (script : Script) (account next : Account) (stays
         ∙ ap (λ (xs : List ℕ). length xs) (is.requests ∙ sym too.requests)
         ∙ length-map second.replies (λ (reply : Reply). reply.request)
 
+    -- a stamp of a request in the first report is its stamp in the second
     pub stamps-kept : (r : ℕ) (stamp : Stamp) → stamp_at first r ≡ Some stamp → stamp_at second r ≡ Some stamp
     stamps-kept r stamp e = at (reply_at first r) refl (reply_at second r) refl e
       where
@@ -126,6 +127,7 @@ module _ (law : AnswersAreOne) (script : Script) (account next : Account) (stays
             let there : stamp_of account r ≡ Some stamp = sym (a.stamp_is ∙ ap (stamp_of account) (of-first r old eo)) ∙ e in
             b.stamp_is ∙ ap (stamp_of next) (of-second r new ep) ∙ stays.stamps r stamp there
 
+    -- and a final state in the first is the request's state in the second
     pub states-kept : (r : ℕ) (old new : Reply) → reply_at first r ≡ Some old → reply_at second r ≡ Some new
         → IsTrue (is_final old.state) → new.state ≡ old.state
     states-kept r old new eo en final =

@@ -44,6 +44,7 @@ loaded-so laws first second third middle last upto size same still left limits c
     })
 
 module _ (laws : LoadLaws) (script : Script) (limits : IsWithinLimits script) (state : CoreState) (account : IsAccount script state.account) (loaded : IsLoaded script state) (report : Report) (reported : IsReportOfAccount script state.account report) where
+  -- the report of the core's logs is a right one for the script
   pub is-right : IsRightReport script report
   is-right = laws.right script state.account report limits account reported
 
@@ -64,6 +65,7 @@ module _ (laws : LoadLaws) (script : Script) (limits : IsWithinLimits script) (s
         first report is.matches reported (loaded.stays).pairs;
   }
 
+  -- if the script is the seed's and the text is the report's summary, all that is promised of the text holds
   pub told : (seed size : ℕ) (text : List ℕ) → script ≡ script_of seed size → text ≡ summary_text seed size (4 * size) report → TellsLoad seed size text
   told seed size text made summed =
       let requests = requests-made seed size in

@@ -3,8 +3,8 @@
 use Rattle.std.proofs.Common.{◌≡◌, ℕ, zero, suc, ◌*◌, List, [], ◌∷◌, length, refl, arith}
 use Rattle.std.proofs.lemmas.List.{length-append}
 use Rattle.weave_script.specs.Scripts.{steps_of}
-use Rattle.load_maker.specs.Words.{Words, drawn_list, words_of}
-use Rattle.load_maker.specs.Generated.{request_of, script_from, script_of, step_of}
+use Rattle.load_maker.specs.Words.{Words, drawn_list, words_of_seed}
+use Rattle.load_maker.specs.Generated.{drawn_request, script_from, script_of, drawn_step}
 
 drawn-length : {A : Type 0} (item : List A → Words → A × Words) (n : ℕ) (words : Words) → length (drawn_list item n words).0 ≡ n
 unfolding drawn_list
@@ -18,9 +18,9 @@ drawn-length item (suc n) words =
 -- a script has as many requests as its size says
 pub requests-made : (seed size : ℕ) → length (script_of seed size).requests ≡ size
 unfolding script_from
-requests-made seed size = drawn-length request_of size (words_of seed)
+requests-made seed size = drawn-length drawn_request size (words_of_seed seed)
 
 -- and four times as many steps
 pub steps-made : (seed size : ℕ) → length (steps_of (script_of seed size).steps) ≡ 4 * size
 unfolding script_from
-steps-made seed size = drawn-length (λ _ words. step_of size words) (4 * size) (drawn_list request_of size (words_of seed)).1
+steps-made seed size = drawn-length (λ _ words. drawn_step size words) (4 * size) (drawn_list drawn_request size (words_of_seed seed)).1

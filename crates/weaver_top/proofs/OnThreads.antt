@@ -11,7 +11,7 @@ use Rattle.weave_script.specs.Scripts.{RiseTo}
 use Rattle.weave_entries.specs.declared.gate_log.GateDeed.{GateDeed}
 use Rattle.weave_entries.specs.declared.gate_log.GateDeed.TheVariants.{BeganTx, BeganProgram, Sent, Nop, Heard, Raised, Finished}
 use Rattle.weave_entries.specs.declared.gate_log.GateEntry.{GateEntry}
-use Rattle.weave_entries.specs.GateReplay.{Begun, begun_by, flight_of}
+use Rattle.weave_entries.specs.GateReplay.{BegunRequest, begun_by, flight_of}
 use Rattle.weave_account.specs.declared.account.Account.{Account}
 use Rattle.weave_account.specs.Account.{gate_log}
 use Rattle.weave_account.specs.IsAccount.{IsAccount}
@@ -45,6 +45,7 @@ last-end : (ends : List ℕ) (last : ℕ) → slice_index_or ends (length ends) 
 last-end [] last = refl
 last-end (e ∷ ends) last = last-end ends last
 
+-- the phase after the last `phase` line ends with the last request
 pub whole-end : (script : Script) → phase_end script (length script.phases) ≡ length script.requests
 whole-end script = last-end script.phases (length script.requests)
 
@@ -73,10 +74,10 @@ end-fits script seen phase end has same is =
 -- What a phase begins
 
 -- a deed that begins nothing from the bound on and raises no epoch is a driving one
-deed-drives : (bound author : ℕ) (deed : GateDeed) → ((b : Begun) → Contains (begun_by author deed) b → b.request < bound)
+deed-drives : (bound author : ℕ) (deed : GateDeed) → ((b : BegunRequest) → Contains (begun_by author deed) b → b.request < bound)
     → ((epoch : ℕ) → deed ≡ Raised epoch → ⊥) → IsTrue (is_driving_deed bound deed)
-deed-drives bound author (BeganTx r stamp) begun epochs = lt-ltb r bound (let b : Begun = record { author = author; request = r; stamp = stamp } in begun b (has_head b []))
-deed-drives bound author (BeganProgram r stamp) begun epochs = lt-ltb r bound (let b : Begun = record { author = author; request = r; stamp = stamp } in begun b (has_head b []))
+deed-drives bound author (BeganTx r stamp) begun epochs = lt-ltb r bound (let b : BegunRequest = record { author = author; request = r; stamp = stamp } in begun b (has_head b []))
+deed-drives bound author (BeganProgram r stamp) begun epochs = lt-ltb r bound (let b : BegunRequest = record { author = author; request = r; stamp = stamp } in begun b (has_head b []))
 deed-drives bound author (Sent r messages) begun epochs = refl
 deed-drives bound author (Nop shard number stamp low) begun epochs = refl
 deed-drives bound author (Heard clock) begun epochs = refl
@@ -101,7 +102,7 @@ module _ (laws : LawsForCommands) (script : Script) (limits : IsWithinLimits scr
   pub none-flies : (phase bound : ℕ) (account : Account) → IsRunUpTo script phase bound account → NoneInFlight account
   none-flies phase bound account run home = at (flight_of (gate_log account home)) refl
     where
-      at : (o : Option Begun) → flight_of (gate_log account home) ≡ o → o ≡ None
+      at : (o : Option BegunRequest) → flight_of (gate_log account home) ≡ o → o ≡ None
       at None flies = refl
       at (Some flight) flies =
           let begun = flight-begun laws script account limits run.is_account home flight flies in
@@ -110,6 +111,7 @@ module _ (laws : LawsForCommands) (script : Script) (limits : IsWithinLimits scr
           let request = there-below script.requests flight.request (omega (arith, early, within)) in
           absurd (flight-unanswered laws script account limits run.is_account home (request.0).session flight request.0 flies request.1 (run.replied flight.request request.0 early request.1))
 
+  -- in a run that has come to a bound each request below it has its reply, and no other has begun
   pub answered : (phase bound : ℕ) (account : Account) → IsRunUpTo script phase bound account → IsAnsweredUpTo script bound account
   answered phase bound account run = record {
     replied = run.replied;
@@ -126,6 +128,7 @@ module _ (laws : LawsForCommands) (script : Script) (limits : IsWithinLimits scr
 
   -- What a phase leaves
 
+  -- what a phase on threads leaves of a core is a part of a run below the bound
   pub phase-runs : (bound : ℕ) (old new : CoreView) → old.script ≡ script → IsAccount new.script new.state.account → RunsPhase bound old new
       → RunsBelow script bound old.state.account new.state.account
   phase-runs bound old new is account runs = record {
@@ -135,6 +138,7 @@ module _ (laws : LawsForCommands) (script : Script) (limits : IsWithinLimits scr
     pairs = subst (λ (s : Script). AddsOpenPairs s old.state.account new.state.account) is runs.pairs;
   }
 
+  -- a part of a run, and then one that ends with each request below the bound replied, are together one that ends so
   pub runs-then-ends : (bound : ℕ) (a b c : Account) → RunsBelow script bound a b → EndsAt script bound b c → EndsAt script bound a c
   runs-then-ends bound a b c runs ends = record {
     runs = runs-through laws script limits bound a b c runs ends.runs;
@@ -143,6 +147,7 @@ module _ (laws : LawsForCommands) (script : Script) (limits : IsWithinLimits scr
 
   -- The phases so far
 
+  -- when the next phase has ended, the run has come to the start of the one after it
   pub next-ends : (phase : ℕ) (account next : Account) → RiseTo 0 (length script.requests) script.phases → phase < length script.phases
       → IsRunUpTo script phase (phase_start script phase) account → EndsAt script (phase_end script phase) account next
       → IsRunUpTo script (phase + 1) (phase_start script (phase + 1)) next

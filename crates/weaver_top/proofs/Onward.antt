@@ -52,6 +52,7 @@ gates-through bound a b c x y home =
 module _ (laws : LawsForCommands) (script : Script) (limits : IsWithinLimits script) where
   -- Pairs
 
+  -- if pairs are added to requests without a reply alone, twice in a row, they are so in all
   pub adds-through : (a b c : Account) → GoesOn a b → GoesOn b c → AddsOpenPairs script a b → AddsOpenPairs script b c → AddsOpenPairs script a c
   adds-through a b c on further first second e l h =
       elim (second e l h) [
@@ -75,9 +76,11 @@ module _ (laws : LawsForCommands) (script : Script) (limits : IsWithinLimits scr
 
   -- Parts of a run
 
+  -- doing nothing is a part of a run, below any bound
   pub runs-same : (bound : ℕ) (account : Account) → IsAccount script account → RunsBelow script bound account account
   runs-same bound account is = record { is_account = is; goes_on = goes-same account; gates = gates-same bound account; pairs = λ e l h. inl h }
 
+  -- two parts of a run, one after the other, are one part
   pub runs-through : (bound : ℕ) (a b c : Account) → RunsBelow script bound a b → RunsBelow script bound b c → RunsBelow script bound a c
   runs-through bound a b c first second = record {
     is_account = second.is_account;
@@ -86,6 +89,7 @@ module _ (laws : LawsForCommands) (script : Script) (limits : IsWithinLimits scr
     pairs = adds-through a b c first.goes_on second.goes_on first.pairs second.pairs;
   }
 
+  -- a part that ends with each request below the bound replied, and then one more part, are together one that ends so
   pub ends-then : (bound : ℕ) (a b c : Account) → EndsAt script bound a b → RunsBelow script bound b c → EndsAt script bound a c
   ends-then bound a b c ends runs = record {
     runs = runs-through bound a b c ends.runs runs;
@@ -123,6 +127,7 @@ module _ (laws : LawsForCommands) (script : Script) (limits : IsWithinLimits scr
         (laws.goes_on script state step limits are.1 core) (steps-go-on laws.goes_on script limits bound steps (state_after script state step) are.2 are.3)
         (step-adds laws script limits state step core.account) (steps-add steps (state_after script state step) are.2 are.3)
 
+    -- a core that is driven goes through a part of a run, if its gatekeepers' logs go on with driving deeds alone
     pub driven-runs : (old new : CoreState) → IsCore script old → IsDriven script bound old new → DrivesGates bound old.account new.account → RunsBelow script bound old.account new.account
     driven-runs old new core driven gates = record {
       is_account = subst (λ (s : CoreState). IsAccount script s.account) (sym driven.is) (steps-core driven.steps old core driven.are).account;

@@ -20,7 +20,7 @@ use Rattle.weave_script.specs.Scripts.{RiseTo}
 use Rattle.weave_entries.specs.declared.gate_log.GateDeed.{GateDeed}
 use Rattle.weave_entries.specs.declared.gate_log.GateDeed.TheVariants.{BeganTx, BeganProgram, Sent, Nop, Heard, Raised, Finished}
 use Rattle.weave_entries.specs.declared.gate_log.GateEntry.{GateEntry}
-use Rattle.weave_entries.specs.GateReplay.{Begun, begun_by}
+use Rattle.weave_entries.specs.GateReplay.{BegunRequest, begun_by}
 use Rattle.weave_account.specs.declared.account.Account.{Account}
 use Rattle.weave_account.specs.Account.{all_begun, gate_log, stamp_of}
 use Rattle.weave_account.specs.Clocks.{is_raised, raises_to}
@@ -121,9 +121,9 @@ deed-below m n le (Raised epoch) t = t
 deed-below m n le (Finished r) t = refl
 
 -- the requests that such deeds begin are below the bound
-begun-below : (bound author : ℕ) (deed : GateDeed) (b : Begun) → IsTrue (is_driving_deed bound deed) → Contains (begun_by author deed) b → b.request < bound
-begun-below bound author (BeganTx r stamp) b t h = ltb-true b.request bound (subst (λ (k : Begun). IsTrue (nat_lt k.request bound)) (only _ b h) t)
-begun-below bound author (BeganProgram r stamp) b t h = ltb-true b.request bound (subst (λ (k : Begun). IsTrue (nat_lt k.request bound)) (only _ b h) t)
+begun-below : (bound author : ℕ) (deed : GateDeed) (b : BegunRequest) → IsTrue (is_driving_deed bound deed) → Contains (begun_by author deed) b → b.request < bound
+begun-below bound author (BeganTx r stamp) b t h = ltb-true b.request bound (subst (λ (k : BegunRequest). IsTrue (nat_lt k.request bound)) (only _ b h) t)
+begun-below bound author (BeganProgram r stamp) b t h = ltb-true b.request bound (subst (λ (k : BegunRequest). IsTrue (nat_lt k.request bound)) (only _ b h) t)
 begun-below bound author (Sent r messages) b t h = absurd (has_none b h)
 begun-below bound author (Nop shard number stamp low) b t h = absurd (has_none b h)
 begun-below bound author (Heard clock) b t h = absurd (has_none b h)
@@ -144,7 +144,8 @@ raises-none bound epoch (Finished r) t raised = cc
 abbrev pub AreBelow : ℕ → Account → Type 0
 AreBelow bound account = (home : ℕ) (entry : GateEntry) → Contains (gate_log account home) entry → IsTrue (is_driving_deed bound entry.deed)
 
-pub all-below : (bound : ℕ) (account : Account) → AreBelow bound account → (b : Begun) → Contains (all_begun account) b → b.request < bound
+-- if all deeds at the gatekeepers are driving ones below a bound, each request that was begun is below it
+pub all-below : (bound : ℕ) (account : Account) → AreBelow bound account → (b : BegunRequest) → Contains (all_begun account) b → b.request < bound
 all-below bound account are b h =
     let home = at-home account b h in
     let entry = flat-has (λ (e : GateEntry). begun_by e.author e.deed) (gate_log account home.0) b home.1 in
@@ -271,14 +272,14 @@ module _ (laws : LawsForCommands) (script : Script) (limits : IsWithinLimits scr
   }
     where
       stamped : (account : Account) (r : ℕ) (stamp : Stamp) → stamp_of account r ≡ Some stamp
-          → (b : Begun) × Contains (all_begun account) b × (b.request ≡ r) × (b.stamp ≡ stamp)
-      stamped account r stamp e = at (find (λ (b : Begun). b.request == r) (all_begun account)) refl e
+          → (b : BegunRequest) × Contains (all_begun account) b × (b.request ≡ r) × (b.stamp ≡ stamp)
+      stamped account r stamp e = at (find (λ (b : BegunRequest). b.request == r) (all_begun account)) refl e
         where
-          at : (o : Option Begun) → find (λ (b : Begun). b.request == r) (all_begun account) ≡ o → option_map (λ (b : Begun). b.stamp) o ≡ Some stamp
-              → (b : Begun) × Contains (all_begun account) b × (b.request ≡ r) × (b.stamp ≡ stamp)
+          at : (o : Option BegunRequest) → find (λ (b : BegunRequest). b.request == r) (all_begun account) ≡ o → option_map (λ (b : BegunRequest). b.stamp) o ≡ Some stamp
+              → (b : BegunRequest) × Contains (all_begun account) b × (b.request ≡ r) × (b.stamp ≡ stamp)
           at None found e = cc
           at (Some b) found e =
-              let has = find_has (λ (b : Begun). b.request == r) (all_begun account) b found in
+              let has = find_has (λ (b : BegunRequest). b.request == r) (all_begun account) b found in
               (b, has.0, eqb-true b.request r has.1, cc)
 
   -- with the last requests it is a whole run

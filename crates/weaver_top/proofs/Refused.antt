@@ -4,13 +4,13 @@ use Rattle.std.proofs.Common.{◌≡◌, ℕ, List, Result, Ok, Err, IfOk, subst
 use Rattle.weave_script.specs.declared.fault.Cause.{Cause}
 use Rattle.weave_script.specs.declared.fault.ScriptFault.{ScriptFault}
 use Rattle.weave_script.specs.declared.fault.ScriptFault.TheVariants as fault
-use Rattle.weave_script.specs.Answers.{IfRefused}
+use Rattle.weave_script.specs.Answers.{IfScriptRefused}
 use Rattle.weaver_top.specs.declared.answer.Answer.{Answer}
 use Rattle.weaver_top.specs.declared.status.Status.TheVariants.{Refused}
 
 -- what is promised of a refusal holds of its line and cause
-pub told : (A : Type 0) (why : ScriptFault) (line : ℕ) (cause : Cause) (P : ℕ → Cause → Type 0) → why ≡ fault.Refused line cause → IfRefused {A = A} (Err why) P → P line cause
-told A why line cause P is holds = let Q : ScriptFault → Type 0 = λ why. IfRefused {A = A} (Err why) P in subst Q is holds
+pub told : (A : Type 0) (why : ScriptFault) (line : ℕ) (cause : Cause) (P : ℕ → Cause → Type 0) → why ≡ fault.Refused line cause → IfScriptRefused {A = A} (Err why) P → P line cause
+told A why line cause P is holds = let Q : ScriptFault → Type 0 = λ why. IfScriptRefused {A = A} (Err why) P in subst Q is holds
 
 -- what holds of each answer that refuses with this line holds of one that was made, if memory did not run out
 pub refused : {E : Type 0} (result : Result Answer E) (line : List ℕ) (P : Answer → Type 0) → IfOk result (λ answer. answer.status ≡ Refused) → IfOk result (λ answer. answer.text.items ≡ line) → ((answer : Answer) → answer.status ≡ Refused → answer.text.items ≡ line → P answer) → IfOk result P

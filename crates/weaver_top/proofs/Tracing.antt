@@ -59,15 +59,17 @@ answered same script account report answers is =
       order = same report (record report { answers = answers }) refl refl report.order is.order;
     }
 
--- what is so of the core's script and logs is so of the script and of the logs that its steps leave
+-- the logs and the notices that a script's steps leave
 abbrev pub state_of_steps : Script → CoreState
 state_of_steps script = (trace_of script (steps_of script.steps)).state
 
 module _ (script seen : Script) (state : CoreState) (same : seen ≡ script) (left : state ≡ state_of_steps script) where
+  -- if a core was left, the logs that the script's steps leave are an account of the script
   pub account_of_steps : IsCore seen state → IsAccount script (state_of_steps script).account
   account_of_steps core =
       subst (λ (s : CoreState). IsAccount script s.account) left (subst (λ (one : Script). IsAccount one state.account) same core.account)
 
+  -- and a report of the core's logs is one of these logs, whatever answers of steps it gets
   pub report_of_steps : AreOfRepliesAndPairs → (report : Report) (answers : List StepAnswer) → IsReportOfAccount seen state.account report → IsReportOfAccount script (state_of_steps script).account (record report { answers = answers })
   report_of_steps orders report answers is =
       answered orders script (state_of_steps script).account report answers

@@ -14,7 +14,7 @@ use Rattle.std.proofs.lemmas.List.Elements.{Contains-append_cases}
 use Rattle.weave_data.proofs.Members.{find_has, has_none, has_read}
 use Rattle.vector_stamp.specs.declared.clock.Clock.{Clock}
 use Rattle.vector_stamp.specs.declared.clock.Stamp.{Stamp}
-use Rattle.vector_stamp.specs.Precedence.{Given}
+use Rattle.vector_stamp.specs.Precedence.{GivenPair}
 use Rattle.vector_stamp.specs.Settling.{entries_of_call}
 use Rattle.weave_data.specs.declared.name.Name.{Name}
 use Rattle.program_defs.specs.declared.script.Request.{Request}
@@ -29,8 +29,8 @@ use Rattle.weave_entries.specs.declared.message.Message.{Message}
 use Rattle.weave_entries.specs.declared.oracle_log.OracleEntry.{OracleEntry}
 use Rattle.weave_entries.specs.declared.verdict.Verdict.{Verdict}
 use Rattle.weave_entries.specs.declared.verdict.Verdict.TheVariants.{Committed, Conflict, Refused}
-use Rattle.weave_entries.specs.GateReplay.{Begun, flight_of, program_begun, programs_of}
-use Rattle.weave_entries.specs.OracleReplay.{oracle_entry, pairs_of_entry, pairs_of_log, settled_entry}
+use Rattle.weave_entries.specs.GateReplay.{BegunRequest, flight_of, program_begun, programs_of}
+use Rattle.weave_entries.specs.OracleReplay.{oracle_entry_of, pairs_of_entry, pairs_of_log, settled_entry}
 use Rattle.weave_entries.specs.StoreReplay.{Judgement}
 use Rattle.weave_entries.specs.StoreRule.{asked_stamps, entries_of_settling, settled_if}
 use Rattle.weave_account.specs.declared.account.Account.{Account}
@@ -38,7 +38,7 @@ use Rattle.weave_account.specs.Account.{gate_log, pairs_in, session_log}
 use Rattle.weave_account.specs.IsAccount.{IsAccount}
 use Rattle.step_rules.specs.CoreState.{CoreState}
 use Rattle.step_rules.specs.Answers.{answer_of}
-use Rattle.step_rules.specs.Entries.{account_with, after_begin, after_deliver, after_hear, after_judge, after_reply, after_send, after_visit, after_work, at_request, lasts_in, seen_in, state_with, update_stamps, verdict_in, with_finish}
+use Rattle.step_rules.specs.Entries.{account_with, after_begin, after_deliver, after_hear, after_judge, after_reply, after_send, after_visit, after_work, at_request, lasts_in, seen_in, state_with, update_stamps_at, verdict_in, with_finish}
 use Rattle.step_rules.specs.Requests.{has_ended, next_vertex, ops_in}
 use Rattle.step_rules.specs.Trace.{is_ok, state_after}
 use Rattle.weaver_top.specs.LowerLaws.{LawsForCommands}
@@ -50,23 +50,23 @@ use Rattle.weaver_top.proofs.Begun.{flight-begun, flight-unanswered}
 
 -- a pair for a place has this later end
 place-later : (earlier : List Stamp) (later : Stamp) (places : List ℕ) (e l : Stamp)
-    → Contains {X = Given} (filter_map (λ (place : ℕ). option_map (λ (event : Stamp). (event, later)) (slice_get earlier place)) places) (e, l) → later ≡ l
+    → Contains {X = GivenPair} (filter_map (λ (place : ℕ). option_map (λ (event : Stamp). (event, later)) (slice_get earlier place)) places) (e, l) → later ≡ l
 place-later earlier later [] e l h = absurd (has_none (e, l) h)
 place-later earlier later (place ∷ places) e l h = at (slice_get earlier place) (place-later earlier later places e l) h
   where
     at : (o : Option Stamp)
-        → (Contains {X = Given} (filter_map (λ (place : ℕ). option_map (λ (event : Stamp). (event, later)) (slice_get earlier place)) places) (e, l) → later ≡ l)
-        → Contains {X = Given} (cons_option (option_map (λ (event : Stamp). (event, later)) o) (filter_map (λ (place : ℕ). option_map (λ (event : Stamp). (event, later)) (slice_get earlier place)) places)) (e, l)
+        → (Contains {X = GivenPair} (filter_map (λ (place : ℕ). option_map (λ (event : Stamp). (event, later)) (slice_get earlier place)) places) (e, l) → later ≡ l)
+        → Contains {X = GivenPair} (cons_option (option_map (λ (event : Stamp). (event, later)) o) (filter_map (λ (place : ℕ). option_map (λ (event : Stamp). (event, later)) (slice_get earlier place)) places)) (e, l)
         → later ≡ l
     at None rest h = rest h
     at (Some event) rest h = elim (has_read (event, later) _ (e, l) h) [
-      | inl same ↦ ap (λ (given : Given). given.1) same
+      | inl same ↦ ap (λ (given : GivenPair). given.1) same
       | inr more ↦ rest more
     ]
 
 -- the same holds of each pair that settling adds
 settled-later : (author : ℕ) (earlier : List Stamp) (later : Stamp) (places : List ℕ) (e l : Stamp)
-    → Contains (pairs_of_log (map oracle_entry (entries_of_call author earlier later places))) (e, l) → later ≡ l
+    → Contains (pairs_of_log (map oracle_entry_of (entries_of_call author earlier later places))) (e, l) → later ≡ l
 settled-later author earlier later [] e l h = absurd (has_none (e, l) h)
 settled-later author earlier later (place ∷ places) e l h =
     elim (Contains-append_cases (pairs_of_entry (record { author = author; earlier = earlier; later = later; places = place ∷ places })) [] (e, l) h) [
@@ -74,7 +74,7 @@ settled-later author earlier later (place ∷ places) e l h =
       | inr none ↦ absurd (has_none (e, l) none)
     ]
 
-judged-later : (verdict : Verdict) (author : ℕ) (pairs : List Given) (earlier : List Stamp) (later : Stamp) (e l : Stamp)
+judged-later : (verdict : Verdict) (author : ℕ) (pairs : List GivenPair) (earlier : List Stamp) (later : Stamp) (e l : Stamp)
     → Contains (pairs_of_log (settled_if verdict (entries_of_settling author pairs earlier later))) (e, l) → later ≡ l
 judged-later (Committed number answers counts) author pairs earlier later e l h = settled-later author earlier later _ e l h
 judged-later (Conflict v newer) author pairs earlier later e l h = absurd (has_none (e, l) h)
@@ -93,7 +93,7 @@ module _ (laws : LawsForCommands) (script : Script) (limits : IsWithinLimits scr
   same-oracle : (old new : Account) → new.oracle ≡ old.oracle → AddsOpenPairs script old new
   same-oracle old new same e l h = inl (subst (λ o. Contains (pairs_of_log o) (e, l)) same h)
 
-  judges : (account : Account) → IsAccount script account → (home : ℕ) (o : Option Begun) → flight_of (gate_log account home) ≡ o
+  judges : (account : Account) → IsAccount script account → (home : ℕ) (o : Option BegunRequest) → flight_of (gate_log account home) ≡ o
       → AddsOpenPairs script account (after_judge script account o)
   judges account is home None flies e l h = inl h
   judges account is home (Some flight) flies e l h =
@@ -123,19 +123,19 @@ module _ (laws : LawsForCommands) (script : Script) (limits : IsWithinLimits scr
           let clash : Some v ≡ None = sym next ∙ whole in
           cc
 
-  visits : (account : Account) → IsAccount script account → (r : ℕ) (request : Request) → request_at script r ≡ Some request → (o : Option Begun) (next : Option Name)
+  visits : (account : Account) → IsAccount script account → (r : ℕ) (request : Request) → request_at script r ≡ Some request → (o : Option BegunRequest) (next : Option Name)
       → program_begun r (gate_log account request.gate) ≡ o → next_vertex account r request.work ≡ next
       → AddsOpenPairs script account (after_visit script account r o next)
   visits account is r request there None None begun next e l h = inl h
   visits account is r request there None (Some v) begun next e l h = inl h
   visits account is r request there (Some b) None begun next e l h = inl h
   visits account is r request there (Some b) (Some v) begun next e l h =
-      let stamps = update_stamps account (shard_of v script.shards) v in
+      let stamps = update_stamps_at account (shard_of v script.shards) v in
       let earlier = last_seen (seen_in account b.stamp stamps) stamps in
       elim (more-pairs account.oracle (entries_of_settling 0 (pairs_in account) earlier b.stamp) e l h) [
         | inl before ↦ inl before
         | inr new ↦
-            (let found = find_has (λ (k : Begun). k.request == r) (programs_of (gate_log account request.gate)) b begun in
+            (let found = find_has (λ (k : BegunRequest). k.request == r) (programs_of (gate_log account request.gate)) b begun in
             let same : b.request ≡ r = eqb-true b.request r found.1 in
             inr (record {
               begun = b;
@@ -153,7 +153,7 @@ module _ (laws : LawsForCommands) (script : Script) (limits : IsWithinLimits scr
   visits-at account is r None there = same-oracle account account refl
   visits-at account is r (Some request) there = visits account is r request there _ _ refl refl
 
-  sends : (account : Account) (g : ℕ) (o : Option Begun) (j : Option Judgement) → (after_send script account g o j).oracle ≡ account.oracle
+  sends : (account : Account) (g : ℕ) (o : Option BegunRequest) (j : Option Judgement) → (after_send script account g o j).oracle ≡ account.oracle
   sends account g None None = refl
   sends account g None (Some judged) = refl
   sends account g (Some flight) None = refl
@@ -171,7 +171,7 @@ module _ (laws : LawsForCommands) (script : Script) (limits : IsWithinLimits scr
   begins account r None = refl
   begins account r (Some request) = refl
 
-  finishes : (account : Account) (r g : ℕ) (o : Option Begun) → (with_finish account r g o).oracle ≡ account.oracle
+  finishes : (account : Account) (r g : ℕ) (o : Option BegunRequest) → (with_finish account r g o).oracle ≡ account.oracle
   finishes account r g None = refl
   finishes account r g (Some begun) = refl
 

@@ -16,11 +16,12 @@ use Rattle.order_witness.specs.Judgement as judgement
 use Rattle.weaver_top.specs.Headlines.{TellsYes}
 use Rattle.weaver_top.specs.VerdictLines.{TellsNo, no_line, yes_line}
 
--- a right report, and one that isn't
+-- if a report is right, the line of a right report is what `check` has to write
 pub right : (input text : List ℕ) (script : Script) (report : Report) → length input ≤ 4194304 → IsCheckTextOf input script report → IsRightReport script report → text ≡ yes_line → TellsYes input text
 right input text script report short is_text is_right is =
     record { input_is_short = short; script = script; report = report; input_is_their_text = is_text; report_is_right = is_right; line = is }
 
+-- if a report breaks a clause first at a place, the line of this clause and place is what `check` has to write
 pub wrong : (input text : List ℕ) (script : Script) (report : Report) (clause : Clause) (place : ℕ) → length input ≤ 4194304 → IsCheckTextOf input script report → BreaksFirst script report clause place → text ≡ no_line clause place → TellsNo input text
 wrong input text script report clause place short is_text breaks is =
     record { input_is_short = short; script = script; report = report; input_is_their_text = is_text; clause = clause; place = place; breaks = breaks; line = is }
@@ -34,5 +35,6 @@ all_numbered : (requests : List Request) → AllByRecursion (λ (request : Reque
 all_numbered [] few = refl
 all_numbered (request ∷ requests) few = and_from (judgement.is_numbered_work request.work) _ (numbered_work request.work few.0) (all_numbered requests few.1)
 
+-- a script whose transactions have at most 64 operations each can number them
 pub numbered : (script : Script) → AllByRecursion (λ (request : Request). length (ops_of request.work) ≤ 64) script.requests → IsTrue (judgement.has_numbered_operations script)
 numbered script few = all_numbered script.requests few

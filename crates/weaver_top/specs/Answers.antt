@@ -1,6 +1,6 @@
 -- What a command answers to an input, before it is written.
 use Rattle.std.specs.Prelude.{◌≡◌, ◌⊎◌, ℕ, Bool, true, false, IsTrue, List, [], Some, if◌then◌else◌}
-use Rattle.weave_io.specs.Told.{Told, Appends, AppendsPrefix}
+use Rattle.weave_io.specs.Told.{ToldBytes, Appends, AppendsPrefix}
 use Rattle.weaver_top.specs.declared.answer.Answer.{Answer}
 use Rattle.weaver_top.specs.declared.command.Command.{Command}
 use Rattle.weaver_top.specs.declared.command.Command.TheVariants.{Run, Check, Trace, Load}
@@ -44,22 +44,23 @@ TellsAt command NotRight input text = TellsNotRight command input text
 TellsAt command Refused input text = TellsRefusal command input text
 TellsAt command status input text = ⊥
 
--- the command judges a report
+-- the command judges a report. No public contract cites this.
 abbrev pub is_judging : Command → Bool
 is_judging Run = false
 is_judging Check = true
 is_judging Trace = false
 is_judging (Load seed size) = false
 
--- the command can end with this status and its text written
+-- the command can end with this status and its text written. No public contract cites this.
 abbrev pub can_end : Command → Status → Bool
 can_end command Done = true
 can_end command Refused = reads_input command
 can_end command NotRight = is_judging command
 can_end command status = false
 
--- what is known of the command's input: what the source has left. `load` reads nothing, so its input is empty
-abbrev pub input_told : Command → Told → Told
+-- what is known of the command's input: what the source has left. `load` reads nothing, so its input is empty.
+-- No public contract cites this.
+abbrev pub input_told : Command → ToldBytes → ToldBytes
 input_told command left = if reads_input command then left else Some []
 
 -- the text is what the command has to write for the input
@@ -73,7 +74,7 @@ pub record IsAnswerTo (command : Command) (input : List ℕ) (answer : Answer) :
 
 -- the answer's text was written, or the writing failed and some of it was written, from its start.
 -- No public contract cites this.
-abbrev pub Delivers : Answer → Status → Told → Told → Type 0 → Type 0
+abbrev pub Delivers : Answer → Status → ToldBytes → ToldBytes → Type 0 → Type 0
 Delivers answer status before after Failed =
     ((status ≡ answer.status) × Appends before after answer.text.items)
     ⊎ ((status ≡ Write) × Failed × AppendsPrefix before after answer.text.items)

@@ -1,7 +1,8 @@
 -- The words of a command.
 use Rattle.std.specs.Prelude.{◌≡◌, ◌≤◌, ⊤, ℕ, Bool, true, false, ◌&&◌, nat_le, nat_lt, List, [], ◌∷◌, Option, Some, None, codes, nat_eq, if◌then◌else◌}
 use Rattle.std.specs.Cmp.Lexicographic.{pointwise}
-use Rattle.weave_text.specs.Numbers.{number_of}
+use Rattle.weave_data.specs.Limits.{most_requests}
+use Rattle.weave_text.specs.Numbers.{number_of_word}
 use Rattle.weaver_top.specs.declared.command.Command.{Command}
 use Rattle.weaver_top.specs.declared.command.Command.TheVariants.{Run, Check, Trace, Load}
 
@@ -15,7 +16,7 @@ command_named word =
 
 -- a size is 1 to 10,000
 abbrev pub is_size : ℕ → Bool
-is_size size = nat_lt 0 size && nat_le size 10000
+is_size size = nat_lt 0 size && nat_le size most_requests
 
 -- `load` of a seed and a size, if both are numbers of 64 bits and the size can be one
 abbrev pub load_numbered : Option ℕ → Option ℕ → Option Command
@@ -26,7 +27,7 @@ load_numbered None size = None
 -- the command `load` with its seed and its size: each is `0`, or decimal digits of which the first isn't 0
 abbrev pub load_of : List ℕ → List ℕ → List ℕ → Option Command
 load_of word seed size =
-    if pointwise nat_eq word (codes "load") then load_numbered (number_of seed) (number_of size) else None
+    if pointwise nat_eq word (codes "load") then load_numbered (number_of_word seed) (number_of_word size) else None
 
 -- the command that the words ask for: its name alone, or `load` with a seed and a size
 abbrev pub command_of : List (List ℕ) → Option Command
@@ -50,4 +51,4 @@ abbrev pub IsSized : Command → Type 0
 IsSized Run = ⊤
 IsSized Check = ⊤
 IsSized Trace = ⊤
-IsSized (Load seed size) = (1 ≤ size) × (size ≤ 10000)
+IsSized (Load seed size) = (1 ≤ size) × (size ≤ most_requests)

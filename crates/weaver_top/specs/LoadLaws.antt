@@ -1,7 +1,7 @@
 -- The laws of the crates below that `load` relies on, in one record. No public contract cites this.
 use Rattle.std.specs.Prelude.{◌≡◌, ◌≢◌, ℕ, Contains, IsTrue, Some}
 use Rattle.vector_stamp.specs.Order.{id_of}
-use Rattle.vector_stamp.specs.Precedence.{Given}
+use Rattle.vector_stamp.specs.Precedence.{GivenPair}
 use Rattle.graph_ops.specs.PlainGraph.{PlainGraph}
 use Rattle.program_defs.specs.declared.program.Answer.{Answer}
 use Rattle.program_defs.specs.declared.program.Program.{Program}
@@ -17,7 +17,7 @@ use Rattle.report_rules.specs.Meetings.{MeetingsAreOrdered}
 use Rattle.report_rules.specs.PrintedOrder.{IsInPrintedOrder}
 use Rattle.report_rules.specs.ReportOf.{IsReportOf}
 use Rattle.report_rules.specs.RightReport.{IsRightReport}
-use Rattle.weave_entries.specs.GateReplay.{Begun}
+use Rattle.weave_entries.specs.GateReplay.{BegunRequest}
 use Rattle.weave_entries.specs.SessionReplay.{has_reply_in}
 use Rattle.weave_account.specs.declared.account.Account.{Account}
 use Rattle.weave_account.specs.Account.{all_begun, session_log}
@@ -48,11 +48,11 @@ pub record LoadLaws : Type 0 where
       → IsReportOfAccount script account a → IsReportOfAccount script account b → a.pairs ≡ b.pairs
   -- begun_stamps_are_coherent
   pub differ : (script : Script) (account : Account) → IsWithinLimits script → IsAccount script account
-      → (a b : Begun) → Contains (all_begun account) a → Contains (all_begun account) b → a.request ≢ b.request
+      → (a b : BegunRequest) → Contains (all_begun account) a → Contains (all_begun account) b → a.request ≢ b.request
       → id_of a.stamp ≢ id_of b.stamp
   -- facts_stay_true
   pub pairs_stay : (script : Script) (account next : Account) → GoesOn account next → BeginEachOnce next
-      → (pair : Pair) (given : Given) → IsPairInAccount account pair given → IsPairInAccount next pair given
+      → (pair : Pair) (given : GivenPair) → IsPairInAccount account pair given → IsPairInAccount next pair given
   -- plain_answer_is_one
   pub answers : (graph : PlainGraph) (program : Program) (a b : Answer) → IsPlainAnswer graph program a
       → IsPlainAnswer graph program b → a ≡ b

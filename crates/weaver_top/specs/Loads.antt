@@ -14,7 +14,7 @@ use Rattle.weave_account.specs.declared.account.Account.{Account}
 use Rattle.weave_account.specs.GoesOn.{IsBeginningOf}
 use Rattle.weave_account.specs.Report.{IsReportOfAccount}
 use Rattle.weave_drive.specs.Staying.{ReportStays}
-use Rattle.weave_io.specs.Told.{Told, Appends, AppendsPrefix}
+use Rattle.weave_io.specs.Told.{ToldBytes, Appends, AppendsPrefix}
 use Rattle.weave_script.specs.Scripts.{steps_of}
 use Rattle.load_maker.specs.Generated.{script_of}
 use Rattle.weaver_top.specs.Summaries.{committed_count, conflict_count, program_count, refused_count, summary_text}
@@ -56,9 +56,9 @@ pub record TellsLoad (seed size : ℕ) (text : List ℕ) : Type 0 where
   pub text_is_summary : text ≡ summary_text seed size (4 * size) report
 
 -- such a text was put at the end of what was written
-abbrev pub WritesLoad : ℕ → ℕ → Told → Told → Type 0
+abbrev pub WritesLoad : ℕ → ℕ → ToldBytes → ToldBytes → Type 0
 WritesLoad seed size before after = (text : List ℕ) × TellsLoad seed size text × Appends before after text
 
 -- or some of such a text, from its start
-abbrev pub WritesLoadPrefix : ℕ → ℕ → Told → Told → Type 0
+abbrev pub WritesLoadPrefix : ℕ → ℕ → ToldBytes → ToldBytes → Type 0
 WritesLoadPrefix seed size before after = (text : List ℕ) × TellsLoad seed size text × AppendsPrefix before after text

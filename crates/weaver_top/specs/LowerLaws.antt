@@ -8,7 +8,7 @@ use Rattle.program_defs.specs.Limits.{IsWithinLimits}
 use Rattle.program_defs.specs.Works.{is_look}
 use Rattle.report_rules.specs.Lookups.{request_at}
 use Rattle.weave_entries.specs.declared.gate_log.GateEntry.{GateEntry}
-use Rattle.weave_entries.specs.GateReplay.{Begun, ended_in, flight_of, txs_of}
+use Rattle.weave_entries.specs.GateReplay.{BegunRequest, ended_in, flight_of, txs_of}
 use Rattle.weave_entries.specs.GateRules.{BeginsEachOnce, EndsWhatItBegan, IsGateLog}
 use Rattle.weave_entries.specs.SessionReplay.{has_reply_in}
 use Rattle.weave_account.specs.declared.account.Account.{Account}
@@ -23,17 +23,18 @@ pub record LawsForCommands : Type 0 where
   -- requests_end, what_has_not_ended_goes_on
   pub ends : (home shards : ℕ) (log : List GateEntry) → IsGateLog home shards log → EndsWhatItBegan log
   pub in_flight : (home shards : ℕ) (log : List GateEntry) → IsGateLog home shards log → BeginsEachOnce log
-      → (tx : Begun)
+      → (tx : BegunRequest)
       → (flight_of log ≡ Some tx) ↔ (Contains (txs_of log) tx × ¬ Contains (ended_in log) tx.request)
   -- requests_end_or_go_on
   pub once : (script : Script) (account : Account) → IsWithinLimits script → IsAccount script account → (home : ℕ)
       → BeginsEachOnce (gate_log account home)
   -- begun_stamps_are_coherent
-  pub differ : (script : Script) (account : Account) → IsWithinLimits script → IsAccount script account → (a b : Begun)
+  pub differ : (script : Script) (account : Account) → IsWithinLimits script → IsAccount script account
+      → (a b : BegunRequest)
       → Contains (all_begun account) a → Contains (all_begun account) b → a.request ≢ b.request
       → id_of a.stamp ≢ id_of b.stamp
   -- facts_stay_true
-  pub begun : (script : Script) (account next : Account) → GoesOn account next → (begun : Begun)
+  pub begun : (script : Script) (account next : Account) → GoesOn account next → (begun : BegunRequest)
       → Contains (all_begun account) begun → Contains (all_begun next) begun
   -- finished_exactly_if_replied
   pub finished : (script : Script) (account : Account) → IsWithinLimits script → IsAccount script account

@@ -5,7 +5,7 @@ use Rattle.program_defs.specs.declared.script.Script.{Script}
 use Rattle.report_rules.specs.Lookups.{request_at}
 use Rattle.report_rules.specs.Meetings.{phase_of}
 use Rattle.weave_entries.specs.declared.gate_log.GateEntry.{GateEntry}
-use Rattle.weave_entries.specs.GateReplay.{Begun}
+use Rattle.weave_entries.specs.GateReplay.{BegunRequest}
 use Rattle.weave_account.specs.declared.account.Account.{Account}
 use Rattle.weave_account.specs.Account.{all_begun, gate_log}
 use Rattle.weave_account.specs.Clocks.{is_raised}
@@ -40,7 +40,7 @@ pub record HasEnded (script : Script) (phase : ℕ) (logs account : Account) : T
   pub goes_on : GoesOn logs account
   pub replied : (r : ℕ) (request : Request) → request_at script r ≡ Some request → phase_of script r ≤ phase
       → IsTrue (has_reply logs r request)
-  pub begun : (begun : Begun) → Contains (all_begun logs) begun → phase_of script begun.request ≤ phase
+  pub begun : (begun : BegunRequest) → Contains (all_begun logs) begun → phase_of script begun.request ≤ phase
   pub epochs : (epoch : ℕ) → ¬ IsTrue (is_raised logs epoch)
   pub pairs : AddsOpenPairs script logs account
 

@@ -34,11 +34,11 @@ check_input = record {
 abbrev pub trace_input : InputKind
 trace_input = record { Value = Script; IsText = IsTextOf; read = read_text }
 
--- `load` reads nothing: its input is empty
+-- `load` reads nothing: its input is empty. No public contract cites this.
 abbrev pub load_input : InputKind
 load_input = record { Value = Unit {0}; IsText = λ input value. input ≡ []; read = λ input. Ok tt }
 
--- what a command reads
+-- what a command reads. No public contract cites this.
 abbrev pub input_of : Command → InputKind
 input_of Run = run_input
 input_of Check = check_input

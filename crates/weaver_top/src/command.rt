@@ -2,10 +2,11 @@
 ghost use Rattle.std.specs.Prelude.{◌≡◌, map, string_bytes, IfSome};
 ghost use Rattle.weaver_top.specs.Commands.{IsSized, command_named, command_of, load_of, reads_input};
 
+use weave_data::MOST_REQUESTS;
 use weave_text::number;
 
 /// The most requests of a generated script.
-const MOST_SIZE: u64 = 10_000;
+const MOST_SIZE: u64 = MOST_REQUESTS as u64;
 
 /// What the command line can ask for.
 #[derive(Clone, Copy, PartialEq, Eq, Debug)]

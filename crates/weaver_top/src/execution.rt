@@ -1,6 +1,6 @@
 //! All that a command does, except for threads.
 ghost use Rattle.std.specs.Prelude.{◌≡◌, ◌≢◌, ◌⊎◌, ◌↔◌, ℕ, false, [], map, string_bytes, IsTrue, Err, None, IfOk, OnOk, IfSome};
-ghost use Rattle.weave_io.specs.Counts.{Rose};
+ghost use Rattle.weave_io.specs.Counts.{HasRisen};
 ghost use Rattle.weave_io.specs.Told.{IsReadWhole, KeepsWritten, Tells, TakesAtMost, Writes, WritesPrefix};
 ghost use Rattle.weaver_top.specs.Acceptance.{IsAcceptedByCheck};
 ghost use Rattle.weaver_top.specs.Answers.{Delivers, IsAnswerTo, TellsAnswer, can_end, input_told};
@@ -9,7 +9,7 @@ ghost use Rattle.weaver_top.specs.Headlines.{TellsRightReport, TellsTrace, Tells
 ghost use Rattle.weaver_top.specs.Loads.{WritesLoad, WritesLoadPrefix};
 ghost use Rattle.weaver_top.specs.Refusals.{CanBeTaken, TellsRefusal, check_input, run_input, trace_input};
 ghost use Rattle.weaver_top.specs.VerdictLines.{TellsNo};
-ghost use Rattle.weave_script.specs.Limits.{most_bytes};
+ghost use Rattle.weave_data.specs.Limits.{most_bytes};
 
 use crate::answer::{Answer, too_long};
 use crate::answering::answer_to;
@@ -56,13 +56,13 @@ pub fn execute<S: Source, K: Sink>(
 
     // When each other status comes.
     ensures words { (result ≡ Status.Words) ↔ (command_of (map string_bytes words.now) ≡ None) }
-    ensures read { result ≡ Status.Read → Rose (S.faults source.old) (S.faults source.new) }
+    ensures read { result ≡ Status.Read → HasRisen (S.faults source.old) (S.faults source.new) }
     ensures refused { (command : Command) → AreWordsOf (map string_bytes words.now) command → result ≡ Status.Refused
         → Writes (TellsRefusal command) (S.left source.old) (K.written sink.old) (K.written sink.new) }
     ensures input_refused { (command : Command) → AreWordsOf (map string_bytes words.now) command
         → result ≡ Status.Refused → IsTrue (reads_input command) }
     ensures write { result ≡ Status.Write →
-        Rose (K.faults sink.old) (K.faults sink.new) ⊎ Rose (K.stalls sink.old) (K.stalls sink.new) }
+        HasRisen (K.faults sink.old) (K.faults sink.new) ⊎ HasRisen (K.stalls sink.old) (K.stalls sink.new) }
     ensures prefix { (command : Command) → AreWordsOf (map string_bytes words.now) command → result ≡ Status.Write
         → WritesPrefix (TellsAnswer command) (S.left source.old) (K.written sink.old) (K.written sink.new) }
     ensures load_prefix { (seed size : ℕ) → AreWordsOf (map string_bytes words.now) (Command.Load seed size)
@@ -87,28 +87,28 @@ pub fn execute<S: Source, K: Sink>(
 
     // An input that a command takes gets its answer, unless reading or writing fails, or memory runs out.
     ensures all_run { AreWordsOf (map string_bytes words.now) Command.Run
-        → ¬ Rose (S.faults source.old) (S.faults source.new)
-        → ¬ Rose (K.faults sink.old) (K.faults sink.new)
-        → ¬ Rose (K.stalls sink.old) (K.stalls sink.new)
+        → ¬ HasRisen (S.faults source.old) (S.faults source.new)
+        → ¬ HasRisen (K.faults sink.old) (K.faults sink.new)
+        → ¬ HasRisen (K.stalls sink.old) (K.stalls sink.new)
         → IfSome (S.left source.old) (λ input. CanBeTaken run_input input
         → (result ≡ Status.Done) ⊎ (result ≡ Status.Memory)) }
     ensures all_judged { AreWordsOf (map string_bytes words.now) Command.Check
-        → ¬ Rose (S.faults source.old) (S.faults source.new)
-        → ¬ Rose (K.faults sink.old) (K.faults sink.new)
-        → ¬ Rose (K.stalls sink.old) (K.stalls sink.new)
+        → ¬ HasRisen (S.faults source.old) (S.faults source.new)
+        → ¬ HasRisen (K.faults sink.old) (K.faults sink.new)
+        → ¬ HasRisen (K.stalls sink.old) (K.stalls sink.new)
         → IfSome (S.left source.old) (λ input. CanBeTaken check_input input
         → ((result ≡ Status.Done) ⊎ (result ≡ Status.NotRight)) ⊎ (result ≡ Status.Memory)) }
     ensures all_traced { AreWordsOf (map string_bytes words.now) Command.Trace
-        → ¬ Rose (S.faults source.old) (S.faults source.new)
-        → ¬ Rose (K.faults sink.old) (K.faults sink.new)
-        → ¬ Rose (K.stalls sink.old) (K.stalls sink.new)
+        → ¬ HasRisen (S.faults source.old) (S.faults source.new)
+        → ¬ HasRisen (K.faults sink.old) (K.faults sink.new)
+        → ¬ HasRisen (K.stalls sink.old) (K.stalls sink.new)
         → IfSome (S.left source.old) (λ input. CanBeTaken trace_input input
         → (result ≡ Status.Done) ⊎ (result ≡ Status.Memory)) }
 
     // `load` refuses nothing: it gets its answer, unless writing fails, or memory runs out.
     ensures all_loaded { (seed size : ℕ) → AreWordsOf (map string_bytes words.now) (Command.Load seed size)
-        → ¬ Rose (K.faults sink.old) (K.faults sink.new)
-        → ¬ Rose (K.stalls sink.old) (K.stalls sink.new)
+        → ¬ HasRisen (K.faults sink.old) (K.faults sink.new)
+        → ¬ HasRisen (K.stalls sink.old) (K.stalls sink.new)
         → (result ≡ Status.Done) ⊎ (result ≡ Status.Memory) }
 {
     let Some(command) = command_of(words) else {
@@ -133,7 +133,7 @@ fn prepare<S: Source>(
     ensures ends { IfOk result (λ answer. IsTrue (can_end command answer.status)) }
     ensures all_is_read { IsTrue (reads_input command) → IfOk result (λ answer.
         (answer.status ≡ Status.Done) ⊎ (answer.status ≡ Status.NotRight) → Tells (S.left source.new) []) }
-    ensures read { result ≡ Err PrepareError.Read → Rose (S.faults source.old) (S.faults source.new) }
+    ensures read { result ≡ Err PrepareError.Read → HasRisen (S.faults source.old) (S.faults source.new) }
     ensures read_in_time { result ≡ Err PrepareError.Read
         → TakesAtMost (S.left source.old) (S.left source.new) most_bytes }
     ensures read_first { IsTrue (reads_input command)
@@ -163,7 +163,7 @@ fn prepare_from_input<S: Source>(
     ensures ends { IfOk result (λ answer. IsTrue (can_end command answer.status)) }
     ensures all_is_read { IfOk result (λ answer. (answer.status ≡ Status.Done) ⊎ (answer.status ≡ Status.NotRight)
         → Tells (S.left source.new) []) }
-    ensures read { result ≡ Err PrepareError.Read → Rose (S.faults source.old) (S.faults source.new) }
+    ensures read { result ≡ Err PrepareError.Read → HasRisen (S.faults source.old) (S.faults source.new) }
     ensures read_in_time { result ≡ Err PrepareError.Read
         → TakesAtMost (S.left source.old) (S.left source.new) most_bytes }
     ensures read_first { OnOk result (IsReadWhole (S.left source.old) (S.left source.new)) }
@@ -186,7 +186,7 @@ fn prepare_from_input<S: Source>(
 /// Writes an answer's text.
 pub(crate) fn write_answer<K: Sink>(sink: &mut K, answer: &Answer) -> Status
     ensures delivered { Delivers answer.now result (K.written sink.old) (K.written sink.new)
-        (Rose (K.faults sink.old) (K.faults sink.new) ⊎ Rose (K.stalls sink.old) (K.stalls sink.new)) }
+        (HasRisen (K.faults sink.old) (K.faults sink.new) ⊎ HasRisen (K.stalls sink.old) (K.stalls sink.new)) }
     ensures without_stall { result ≢ Status.Write → K.stalls sink.new ≡ K.stalls sink.old }
 {
     match write_all(sink, answer.text.as_slice()) {

@@ -1,5 +1,6 @@
 //! What `load` writes.
 ghost use Rattle.std.specs.Prelude.{◌≡◌, ◌≤◌, ◌*◌, ℕ, List, IfOk};
+ghost use Rattle.weave_data.specs.Limits.{most_requests};
 ghost use Rattle.load_maker.specs.Generated.{script_of};
 ghost use Rattle.report_rules.specs.RightReport.{IsRightReport};
 ghost use Rattle.weave_script.specs.Scripts.{IsScript};
@@ -25,7 +26,7 @@ use weaver_core::Core;
 
 /// The summary of the report of a generated script, after its steps and with every request answered.
 pub(crate) fn load_on(alloc: Global, seed: u64, size: u32) -> Result<Answer, AllocError>
-    requires { (1 ≤ size) × (size ≤ 10000) }
+    requires { (1 ≤ size) × (size ≤ most_requests) }
     ensures { (input : List ℕ) → IfOk result (IsAnswerTo (Command.Load seed size) input) }
 {
     Ok(Answer {
@@ -36,7 +37,7 @@ pub(crate) fn load_on(alloc: Global, seed: u64, size: u32) -> Result<Answer, All
 
 // Makes the script, does its steps, answers every request, and sums up the report.
 fn summary_of(alloc: Global, seed: u64, size: u32) -> Result<Vec<u8>, AllocError>
-    requires { (1 ≤ size) × (size ≤ 10000) }
+    requires { (1 ≤ size) × (size ≤ most_requests) }
     ensures { IfOk result (λ text. TellsLoad seed size text.items) }
 {
     the_crates_below_keep_their_laws();
@@ -48,7 +49,7 @@ fn summary_of(alloc: Global, seed: u64, size: u32) -> Result<Vec<u8>, AllocError
 
 // The core of the script of a seed, after the script's steps and with every request answered.
 fn loaded(alloc: Global, seed: u64, size: u32) -> Result<Core, AllocError>
-    requires { (1 ≤ size) × (size ≤ 10000) }
+    requires { (1 ≤ size) × (size ≤ most_requests) }
     ensures script { IfOk result (λ core. core.script ≡ script_of seed size) }
     ensures valid { IfOk result (λ core. IsScript core.script) }
     ensures loaded { IfOk result (λ core. IsLoaded core.script core.state) }
@@ -71,7 +72,7 @@ fn judged_summary(
     script: &Script,
     report: &Report,
 ) -> Result<Vec<u8>, AllocError>
-    requires size { size ≤ 10000 }
+    requires size { size ≤ most_requests }
     requires valid { IsScript script.now }
     requires right { IsRightReport script.now report.now }
     ensures { IfOk result (λ text. text.items ≡ summary_text seed size (4 * size) report.now) }

@@ -1,5 +1,6 @@
 //! The summary of a report.
 ghost use Rattle.std.specs.Prelude.{◌≡◌, ◌≤◌, ◌*◌, ◌++◌, IfOk, OnOk};
+ghost use Rattle.weave_data.specs.Limits.{most_requests};
 ghost use Rattle.step_rules.specs.Finishing.{is_finished};
 ghost use Rattle.weaver_top.specs.Summaries.{committed_count, conflict_count, count_line, is_commit, is_conflict, is_refusal, program_count, refused_count, summary_text};
 
@@ -15,7 +16,7 @@ pub(crate) fn summary_text(
     size: u32,
     report: &Report,
 ) -> Result<Vec<u8>, AllocError>
-    requires { size ≤ 10000 }
+    requires { size ≤ most_requests }
     ensures { IfOk result (λ text. text.items ≡ summary_text seed size (4 * size) report.now) }
 {
     let mut text = Text::new(alloc);

@@ -1,6 +1,6 @@
 //! The top call.
 ghost use Rattle.std.specs.Prelude.{◌≡◌, ◌⊎◌, ◌↔◌, ℕ, [], map, string_bytes, IsTrue, Err, None, IfOk, OnOk, IfSome};
-ghost use Rattle.weave_io.specs.Counts.{Rose};
+ghost use Rattle.weave_io.specs.Counts.{HasRisen};
 ghost use Rattle.weave_io.specs.Told.{IsReadWhole, KeepsWritten, Tells, TakesAtMost, Writes, WritesPrefix};
 ghost use Rattle.weaver_top.specs.Acceptance.{IsAcceptedByCheck};
 ghost use Rattle.weaver_top.specs.Answers.{IsAnswerTo, TellsAnswer, can_end};
@@ -9,7 +9,7 @@ ghost use Rattle.weaver_top.specs.Headlines.{TellsRightReport, TellsTrace, Tells
 ghost use Rattle.weaver_top.specs.Loads.{WritesLoad, WritesLoadPrefix};
 ghost use Rattle.weaver_top.specs.Refusals.{CanBeTaken, TellsRefusal, check_input, run_input, trace_input};
 ghost use Rattle.weaver_top.specs.VerdictLines.{TellsNo};
-ghost use Rattle.weave_script.specs.Limits.{most_bytes};
+ghost use Rattle.weave_data.specs.Limits.{most_bytes};
 
 use crate::answer::{Answer, too_long};
 use crate::command::{Command, command_of};
@@ -60,13 +60,13 @@ pub fn weave<R: Threads + Wait + Sync, S: Source, K: Sink, P: Pace>(
 
     // When each other status comes.
     ensures words { (result ≡ Status.Words) ↔ (command_of (map string_bytes words.now) ≡ None) }
-    ensures read { result ≡ Status.Read → Rose (S.faults source.old) (S.faults source.new) }
+    ensures read { result ≡ Status.Read → HasRisen (S.faults source.old) (S.faults source.new) }
     ensures refused { (command : Command) → AreWordsOf (map string_bytes words.now) command → result ≡ Status.Refused
         → Writes (TellsRefusal command) (S.left source.old) (K.written sink.old) (K.written sink.new) }
     ensures input_refused { (command : Command) → AreWordsOf (map string_bytes words.now) command
         → result ≡ Status.Refused → IsTrue (reads_input command) }
     ensures write { result ≡ Status.Write →
-        Rose (K.faults sink.old) (K.faults sink.new) ⊎ Rose (K.stalls sink.old) (K.stalls sink.new) }
+        HasRisen (K.faults sink.old) (K.faults sink.new) ⊎ HasRisen (K.stalls sink.old) (K.stalls sink.new) }
     ensures prefix { (command : Command) → AreWordsOf (map string_bytes words.now) command → result ≡ Status.Write
         → WritesPrefix (TellsAnswer command) (S.left source.old) (K.written sink.old) (K.written sink.new) }
     ensures load_prefix { (seed size : ℕ) → AreWordsOf (map string_bytes words.now) (Command.Load seed size)
@@ -91,28 +91,28 @@ pub fn weave<R: Threads + Wait + Sync, S: Source, K: Sink, P: Pace>(
 
     // An input that a command takes gets its answer, unless reading or writing fails, or memory runs out.
     ensures all_run { AreWordsOf (map string_bytes words.now) Command.Run
-        → ¬ Rose (S.faults source.old) (S.faults source.new)
-        → ¬ Rose (K.faults sink.old) (K.faults sink.new)
-        → ¬ Rose (K.stalls sink.old) (K.stalls sink.new)
+        → ¬ HasRisen (S.faults source.old) (S.faults source.new)
+        → ¬ HasRisen (K.faults sink.old) (K.faults sink.new)
+        → ¬ HasRisen (K.stalls sink.old) (K.stalls sink.new)
         → IfSome (S.left source.old) (λ input. CanBeTaken run_input input
         → (result ≡ Status.Done) ⊎ (result ≡ Status.Memory)) }
     ensures all_judged { AreWordsOf (map string_bytes words.now) Command.Check
-        → ¬ Rose (S.faults source.old) (S.faults source.new)
-        → ¬ Rose (K.faults sink.old) (K.faults sink.new)
-        → ¬ Rose (K.stalls sink.old) (K.stalls sink.new)
+        → ¬ HasRisen (S.faults source.old) (S.faults source.new)
+        → ¬ HasRisen (K.faults sink.old) (K.faults sink.new)
+        → ¬ HasRisen (K.stalls sink.old) (K.stalls sink.new)
         → IfSome (S.left source.old) (λ input. CanBeTaken check_input input
         → ((result ≡ Status.Done) ⊎ (result ≡ Status.NotRight)) ⊎ (result ≡ Status.Memory)) }
     ensures all_traced { AreWordsOf (map string_bytes words.now) Command.Trace
-        → ¬ Rose (S.faults source.old) (S.faults source.new)
-        → ¬ Rose (K.faults sink.old) (K.faults sink.new)
-        → ¬ Rose (K.stalls sink.old) (K.stalls sink.new)
+        → ¬ HasRisen (S.faults source.old) (S.faults source.new)
+        → ¬ HasRisen (K.faults sink.old) (K.faults sink.new)
+        → ¬ HasRisen (K.stalls sink.old) (K.stalls sink.new)
         → IfSome (S.left source.old) (λ input. CanBeTaken trace_input input
         → (result ≡ Status.Done) ⊎ (result ≡ Status.Memory)) }
 
     // `load` refuses nothing: it gets its answer, unless writing fails, or memory runs out.
     ensures all_loaded { (seed size : ℕ) → AreWordsOf (map string_bytes words.now) (Command.Load seed size)
-        → ¬ Rose (K.faults sink.old) (K.faults sink.new)
-        → ¬ Rose (K.stalls sink.old) (K.stalls sink.new)
+        → ¬ HasRisen (K.faults sink.old) (K.faults sink.new)
+        → ¬ HasRisen (K.stalls sink.old) (K.stalls sink.new)
         → (result ≡ Status.Done) ⊎ (result ≡ Status.Memory) }
 {
     match command_of(words) {
@@ -136,7 +136,7 @@ fn prepare_run<R: Threads + Wait + Sync, S: Source, P: Pace>(
     ensures ends { IfOk result (λ answer. IsTrue (can_end Command.Run answer.status)) }
     ensures all_is_read { IfOk result (λ answer. (answer.status ≡ Status.Done) ⊎ (answer.status ≡ Status.NotRight)
         → Tells (S.left source.new) []) }
-    ensures read { result ≡ Err PrepareError.Read → Rose (S.faults source.old) (S.faults source.new) }
+    ensures read { result ≡ Err PrepareError.Read → HasRisen (S.faults source.old) (S.faults source.new) }
     ensures read_in_time { result ≡ Err PrepareError.Read
         → TakesAtMost (S.left source.old) (S.left source.new) most_bytes }
     ensures read_first { OnOk result (IsReadWhole (S.left source.old) (S.left source.new)) }

@@ -15,7 +15,7 @@ use Rattle.weave_entries.specs.declared.session_log.SessionEntry.{SessionEntry}
 use Rattle.weave_entries.specs.SessionReplay.{has_reply_in, replied_count, session_of, SessionState}
 use Rattle.weave_account.specs.Sessions.{requests_of_session}
 use Rattle.weaver_core.specs.declared.client.Client.{Client}
-use Rattle.weaver_core.specs.Clients.{log_of, requests_in, unanswered_in, IsClientOf, IsInTurn}
+use Rattle.weaver_core.specs.Sessions.{log_of_client, requests_in, unanswered_in, IsClientOf, IsInTurn}
 use Rattle.weaver_core.proofs.Turns.{place-of}
 use Rattle.weaver_workers.specs.ClientWork.{HasReplies}
 use Rattle.weaver_workers.specs.KeepLaws.{KeepLaws}
@@ -46,12 +46,12 @@ module _ (laws : KeepLaws) (number : ℕ) (client : Client) (at_end : IsClientOf
   requests = client.session.requests
 
   abbrev count : ℕ
-  count = replied_count (session_of requests (log_of client))
+  count = replied_count (session_of requests (log_of_client client))
 
   -- a request at one of the first places has its reply
-  answered-before : (i r : ℕ) → i < count → slice_get requests i ≡ Some r → IsTrue (has_reply_in r (log_of client))
-  answered-before i r low at = (laws.has_reply r (log_of client)).1
-      (subst (λ (l : List ℕ). Contains l r) (sym (laws.replied_first number requests (log_of client) at_end.right)) (in-take count requests i r low at))
+  answered-before : (i r : ℕ) → i < count → slice_get requests i ≡ Some r → IsTrue (has_reply_in r (log_of_client client))
+  answered-before i r low at = (laws.has_reply r (log_of_client client)).1
+      (subst (λ (l : List ℕ). Contains l r) (sym (laws.replied_first number requests (log_of_client client) at_end.right)) (in-take count requests i r low at))
 
   -- if none is given, each request before has its reply
   pub has-replies : (upto : ℕ) → below_in upto client ≡ None → HasReplies upto client
@@ -79,13 +79,13 @@ module _ (laws : KeepLaws) (number : ℕ) (client : Client) (at_end : IsClientOf
           none-some q (sym none ∙ ap (option_and_then (λ r. if nat_lt r upto then Some r else None)) is ∙ below-is q upto (not-after q upto r i is at late low))
 
   -- if the last begun one waits, it is the one that is given
-  pub unanswered-waits : (r : ℕ) → client.session.waits ≡ true → unanswered_in requests (log_of client) ≡ Some r
+  pub unanswered-waits : (r : ℕ) → client.session.waits ≡ true → unanswered_in requests (log_of_client client) ≡ Some r
       → slice_get requests (client.session.begun - 1) ≡ Some r
   unanswered-waits r waits is =
       ap (slice_get requests) (sym (ap (λ (s : SessionState). replied_count s) (sym at_end.state) ∙ ap (λ (b : Bool). if b then client.session.begun - 1 else client.session.begun) waits)) ∙ is
 
   -- else it is the next one
-  pub unanswered-next : (r : ℕ) → client.session.waits ≡ false → unanswered_in requests (log_of client) ≡ Some r
+  pub unanswered-next : (r : ℕ) → client.session.waits ≡ false → unanswered_in requests (log_of_client client) ≡ Some r
       → IsInTurn client.session r
   unanswered-next r waits is = record {
     replied = waits;
@@ -104,8 +104,8 @@ below-parts upto r (Some q) is = at (nat_lt q upto) refl is
 
 -- the request that is given below `upto` is the session's first one without a reply
 pub given-below : (upto r : ℕ) (client : Client) (given : Option ℕ) → given ≡ below_in upto client → given ≡ Some r
-    → (unanswered_in (requests_in client) (log_of client) ≡ Some r) × (r < upto)
-given-below upto r client given given-is is = below-parts upto r (unanswered_in (requests_in client) (log_of client)) (sym given-is ∙ is)
+    → (unanswered_in (requests_in client) (log_of_client client) ≡ Some r) × (r < upto)
+given-below upto r client given given-is is = below-parts upto r (unanswered_in (requests_in client) (log_of_client client)) (sym given-is ∙ is)
 
 -- a session's requests are among the script's
 pub in-script : (script : Script) (number r : ℕ) → Contains (requests_of_session script number) r → r < length script.requests
@@ -128,8 +128,8 @@ session-is script number r asked h is =
 
 -- the first request without a reply is of the session
 pub unanswered-of : (script : Script) (number : ℕ) (client : Client) (r : ℕ) → client.session.requests ≡ requests_of_session script number
-    → unanswered_in (requests_in client) (log_of client) ≡ Some r → Contains (requests_of_session script number) r
-unanswered-of script number client r same is = subst (λ (rs : List ℕ). Contains rs r) same (unanswered-among (requests_in client) (log_of client) r is)
+    → unanswered_in (requests_in client) (log_of_client client) ≡ Some r → Contains (requests_of_session script number) r
+unanswered-of script number client r same is = subst (λ (rs : List ℕ). Contains rs r) same (unanswered-among (requests_in client) (log_of_client client) r is)
 
 -- what is not there is none
 pub none-from : {A : Type 0} (o : Option A) → ((x : A) → o ≡ Some x → ⊥) → o ≡ None

@@ -8,7 +8,7 @@ use Rattle.program_defs.specs.declared.script.Script.{Script}
 use Rattle.weave_entries.specs.SessionReplay.{replied_count, SessionState}
 use Rattle.weaver_core.specs.declared.client.Client.{Client}
 use Rattle.weaver_core.specs.declared.walks.Running.{Running}
-use Rattle.weaver_core.specs.Clients.{log_of, requests_in, unanswered_in}
+use Rattle.weaver_core.specs.Sessions.{log_of_client, requests_in, unanswered_in}
 use Rattle.weaver_locks.specs.declared.shared.Shared.{Shared}
 use Rattle.weaver_workers.specs.ClientWork.{DoesOneCall, Goes, RunsSameProgram, RunsRequestBelow, Stand}
 use Rattle.weaver_workers.specs.Keeping.{KeepsClient}
@@ -49,7 +49,7 @@ module _ (shared : Shared) (script : Script) (number upto : ℕ) where
 
   -- what runs is the first request without a reply
   pub first-below : (at : Stand) → KeepsClient shared script number at.hand at.client → (r : ℕ)
-      → unanswered_in (requests_in at.client) (log_of at.client) ≡ Some r → r < upto → RunsRequestBelow upto at.client
+      → unanswered_in (requests_in at.client) (log_of_client at.client) ≡ Some r → r < upto → RunsRequestBelow upto at.client
   first-below at keeps r first low one is =
       let session = at.client.session in
       let runs = keeps.running one is in

@@ -27,6 +27,7 @@ carries-on shared old mid new first second =
 pub carries-start : (shared : Shared) (hand : Hand) → IsHand shared hand → Carries shared hand hand
 carries-start shared hand is = record { hand = is; only = carries-none hand }
 
+-- the hand only carries when it lets a gatekeeper hear the clock of another one
 pub told : (shards : ℕ) (old new : Hand) (from to : ℕ) (result : Result (Unit {0}) HandFault) → TellsAs shards old new from to result
     → OnlyCarries old new
 told shards old new from to (Ok done) tells =
@@ -38,6 +39,7 @@ told shards old new from to (Err (NotYet shard at)) none = absurd none
 told shards old new from to (Err Empty) none = absurd none
 told shards old new from to (Err (Waits vertex)) none = absurd none
 
+-- it only carries when it has a gatekeeper send an empty message to a shard
 pub sent-empty : (shards : ℕ) (old new : Hand) (gate shard : ℕ) (result : Result (Unit {0}) HandFault)
     → NopsAs shards old new gate shard result → OnlyCarries old new
 sent-empty shards old new gate shard (Ok done) sends =
@@ -54,6 +56,7 @@ arrivals-bring : (hand : Hand) (gate number : ℕ) (message : Message) (known : 
 arrivals-bring hand gate number message true entry h = absurd (has_none entry h)
 arrivals-bring hand gate number message false entry h = one-passes (λ (e : ShardEntry). is_bringing e.deed) _ refl entry h
 
+-- it only carries when it brings a gatekeeper's message to a shard
 pub pulled : (shards : ℕ) (old new : Hand) (gate shard number : ℕ) (result : Result Bool HandFault)
     → PullsAs shards old new gate shard number result → OnlyCarries old new
 pulled shards old new gate shard number (Ok true) pulls =
@@ -67,6 +70,7 @@ pulled shards old new gate shard number (Err (NotYet other at)) none = absurd no
 pulled shards old new gate shard number (Err Empty) none = absurd none
 pulled shards old new gate shard number (Err (Waits vertex)) none = absurd none
 
+-- it only carries when it has a shard process the head of a channel
 pub applied : (shards : ℕ) (old new : Hand) (shard gate : ℕ) (result : Result (Unit {0}) HandFault)
     → AppliesAs shards old new shard gate result → OnlyCarries old new
 applied shards old new shard gate (Ok done) applies =

@@ -124,6 +124,7 @@ pub nothing-at-gate : (shards : ℕ) (old new : Hand) (gate : ℕ) (before : Lis
     → OnlyCarries old new
 nothing-at-gate shards old new gate before was = at-gate shards old new gate before [] was (λ entry h. absurd (has_none entry h))
 
+-- the same of a shard
 pub nothing-at-shard : (shards : ℕ) (old new : Hand) (shard : ℕ) (before : List ShardEntry)
     → WasAtShard shards old new shard before [] [] → OnlyCarries old new
 nothing-at-shard shards old new shard before was =

@@ -24,7 +24,7 @@ use Rattle.weave_entries.specs.declared.verdict.Verdict.{Verdict}
 use Rattle.weave_entries.specs.SessionReplay.{session_after, session_of, SessionState}
 use Rattle.weaver_core.specs.declared.client.Client.{Client}
 use Rattle.weaver_core.specs.declared.walks.Running.{Running}
-use Rattle.weaver_core.specs.Clients.{log_of, requests_in, values_of, with_reply, AddsDeed, IsClientOf, IsSameClient, SessionValues}
+use Rattle.weaver_core.specs.Sessions.{log_of_client, requests_in, values_of, values_with_reply, AddsDeed, IsClientOf, IsSameClient, SessionValues}
 use Rattle.weaver_locks.specs.declared.hand.Hand.{Hand}
 use Rattle.weaver_locks.specs.declared.shared.Shared.{Shared}
 use Rattle.weaver_locks.specs.Hands.{IsHand}
@@ -50,7 +50,7 @@ module _ (laws : KeepLaws) where
       → is.session ≡ session_after was.session deed
   deed-done number was is deed at_end adds =
       let entry : SessionEntry = record { author = number; deed = deed } in
-      adds.client.state ∙ (λ i. session_of (adds.requests i) (adds.log i)) ∙ laws.replay (requests_in was) (log_of was) entry
+      adds.client.state ∙ (λ i. session_of (adds.requests i) (adds.log i)) ∙ laws.replay (requests_in was) (log_of_client was) entry
       ∙ ap (λ (s : SessionState). session_after s deed) (sym at_end.state)
 
   module _ (shared : Shared) (script : Script) (number upto : ℕ) (old new : Hand) (client reserved after : Client)
@@ -65,7 +65,7 @@ module _ (laws : KeepLaws) where
     -- a program was finished
     pub finished : (running : Running) → reserved.running ≡ Some running → (answer : Answer) → HandFinishes (shard_count shared) old new running answer
         → AddsDeed number reserved after (Replied running.request)
-        → values_of after ≡ with_reply (values_of reserved) (reply_with running.request running.stamp (Finished answer))
+        → values_of after ≡ values_with_reply (values_of reserved) (reply_with running.request running.stamp (Finished answer))
         → WorkerGoesOn shared script number upto (stand old client) (stand new after)
     finished running is answer finishes adds values =
         let runs = first.keeps.running running is in

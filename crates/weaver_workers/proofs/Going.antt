@@ -3,7 +3,7 @@
 use Rattle.std.proofs.Common.{◌≡◌, inr, ℕ, List, [], ◌∷◌, ◌++◌, Option, Some, None, refl, sym, ap, subst}
 use Rattle.program_defs.specs.declared.script.Script.{Script}
 use Rattle.weaver_core.specs.declared.walks.Running.{Running}
-use Rattle.weaver_core.specs.Clients.{IsSameClient, SessionValues}
+use Rattle.weaver_core.specs.Sessions.{IsSameClient, SessionValues}
 use Rattle.weaver_locks.specs.declared.shared.Shared.{Shared}
 use Rattle.weaver_locks.specs.Hands.{IsHand}
 use Rattle.weaver_workers.specs.Carrying.{OnlyCarries}

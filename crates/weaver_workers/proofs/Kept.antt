@@ -14,13 +14,13 @@ use Rattle.weave_entries.specs.declared.gate_log.GateDeed.{GateDeed}
 use Rattle.weave_entries.specs.declared.gate_log.GateDeed.TheVariants.{BeganTx, BeganProgram, Sent, Finished}
 use Rattle.weave_entries.specs.declared.gate_log.GateEntry.{GateEntry}
 use Rattle.weave_entries.specs.declared.session_log.SessionEntry.{SessionEntry}
-use Rattle.weave_entries.specs.GateReplay.{Begun, begun_by, begun_in, programs_of, tx_by}
+use Rattle.weave_entries.specs.GateReplay.{BegunRequest, begun_by, begun_in, programs_of, tx_by}
 use Rattle.weave_entries.specs.SessionReplay.{SessionState, RepliesToLast, with_begun, with_reply}
 use Rattle.weave_account.specs.declared.account.Account.{Account}
 use Rattle.weave_account.specs.Account.{gate_log}
 use Rattle.weaver_core.specs.declared.client.Client.{Client}
 use Rattle.weaver_core.specs.declared.walks.Running.{Running}
-use Rattle.weaver_core.specs.Clients.{log_of, IsClientOf}
+use Rattle.weaver_core.specs.Sessions.{log_of_client, IsClientOf}
 use Rattle.weaver_core.specs.Walks.{IsLookAt}
 use Rattle.weaver_locks.specs.declared.hand.Hand.{Hand}
 use Rattle.weaver_locks.specs.declared.shared.Shared.{Shared}
@@ -31,7 +31,7 @@ use Rattle.weaver_locks.specs.Locks.{gate_count, shard_count, start_of}
 use Rattle.weaver_hands.specs.Leaving.{LeavesAlone}
 use Rattle.weaver_hands.specs.Programs.{own_reads, IsRunning, ReadsNoMore}
 use Rattle.program_defs.specs.Agreement.{AreSameReads}
-use Rattle.seen_logs.specs.Seen.{since}
+use Rattle.seen_logs.specs.Seen.{entries_since}
 use Rattle.weaver_workers.specs.Carrying.{OnlyCarries}
 use Rattle.weaver_workers.specs.ClientWork.{DoesCarry, DoesChange, DoesFinish, DoesStart, DoesVisit, IsSameSession, RunsSameProgram, Stand}
 use Rattle.weaver_workers.specs.KeepLaws.{KeepLaws}
@@ -54,7 +54,7 @@ one-running P running one is p x at = subst P (same_Some one x (sym is ∙ at)) 
 same-client : (number : ℕ) (was is : Client) → IsSameSession was is → IsClientOf number was.session was.log.items
     → IsClientOf number is.session is.log.items
 same-client number was is same at_end =
-    subst (λ (s : SessionState). IsClientOf number s (log_of is)) (sym same.session)
+    subst (λ (s : SessionState). IsClientOf number s (log_of_client is)) (sym same.session)
     (subst (λ (l : List SessionEntry). IsClientOf number was.session l) (sym same.log) at_end)
 
 -- a fresh request is none that was begun before
@@ -66,7 +66,7 @@ not-begun session n at r q rises is_q is_r low same =
 
 -- the hand began the program since the start, and has not finished it
 abbrev HasBegun : Shared → Hand → Stamp → ℕ → Type 0
-HasBegun shared hand stamp r = Contains (programs_of (since (gate_log (start_of shared) stamp.home) (gate_log (seen_by hand) stamp.home)))
+HasBegun shared hand stamp r = Contains (programs_of (entries_since (gate_log (start_of shared) stamp.home) (gate_log (seen_by hand) stamp.home)))
     (record { author = hand_number hand; request = r; stamp = stamp })
 
 abbrev IsUnfinished : Hand → Stamp → ℕ → Type 0
@@ -123,6 +123,7 @@ module _ (laws : KeepLaws) (shared : Shared) where
     runs-alike (Some was) None impossible = absurd impossible
     runs-alike (Some was) (Some is) same = refl
 
+    -- the hand can go on with its session after it only carried
     pub carry-keeps : DoesCarry old new → KeepsClient shared script number new.hand new.client
     carry-keeps does =
         let session = does.same.session in
@@ -162,20 +163,20 @@ module _ (laws : KeepLaws) (shared : Shared) where
     -- an entry of a hand that begins this request begins no other
     begins-this : (by : Hand) (q r : ℕ) (deed : GateDeed) (stamp : Stamp)
         → begun_by (hand_number by) deed ≡ record { author = hand_number by; request = q; stamp = stamp } ∷ [] → r ≢ q
-        → (entry : GateEntry) (begun : Begun) → Contains (gate_entry_by by deed ∷ []) entry
+        → (entry : GateEntry) (begun : BegunRequest) → Contains (gate_entry_by by deed ∷ []) entry
         → Contains (begun_by entry.author entry.deed) begun → begun.request ≢ r
     begins-this by q r deed stamp is other entry begun h b same =
         let entry_is = only (gate_entry_by by deed) entry h in
-        let there = subst (λ (l : List Begun). Contains l begun) is (subst (λ (e : GateEntry). Contains (begun_by e.author e.deed) begun) (sym entry_is) b) in
-        let this : q ≡ begun.request = ap (λ (x : Begun). x.request) (only (record { author = hand_number by; request = q; stamp = stamp }) begun there) in
+        let there = subst (λ (l : List BegunRequest). Contains l begun) is (subst (λ (e : GateEntry). Contains (begun_by e.author e.deed) begun) (sym entry_is) b) in
+        let this : q ≡ begun.request = ap (λ (x : BegunRequest). x.request) (only (record { author = hand_number by; request = q; stamp = stamp }) begun there) in
         other (sym same ∙ sym this)
 
     -- one that begins none
     begins-no : (by : Hand) (r : ℕ) (deed : GateDeed) → begun_by (hand_number by) deed ≡ []
-        → (entry : GateEntry) (begun : Begun) → Contains (gate_entry_by by deed ∷ []) entry
+        → (entry : GateEntry) (begun : BegunRequest) → Contains (gate_entry_by by deed ∷ []) entry
         → Contains (begun_by entry.author entry.deed) begun → begun.request ≢ r
     begins-no by r deed is entry begun h b same =
-        absurd (has_none begun (subst (λ (l : List Begun). Contains l begun) is
+        absurd (has_none begun (subst (λ (l : List BegunRequest). Contains l begun) is
         (subst (λ (e : GateEntry). Contains (begun_by e.author e.deed) begun) (sym (only (gate_entry_by by deed) entry h)) b)))
 
     module _ (upto : ℕ) (at_end : IsClientOf number new.client.session new.client.log.items) where
@@ -192,6 +193,7 @@ module _ (laws : KeepLaws) (shared : Shared) where
             (laws.at_gate old.hand did.begun does.asked.gate _ did.begins.made r
             (begins-this old.hand does.r r (BeganTx does.r does.stamp) does.stamp refl other) none))
 
+        -- the hand can go on with its session after a transaction was begun, judged and sent
         pub change-keeps : KeepsClient shared script number new.hand new.client
         change-keeps = record {
           is_hand = is_hand;
@@ -214,6 +216,7 @@ module _ (laws : KeepLaws) (shared : Shared) where
       -- a program was begun
       module _ (does : DoesStart shared script number upto old new) (low : does.asked.gate < gate_count shared)
           (session : new.client.session ≡ with_begun does.stamp old.client.session) where
+        -- the hand can go on with its session after a program was begun
         pub start-keeps : KeepsClient shared script number new.hand new.client
         start-keeps =
             let was = keeps.fresh old.client.session.begun does.r (omega arith) does.next.turn.next in

@@ -10,11 +10,11 @@ use Rattle.vector_stamp.specs.declared.clock.Stamp.{Stamp}
 use Rattle.weave_entries.specs.declared.gate_log.GateEntry.{GateEntry}
 use Rattle.weave_entries.specs.declared.gate_log.GateDeed.TheVariants.{BeganTx, Sent}
 use Rattle.weave_entries.specs.declared.message.Addressed.{Addressed}
-use Rattle.weave_entries.specs.GateReplay.{Begun, ended_by, ended_in, has_ended_in, tx_by, txs_of}
+use Rattle.weave_entries.specs.GateReplay.{BegunRequest, ended_by, ended_in, has_ended_in, tx_by, txs_of}
 
 -- each transaction of the log was sent
 abbrev pub LandedIn : List GateEntry → Type 0
-LandedIn log = (begun : Begun) → Contains (txs_of log) begun → IsTrue (has_ended_in begun.request log)
+LandedIn log = (begun : BegunRequest) → Contains (txs_of log) begun → IsTrue (has_ended_in begun.request log)
 
 -- entries that begin no transaction
 abbrev pub BeginNoTx : List GateEntry → Type 0
@@ -38,16 +38,16 @@ pub landed-on : (log added : List GateEntry) → LandedIn log → BeginNoTx adde
 landed-on log added landed none begun h =
     let same : txs_of (log ++ added) ≡ txs_of log = flat_map-append (λ (e : GateEntry). tx_by e.author e.deed) log added
     ∙ ap (λ l. txs_of log ++ l) (no-txs added none) ∙ append-nil (txs_of log) in
-    ended-on begun.request log added (landed begun (subst (λ (l : List Begun). Contains l begun) same h))
+    ended-on begun.request log added (landed begun (subst (λ (l : List BegunRequest). Contains l begun) same h))
 
 -- a transaction was begun and sent
 pub landed-sent : (log : List GateEntry) (author by r : ℕ) (stamp : Stamp) (messages : List Addressed) → LandedIn log
     → LandedIn ((log ++ record { author = author; deed = BeganTx r stamp } ∷ []) ++ record { author = by; deed = Sent r messages } ∷ [])
 landed-sent log author by r stamp messages landed begun h =
-    elim (Contains-append_cases (txs_of log) (tx_by author (BeganTx r stamp)) begun (subst (λ (l : List Begun). Contains l begun) txs h)) [
+    elim (Contains-append_cases (txs_of log) (tx_by author (BeganTx r stamp)) begun (subst (λ (l : List BegunRequest). Contains l begun) txs h)) [
       | inl old ↦ ended-on begun.request (log ++ began ∷ []) (sent ∷ []) (ended-on begun.request log (began ∷ []) (landed begun old))
       | inr now ↦ subst (λ (q : ℕ). IsTrue (has_ended_in q ((log ++ began ∷ []) ++ sent ∷ [])))
-          (ap (λ (b : Begun). b.request) (only (record { author = author; request = r; stamp = stamp }) begun now))
+          (ap (λ (b : BegunRequest). b.request) (only (record { author = author; request = r; stamp = stamp }) begun now))
           (any_from (λ ended. ended == r) (ended_in ((log ++ began ∷ []) ++ sent ∷ [])) r ended (eq-eqb r r refl))
     ]
   where
@@ -57,7 +57,7 @@ landed-sent log author by r stamp messages landed begun h =
     sent : GateEntry
     sent = record { author = by; deed = Sent r messages }
 
-    tx_of : GateEntry → List Begun
+    tx_of : GateEntry → List BegunRequest
     tx_of e = tx_by e.author e.deed
 
     txs : txs_of ((log ++ began ∷ []) ++ sent ∷ []) ≡ txs_of log ++ tx_by author (BeganTx r stamp)

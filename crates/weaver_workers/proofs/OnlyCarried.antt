@@ -14,7 +14,7 @@ use Rattle.weave_entries.specs.declared.gate_log.GateDeed.TheVariants.{BeganTx, 
 use Rattle.weave_entries.specs.declared.shard_log.ShardEntry.{ShardEntry}
 use Rattle.weave_entries.specs.declared.shard_log.ShardDeed.{ShardDeed}
 use Rattle.weave_entries.specs.declared.shard_log.ShardDeed.TheVariants.{Arrived, Applied, Visited, Collected}
-use Rattle.weave_entries.specs.GateReplay.{Begun, begun_by, begun_in, tx_by}
+use Rattle.weave_entries.specs.GateReplay.{BegunRequest, begun_by, begun_in, tx_by}
 use Rattle.weave_entries.specs.ShardReplay.{Visit, visit_by}
 use Rattle.weave_account.specs.Account.{gate_log, shard_log}
 use Rattle.weave_account.specs.GoesOn.{visits_by}
@@ -86,8 +86,9 @@ module _ (old new : Hand) (only : OnlyCarries old new) where
       ap begun_in gains.log ∙ nothing (λ (e : GateEntry). begun_by e.author e.deed) gains.added
       (λ entry h. no-begin entry.author entry.deed (gains.pass entry h)) (gate_log (made_by old) home)
 
+  -- what the hand had not begun, it has still not begun
   pub unbegun-still : (r : ℕ) → HasNotBegun old r → HasNotBegun new r
-  unbegun-still r none home begun h = none home begun (subst (λ (l : List Begun). Contains l begun) (begun-same home) h)
+  unbegun-still r none home begun h = none home begun (subst (λ (l : List BegunRequest). Contains l begun) (begun-same home) h)
 
   -- a stamp may still be heard
   pub heard-still : (shared : Shared) (stamp : Stamp) → MayHear shared old stamp → MayHear shared new stamp
@@ -96,7 +97,7 @@ module _ (old new : Hand) (only : OnlyCarries old new) where
     begun = may.begun;
     stamp_is = may.stamp_is;
     there = elim may.there [
-      | inl mine ↦ inl (subst (λ (l : List Begun). Contains l may.begun) (sym (begun-same may.home)) mine)
+      | inl mine ↦ inl (subst (λ (l : List BegunRequest). Contains l may.begun) (sym (begun-same may.home)) mine)
       | inr first ↦ inr first
     ];
   }

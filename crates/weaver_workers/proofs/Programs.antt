@@ -4,7 +4,8 @@ use Rattle.std.proofs.Common.{◌≡◌, ℕ, suc, ◌+◌, ◌-◌, ◌<◌, Bo
 use Rattle.std.specs.Prelude.{if◌then◌else◌}
 use Rattle.std.specs.List.{range_with_len}
 use Rattle.program_defs.specs.declared.script.Script.{Script}
-use Rattle.weaver_workers.specs.Phases.{is_program, programs_in}
+use Rattle.weaver_workers.specs.Phases.{programs_in}
+use Rattle.report_rules.specs.Lookups.{is_program}
 
 module _ (script : Script) (r upto : ℕ) (low : r < upto) where
   one-less : upto - r ≡ suc (upto - (r + 1))

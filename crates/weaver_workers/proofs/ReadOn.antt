@@ -12,11 +12,11 @@ use Rattle.program_defs.specs.declared.script.Script.{Script}
 use Rattle.weave_entries.specs.declared.gate_log.GateDeed.{GateDeed}
 use Rattle.weave_entries.specs.declared.gate_log.GateEntry.{GateEntry}
 use Rattle.weave_entries.specs.declared.shard_log.ShardEntry.{ShardEntry}
-use Rattle.weave_entries.specs.GateReplay.{Begun, programs_of}
+use Rattle.weave_entries.specs.GateReplay.{BegunRequest, programs_of}
 use Rattle.weave_entries.specs.ShardReplay.{first_unready}
 use Rattle.weave_account.specs.Account.{gate_log}
 use Rattle.chronicle.specs.declared.pass.Pass.{Pass}
-use Rattle.chronicle.specs.Passes.{seen}
+use Rattle.chronicle.specs.Passes.{seen_by_pass}
 use Rattle.weaver_core.specs.declared.client.Client.{Client}
 use Rattle.weaver_core.specs.declared.walks.Running.{Running}
 use Rattle.weaver_locks.specs.declared.hand.Hand.{Hand}
@@ -51,12 +51,12 @@ home-there shared hand running is runs = elim (cases_lt running.stamp.home (gate
     started : List GateEntry
     started = gate_log (start_of shared) running.stamp.home
 
-    one : Begun
+    one : BegunRequest
     one = record { author = hand_number hand; request = running.request; stamp = running.stamp }
 
     none : gate_count shared ≤ running.stamp.home → gate_log (seen_by hand) running.stamp.home ≡ []
     none high = get_or_past (seen_by hand).gates running.stamp.home []
-        (subst (λ (n : ℕ). n ≤ running.stamp.home) (sym (length-map (map (λ (p : Pass GateDeed). seen p) hand.gates.items) _ ∙ length-map hand.gates.items (λ (p : Pass GateDeed). seen p) ∙ is.gates)) high)
+        (subst (λ (n : ℕ). n ≤ running.stamp.home) (sym (length-map (map (λ (p : Pass GateDeed). seen_by_pass p) hand.gates.items) _ ∙ length-map hand.gates.items (λ (p : Pass GateDeed). seen_by_pass p) ∙ is.gates)) high)
 
 module _ (laws : KeepLaws) (shared : Shared) where
   -- the client goes on running its program while the hand only carries
@@ -81,11 +81,13 @@ module _ (laws : KeepLaws) (shared : Shared) where
     running = same-walk client.running;
   })
 
+  -- a worker that goes on with its session, and then goes on once more, goes on in all
   pub keeps-on-then : (old mid new : Stand) → KeepsOn shared old mid → KeepsOn shared mid new → KeepsOn shared old new
   keeps-on-then old mid new first second script number upto keeps =
       let one = first script number upto keeps in
       goes-then shared script number upto old mid new one (second script number upto one.keeps)
 
+  -- a worker that does nothing goes on with its session
   pub keeps-on-none : (at : Stand) → KeepsOn shared at at
   keeps-on-none at script number upto keeps = goes-none shared script number upto at keeps
 
@@ -141,6 +143,7 @@ pub if-ok : {T E : Type 0} {P Q : T → Type 0} → (r : Result T E) → ((x : T
 if-ok (Ok x) leads p = leads x p
 if-ok (Err e) leads p = tt
 
+-- what follows from two things that hold of an answer holds of it, too
 pub if-both : {T E : Type 0} {P Q R : T → Type 0} → (r : Result T E) → ((x : T) → P x → Q x → R x) → IfOk r P → IfOk r Q → IfOk r R
 if-both (Ok x) leads p q = leads x p q
 if-both (Err e) leads p q = tt

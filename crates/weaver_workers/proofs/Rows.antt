@@ -9,7 +9,7 @@ use Rattle.weave_entries.specs.declared.gate_log.GateEntry.{GateEntry}
 use Rattle.weave_account.specs.declared.account.Account.{Account}
 use Rattle.weave_account.specs.Account.{gate_log}
 use Rattle.chronicle.specs.declared.pass.Pass.{Pass}
-use Rattle.chronicle.specs.Passes.{own}
+use Rattle.chronicle.specs.Passes.{own_entries}
 use Rattle.weaver_locks.specs.declared.hand.Hand.{Hand}
 use Rattle.weaver_locks.specs.declared.shared.Shared.{Shared}
 use Rattle.weaver_locks.specs.Hands.{made_by, with_gate_entries, IsHand}
@@ -17,7 +17,7 @@ use Rattle.weaver_locks.specs.Locks.{gate_count}
 
 -- a hand has a log of its own for each gatekeeper
 pub own-logs : (shared : Shared) (hand : Hand) → IsHand shared hand → length (made_by hand).gates ≡ gate_count shared
-own-logs shared hand is = length-map (map (λ (p : Pass GateDeed). own p) hand.gates.items) _ ∙ length-map hand.gates.items (λ (p : Pass GateDeed). own p) ∙ is.gates
+own-logs shared hand is = length-map (map (λ (p : Pass GateDeed). own_entries p) hand.gates.items) _ ∙ length-map hand.gates.items (λ (p : Pass GateDeed). own_entries p) ∙ is.gates
 
 -- the log that goes on
 pub gone-on : (account : Account) (gate : ℕ) (added : List GateEntry) → gate < length account.gates

@@ -137,6 +137,7 @@ applied-there shards old new shard gate (Err Busy) none = absurd none
 applied-there shards old new shard gate (Err (NotYet other at)) none = absurd none
 
 module _ (shared : Shared) (old new : Hand) (is : IsHand shared new) where
+  -- telling a gatekeeper the clock of another one only carries, and at the one that is told alone
   pub tells-there : (shards from to : ℕ) (result : Result (Unit {0}) HandFault) → TellsAs shards old new from to result
       → CarriesAtGate shared to old new
   tells-there shards from to result tells = record {
@@ -144,6 +145,7 @@ module _ (shared : Shared) (old new : Hand) (is : IsHand shared new) where
     there = told-there shards old new from to result tells;
   }
 
+  -- sending an empty message only carries, and at the gatekeeper that sends it alone
   pub sends-there : (shards gate shard : ℕ) (result : Result (Unit {0}) HandFault) → NopsAs shards old new gate shard result
       → CarriesAtGate shared gate old new
   sends-there shards gate shard result sends = record {
@@ -151,6 +153,7 @@ module _ (shared : Shared) (old new : Hand) (is : IsHand shared new) where
     there = sent-there shards old new gate shard result sends;
   }
 
+  -- pulling a message to a shard only carries, and at that shard alone
   pub pulls-there : (shards gate shard number : ℕ) (result : Result Bool HandFault)
       → PullsAs shards old new gate shard number result → CarriesAtShard shared shard old new
   pulls-there shards gate shard number result pulls = record {
@@ -174,11 +177,13 @@ module _ (shared : Shared) (old new : Hand) (is : IsHand shared new) where
   as-pulled shards gate shard number (Err Empty) none = none
   as-pulled shards gate shard number (Err (Waits vertex)) none = none
 
+  -- bringing a message to a shard only carries, and at that shard alone
   pub brings-there : (shards gate shard number : ℕ) (result : Result Pulled HandFault)
       → BringsAs shards old new gate shard number result → CarriesAtShard shared shard old new
   brings-there shards gate shard number result brings =
       pulls-there shards gate shard number (sent-result result) (as-pulled shards gate shard number result brings)
 
+  -- having a shard process the head of a channel only carries, and at that shard alone
   pub applies-there : (shards shard gate : ℕ) (result : Result (Unit {0}) HandFault) → AppliesAs shards old new shard gate result
       → CarriesAtShard shared shard old new
   applies-there shards shard gate result applies = record {
@@ -188,12 +193,14 @@ module _ (shared : Shared) (old new : Hand) (is : IsHand shared new) where
 
 -- No call, and one after another
 
+-- a hand that does nothing only carries, at any gatekeeper alone
 pub gate-start : (shared : Shared) (gate : ℕ) (hand : Hand) → IsHand shared hand → CarriesAtGate shared gate hand hand
 gate-start shared gate hand is = record {
   carries = carries-start shared hand is;
   there = record { gates = λ home other. refl; shards = refl };
 }
 
+-- a hand that twice only carries at one gatekeeper alone does so in all
 pub gate-on : (shared : Shared) (gate : ℕ) (old mid new : Hand) → CarriesAtGate shared gate old mid → CarriesAtGate shared gate mid new
     → CarriesAtGate shared gate old new
 gate-on shared gate old mid new first second = record {
@@ -204,12 +211,14 @@ gate-on shared gate old mid new first second = record {
   };
 }
 
+-- a hand that does nothing only carries, at any shard alone
 pub shard-start : (shared : Shared) (shard : ℕ) (hand : Hand) → IsHand shared hand → CarriesAtShard shared shard hand hand
 shard-start shared shard hand is = record {
   carries = carries-start shared hand is;
   there = record { gates = refl; shards = λ at other. refl };
 }
 
+-- a hand that twice only carries at one shard alone does so in all
 pub shard-on : (shared : Shared) (shard : ℕ) (old mid new : Hand) → CarriesAtShard shared shard old mid
     → CarriesAtShard shared shard mid new → CarriesAtShard shared shard old new
 shard-on shared shard old mid new first second = record {
@@ -220,10 +229,11 @@ shard-on shared shard old mid new first second = record {
   };
 }
 
--- no entry at any shard, and then entries at this one alone
+-- if nothing was made at shards, nothing was made at any other shard than this one
 pub none-elsewhere : (old new : Hand) (shard : ℕ) → (made_by new).shards ≡ (made_by old).shards → IsAtNoOtherShard shard old new
 none-elsewhere old new shard none at other = ap (λ (ls : List (List ShardEntry)). get_or ls at []) none
 
+-- if nothing was made at shards at first, and then at this shard alone, nothing was made at any other
 pub then-at-shard : (old mid new : Hand) (shard : ℕ) → (made_by mid).shards ≡ (made_by old).shards → IsAtShard shard mid new
     → IsAtNoOtherShard shard old new
 then-at-shard old mid new shard none there at other = there.shards at other ∙ none-elsewhere old mid shard none at other
@@ -264,6 +274,7 @@ listens-there shared shards old new from to before is was = record {
   there = none-at-this-gate old new to (none-at-gate old new from before was);
 }
 
+-- a gatekeeper has said the clock of the log that the hand found there, in a hold without an entry
 pub was-said : (shards : ℕ) (old new : Hand) (from : ℕ) (before : List GateEntry) (clock : Clock)
     → WasAtGate shards old new from before [] → clock ≡ clock_of from before → HasSaid old new from clock
 was-said shards old new from before clock was is =
@@ -279,6 +290,7 @@ hears-there shared shards old new to before clock (Ok done) is was = record {
 }
 hears-there shared shards old new to before clock (Err fault) is was = listens-there shared shards old new to to before is was
 
+-- if the hold in which a gatekeeper is told a clock was answered with Ok, it has heard that clock from the hand
 pub is-told : {F : Type 0} (shared : Shared) (shards : ℕ) (old new : Hand) (to : ℕ) (before : List GateEntry) (clock : Clock)
     (result : Result (Unit {0}) F) → IsHand shared old → to < gate_count shared
     → WasAtGate shards old new to before (gate_entries_of old (λ _. Heard clock) result) → OnOk result (HasTold new to clock)
@@ -304,10 +316,12 @@ still-told old new gate clock told only =
       deed = told.deed;
     }
 
+-- a gatekeeper that was told each clock of a list still is, after the hand only carried
 pub still-all-told : (old new : Hand) (gate : ℕ) (clocks : List (Option Clock)) → AreTold old gate clocks → OnlyCarries old new
     → AreTold new gate clocks
 still-all-told old new gate clocks told only from clock is = still-told old new gate clock (told from clock is) only
 
+-- the clock that a gatekeeper has said since, it has still said, after the hand only carried
 pub still-said : (old mid new : Hand) (from : ℕ) (clock : Clock) → HasSaid old mid from clock → OnlyCarries mid new
     → HasSaid old new from clock
 still-said old mid new from clock said only = record {
@@ -331,6 +345,7 @@ one-set (c ∷ cs) zero (suc from) now clock is = inl is
 one-set (c ∷ cs) (suc place) zero now clock is = inl is
 one-set (c ∷ cs) (suc place) (suc from) now clock is = one-set cs place from now clock is
 
+-- a gatekeeper that was told each clock of a list, and one more, was told each of the list with that one put in
 pub one-more-told : (hand : Hand) (gate : ℕ) (clocks news : List (Option Clock)) (place : ℕ) (now : Clock) → AreTold hand gate clocks
     → HasTold hand gate now → news ≡ set clocks place (Some now) → AreTold hand gate news
 one-more-told hand gate clocks news place now told heard made from clock is =
@@ -341,6 +356,7 @@ one-more-told hand gate clocks news place now told heard made from clock is =
 
 -- Up to date
 
+-- a gatekeeper that is up to date with another one stays so, after the hand only carried
 pub still-up-to-date : (old mid new : Hand) (gate from : ℕ) → IsUpToDate old mid gate from → OnlyCarries mid new → IsUpToDate old new gate from
 still-up-to-date old mid new gate from first only = record {
   clock = first.clock;
@@ -348,6 +364,7 @@ still-up-to-date old mid new gate from first only = record {
   told = still-told mid new gate first.clock first.told only;
 }
 
+-- and so does one that is up to date with each other one below a number
 pub still-all-up-to-date : (old mid new : Hand) (gate bound : ℕ) → IsUpToDateBelow bound gate old mid → OnlyCarries mid new
     → IsUpToDateBelow bound gate old new
 still-all-up-to-date old mid new gate bound first only from low other =

@@ -12,7 +12,7 @@ use Rattle.weave_entries.specs.declared.gate_log.GateDeed.TheVariants.{BeganTx, 
 use Rattle.weave_entries.specs.declared.gate_log.GateEntry.{GateEntry}
 use Rattle.weave_entries.specs.declared.message.Addressed.{Addressed}
 use Rattle.weave_entries.specs.declared.verdict.Verdict.{Verdict}
-use Rattle.weave_entries.specs.GateReplay.{Begun, begun_by, begun_in}
+use Rattle.weave_entries.specs.GateReplay.{BegunRequest, begun_by, begun_in}
 use Rattle.weave_entries.specs.Sending.{messages_of}
 use Rattle.weave_account.specs.declared.account.Account.{Account}
 use Rattle.weave_account.specs.Account.{gate_log}
@@ -31,10 +31,12 @@ use Rattle.weaver_workers.proofs.Rows.{as-many, gone-on, own-logs, still}
 
 module _ {shards : ℕ} (shared : Shared) (old new : Hand) (is : IsHand shared old) (gate : ℕ) (low : gate < gate_count shared)
     (before : List GateEntry) (deed : GateDeed) (was : WasAtGate shards old new gate before (gate_entry_by old deed ∷ [])) where
+  -- the hand's own log at the gatekeeper has one entry more
   pub log-with : gate_log (made_by new) gate ≡ gate_log (made_by old) gate ++ gate_entry_by old deed ∷ []
   log-with = ap (λ (a : Account). gate_log a gate) was.made
       ∙ gone-on (made_by old) gate (gate_entry_by old deed ∷ []) (subst (λ (n : ℕ). gate < n) (sym (own-logs shared old is)) low)
 
+  -- its own log at any other gatekeeper is as it was
   pub log-still : (home : ℕ) → home ≢ gate → gate_log (made_by new) home ≡ gate_log (made_by old) home
   log-still home other = ap (λ (a : Account). gate_log a home) was.made ∙ still (made_by old) gate home (gate_entry_by old deed ∷ []) other
 
@@ -68,21 +70,21 @@ module _ {shards : ℕ} (shared : Shared) (old new : Hand) (is : IsHand shared o
     ];
   }
     where
-      begun-on : (log added : List GateEntry) (begun : Begun) → Contains (begun_in log) begun → Contains (begun_in (log ++ added)) begun
-      begun-on log added begun h = subst (λ (l : List Begun). Contains l begun) (sym (flat_map-append (λ (e : GateEntry). begun_by e.author e.deed) log added))
+      begun-on : (log added : List GateEntry) (begun : BegunRequest) → Contains (begun_in log) begun → Contains (begun_in (log ++ added)) begun
+      begun-on log added begun h = subst (λ (l : List BegunRequest). Contains l begun) (sym (flat_map-append (λ (e : GateEntry). begun_by e.author e.deed) log added))
           (Contains-append_left (begun_in log) (begun_in added) begun h)
 
   -- and so may the stamp of what was begun
-  pub heard-now : (begun : Begun) → begun_by (hand_number old) deed ≡ begun ∷ [] → MayHear shared new begun.stamp
+  pub heard-now : (begun : BegunRequest) → begun_by (hand_number old) deed ≡ begun ∷ [] → MayHear shared new begun.stamp
   heard-now begun is_begun = record {
     home = gate;
     begun = begun;
     stamp_is = refl;
     there = inl (subst (λ (l : List GateEntry). Contains (begun_in l) begun) (sym log-with)
-        (subst (λ (l : List Begun). Contains l begun)
+        (subst (λ (l : List BegunRequest). Contains l begun)
         (sym (flat_map-append (λ (e : GateEntry). begun_by e.author e.deed) (gate_log (made_by old) gate) (gate_entry_by old deed ∷ [])))
         (Contains-append_right (begun_in (gate_log (made_by old) gate)) (begun_in (gate_entry_by old deed ∷ [])) begun
-        (subst (λ (l : List Begun). Contains (l ++ []) begun) (sym is_begun) (has_last [] begun)))));
+        (subst (λ (l : List BegunRequest). Contains (l ++ []) begun) (sym is_begun) (has_last [] begun)))));
   }
 
 -- A transaction
@@ -104,20 +106,23 @@ module _ {shards : ℕ} (shared : Shared) (old new : Hand) (is : IsHand shared o
       ∙ sym (ap (λ (a : Account). length a.gates) did.begins.made)
       ∙ sym (ap (λ (a : Account). length a.gates) did.judges.was.made)) low
 
+  -- after a transaction the hand's own log at the gatekeeper has two entries more: the begin and the sending
   pub log-after : gate_log (made_by new) gate ≡ (gate_log (made_by old) gate ++ began ∷ []) ++ sent r ∷ []
   log-after = ap (λ (a : Account). gate_log a gate) did.sends.was.made
       ∙ gone-on (made_by did.judged) gate (sent did.sends.flight.request ∷ []) low-judged
       ∙ ap (λ (l : List GateEntry). l ++ sent did.sends.flight.request ∷ [])
       (ap (λ (a : Account). gate_log a gate) did.judges.was.made
       ∙ log-with shared old did.begun is gate low did.before (BeganTx r stamp) did.begins)
-      ∙ ap (λ (q : ℕ). (gate_log (made_by old) gate ++ began ∷ []) ++ sent q ∷ []) (ap (λ (b : Begun). b.request) did.flight_is)
+      ∙ ap (λ (q : ℕ). (gate_log (made_by old) gate ++ began ∷ []) ++ sent q ∷ []) (ap (λ (b : BegunRequest). b.request) did.flight_is)
 
+  -- its own log at any other gatekeeper is as it was
   pub log-else : (home : ℕ) → home ≢ gate → gate_log (made_by new) home ≡ gate_log (made_by old) home
   log-else home other = ap (λ (a : Account). gate_log a home) did.sends.was.made
       ∙ still (made_by did.judged) gate home (sent did.sends.flight.request ∷ []) other
       ∙ ap (λ (a : Account). gate_log a home) did.judges.was.made
       ∙ log-still shared old did.begun is gate low did.before (BeganTx r stamp) did.begins home other
 
+  -- if no transaction of the hand was in flight, none is after this one
   pub landed-after : HasLanded old → HasLanded new
   landed-after landed home = elim (cases_eq home gate) [
     | inl same ↦ subst LandedIn (sym (ap (gate_log (made_by new)) same ∙ log-after))
@@ -125,21 +130,22 @@ module _ {shards : ℕ} (shared : Shared) (old new : Hand) (is : IsHand shared o
     | inr other ↦ subst LandedIn (sym (log-else home other)) (landed home)
   ]
 
+  -- after it the hand may let gatekeepers hear the stamp of this transaction
   pub heard-after : MayHear shared new stamp
   heard-after = record {
     home = gate;
     begun = record { author = hand_number old; request = r; stamp = stamp };
     stamp_is = refl;
     there = inl (subst (λ (l : List GateEntry). Contains (begun_in l) one) (sym log-after)
-        (subst (λ (l : List Begun). Contains l one)
+        (subst (λ (l : List BegunRequest). Contains l one)
         (sym (flat_map-append by (gate_log (made_by old) gate ++ began ∷ []) (sent r ∷ [])))
         (Contains-append_left (begun_in (gate_log (made_by old) gate ++ began ∷ [])) (begun_in (sent r ∷ [])) one
-        (subst (λ (l : List Begun). Contains l one) (sym (flat_map-append by (gate_log (made_by old) gate) (began ∷ [])))
+        (subst (λ (l : List BegunRequest). Contains l one) (sym (flat_map-append by (gate_log (made_by old) gate) (began ∷ [])))
         (has_last (begun_in (gate_log (made_by old) gate)) one)))));
   }
     where
-      one : Begun
+      one : BegunRequest
       one = record { author = hand_number old; request = r; stamp = stamp }
 
-      by : GateEntry → List Begun
+      by : GateEntry → List BegunRequest
       by e = begun_by e.author e.deed

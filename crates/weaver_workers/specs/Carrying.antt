@@ -81,7 +81,7 @@ pub record HasSaid (old new : Hand) (from : ℕ) (clock : Clock) : Type 0 where
   pub seen : IsBeginningOf said (gate_log (seen_by new) from)
   pub clock_is : clock ≡ clock_of from said
 
--- the gatekeeper heard, just now, the clock that another one, `from`, has said
+-- the gatekeeper heard, just now, the clock that another one, `from`, has said. No public contract cites this.
 pub record HasHeard (old new : Hand) (gate from : ℕ) : Type 0 where
   pub clock : Clock
   pub said : HasSaid old new from clock

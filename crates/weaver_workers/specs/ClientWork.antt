@@ -26,7 +26,7 @@ use Rattle.weave_account.specs.Account.{gate_log, shard_log}
 use Rattle.weave_account.specs.Report.{state_by_verdict}
 use Rattle.weaver_core.specs.declared.client.Client.{Client}
 use Rattle.weaver_core.specs.declared.walks.Running.{Running}
-use Rattle.weaver_core.specs.Clients.{log_of, requests_in, IsInTurn}
+use Rattle.weaver_core.specs.Sessions.{log_of_client, requests_in, IsInTurn}
 use Rattle.weaver_locks.specs.declared.hand.Hand.{Hand}
 use Rattle.weaver_locks.specs.declared.shared.Shared.{Shared}
 use Rattle.weaver_locks.specs.Hands.{seen_by}
@@ -75,7 +75,8 @@ pub record DoesChange (shared : Shared) (script : Script) (number upto : ℕ) (o
   pub transacts : Transacts (shard_count shared) old.hand new.hand asked.gate r ops old.client.session.last stamp
       verdict
   pub requests : requests_in new.client ≡ requests_in old.client
-  pub log : log_of new.client ≡ (log_of old.client ++ begun_entry number r stamp ∷ []) ++ replied_entry number r ∷ []
+  pub log : log_of_client new.client
+      ≡ (log_of_client old.client ++ begun_entry number r stamp ∷ []) ++ replied_entry number r ∷ []
   pub running : new.client.running ≡ None
   pub replies : new.client.replies.items
       ≡ old.client.replies.items ++ reply_with r stamp (state_by_verdict verdict) ∷ []
@@ -93,14 +94,14 @@ pub record DoesStart (shared : Shared) (script : Script) (number upto : ℕ) (ol
   pub program_is : any_of walk ≡ program
   pub unread : HasRead walk []
   pub requests : requests_in new.client ≡ requests_in old.client
-  pub log : log_of new.client ≡ log_of old.client ++ begun_entry number r stamp ∷ []
+  pub log : log_of_client new.client ≡ log_of_client old.client ++ begun_entry number r stamp ∷ []
   pub running : new.client.running ≡ Some (record { request = r; stamp = stamp; walk = walk })
   pub replies : new.client.replies.items ≡ old.client.replies.items
 
 -- the client has the same session and replies, whatever runs
 pub record IsSameSession (was is : Client) : Type 0 where
   pub session : is.session ≡ was.session
-  pub log : log_of is ≡ log_of was
+  pub log : log_of_client is ≡ log_of_client was
   pub replies : is.replies.items ≡ was.replies.items
 
 -- The session's running program read its next vertex.
@@ -119,7 +120,7 @@ pub record DoesFinish (shared : Shared) (number : ℕ) (old new : Stand) : Type 
   pub answer : Answer
   pub finishes : HandFinishes (shard_count shared) old.hand new.hand before answer
   pub requests : requests_in new.client ≡ requests_in old.client
-  pub log : log_of new.client ≡ log_of old.client ++ replied_entry number before.request ∷ []
+  pub log : log_of_client new.client ≡ log_of_client old.client ++ replied_entry number before.request ∷ []
   pub running : new.client.running ≡ None
   pub replies : new.client.replies.items
       ≡ old.client.replies.items ++ reply_with before.request before.stamp (Finished answer) ∷ []
@@ -164,7 +165,8 @@ pub record WorkerGoesOn (shared : Shared) (script : Script) (number upto : ℕ) 
 
 -- each request of the session before `upto` has its reply
 abbrev pub HasReplies : ℕ → Client → Type 0
-HasReplies upto client = (r : ℕ) → Contains (requests_in client) r → r < upto → IsTrue (has_reply_in r (log_of client))
+HasReplies upto client =
+    (r : ℕ) → Contains (requests_in client) r → r < upto → IsTrue (has_reply_in r (log_of_client client))
 
 -- The session's next request is a transaction at this gatekeeper, where one was in flight, as the hand has seen.
 pub record FoundGateBusy (script : Script) (upto : ℕ) (new : Stand) (gate : ℕ) : Type 0 where

@@ -8,7 +8,7 @@ use Rattle.path_program.specs.AnyPrograms.{HasRead}
 use Rattle.weave_entries.specs.declared.gate_log.GateEntry.{GateEntry}
 use Rattle.weave_entries.specs.declared.session_log.SessionEntry.{SessionEntry}
 use Rattle.weave_entries.specs.declared.verdict.Verdict.{Verdict}
-use Rattle.weave_entries.specs.GateReplay.{Begun, begun_by}
+use Rattle.weave_entries.specs.GateReplay.{BegunRequest, begun_by}
 use Rattle.weave_entries.specs.SessionReplay.{has_reply_in, replied_count, replied_in, session_after, session_of, IsSessionLog}
 use Rattle.weaver_core.specs.declared.walks.Running.{Running}
 use Rattle.weaver_locks.specs.declared.hand.Hand.{Hand}
@@ -24,7 +24,7 @@ pub record KeepLaws : Type 0 where
   -- What was not begun
   pub at_gate : (old new : Hand) (gate : ℕ) (added : List GateEntry)
       → made_by new ≡ with_gate_entries gate added (made_by old) → (r : ℕ)
-      → ((entry : GateEntry) (begun : Begun) → Contains added entry
+      → ((entry : GateEntry) (begun : BegunRequest) → Contains added entry
       → Contains (begun_by entry.author entry.deed) begun → begun.request ≢ r)
       → HasNotBegun old r → HasNotBegun new r
   pub elsewhere : (old new : Hand) → (made_by new).gates ≡ (made_by old).gates

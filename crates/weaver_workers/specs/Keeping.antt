@@ -3,13 +3,13 @@ use Rattle.std.specs.Prelude.{◌≡◌, ℕ, ◌≤◌, [], is_some, slice_get,
 use Rattle.std.specs.Option.{ForSome}
 use Rattle.program_defs.specs.declared.script.Script.{Script}
 use Rattle.path_program.specs.AnyPrograms.{any_of}
-use Rattle.weave_entries.specs.GateReplay.{Begun, has_ended_in, txs_of}
+use Rattle.weave_entries.specs.GateReplay.{BegunRequest, has_ended_in, txs_of}
 use Rattle.weave_entries.specs.SessionReplay.{SessionState, RepliesToLast}
 use Rattle.weave_account.specs.Account.{gate_log}
 use Rattle.weave_account.specs.Sessions.{requests_of_session}
 use Rattle.weaver_core.specs.declared.client.Client.{Client}
 use Rattle.weaver_core.specs.declared.walks.Running.{Running}
-use Rattle.weaver_core.specs.Clients.{IsClientOf}
+use Rattle.weaver_core.specs.Sessions.{IsClientOf}
 use Rattle.weaver_core.specs.Walks.{IsLookAt}
 use Rattle.weaver_locks.specs.declared.hand.Hand.{Hand}
 use Rattle.weaver_locks.specs.declared.shared.Shared.{Shared}
@@ -30,7 +30,7 @@ pub record IsFresh (hand : Hand) (r : ℕ) : Type 0 where
 
 -- no transaction of the hand is in flight: it has sent each one that it began
 abbrev pub HasLanded : Hand → Type 0
-HasLanded hand = (home : ℕ) (begun : Begun) → Contains (txs_of (gate_log (made_by hand) home)) begun
+HasLanded hand = (home : ℕ) (begun : BegunRequest) → Contains (txs_of (gate_log (made_by hand) home)) begun
     → IsTrue (has_ended_in begun.request (gate_log (made_by hand) home))
 
 -- A program is running for the request that its session began last, with that one's stamp. The hand runs it.

@@ -1,10 +1,8 @@
 -- The phases of a script: from which request to which.
 use Rattle.std.specs.Prelude.{ℕ, ◌-◌, ◌==◌, Bool, if◌then◌else◌, filter, length, slice_index_or}
 use Rattle.std.specs.List.{range_with_len}
-use Rattle.program_defs.specs.declared.script.Request.{Request}
 use Rattle.program_defs.specs.declared.script.Script.{Script}
-use Rattle.program_defs.specs.Works.{is_look}
-use Rattle.report_rules.specs.Lookups.{is_some_and, request_at}
+use Rattle.report_rules.specs.Lookups.{is_program}
 
 -- the number of the first request after a phase
 abbrev pub phase_end : Script → ℕ → ℕ
@@ -13,10 +11,6 @@ phase_end script phase = slice_index_or script.phases phase (length script.reque
 -- the number of the first request of a phase, if it has one
 abbrev pub phase_start : Script → ℕ → ℕ
 phase_start script phase = if phase == 0 then 0 else phase_end script (phase - 1)
-
--- whether this request is a program
-abbrev pub is_program : Script → ℕ → Bool
-is_program script r = is_some_and (λ (request : Request). is_look request.work) (request_at script r)
 
 -- how many programs there are among the `count` requests from this one on
 abbrev pub programs_in : Script → ℕ → ℕ → ℕ

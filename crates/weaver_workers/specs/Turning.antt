@@ -8,7 +8,7 @@ use Rattle.vector_stamp.specs.declared.clock.Stamp.{Stamp}
 use Rattle.weave_entries.specs.SessionReplay.{with_begun, with_reply}
 use Rattle.weaver_core.specs.declared.client.Client.{Client}
 use Rattle.weaver_core.specs.declared.walks.Running.{Running}
-use Rattle.weaver_core.specs.Clients.{log_of, requests_in, unanswered_in, IsClientOf}
+use Rattle.weaver_core.specs.Sessions.{log_of_client, requests_in, unanswered_in, IsClientOf}
 use Rattle.weaver_locks.specs.declared.hand.Hand.{Hand}
 use Rattle.weaver_locks.specs.declared.shared.Shared.{Shared}
 use Rattle.weaver_hands.specs.declared.fault.HandFault.{HandFault}
@@ -41,12 +41,12 @@ KeepsOn shared old new = (script : Script) (number upto : ℕ) → KeepsClient s
     → WorkerGoesOn shared script number upto old new
 
 -- what came of a read by its refusal, if it was one of a shard that was not ready
-abbrev pub read_of : HandFault → Option Read
-read_of (fault.NotYet shard gate) = Some (read.NotYet shard gate)
-read_of fault.Busy = None
-read_of fault.Empty = None
-read_of (fault.Waits vertex) = None
-read_of fault.Memory = None
+abbrev pub read_of_fault : HandFault → Option Read
+read_of_fault (fault.NotYet shard gate) = Some (read.NotYet shard gate)
+read_of_fault fault.Busy = None
+read_of_fault fault.Empty = None
+read_of_fault (fault.Waits vertex) = None
+read_of_fault fault.Memory = None
 
 -- what a read leaves of the hand and the program
 abbrev pub ReadsNextVertex : ℕ → ℕ → Hand → Hand → Running → Running → Read → Type 0
@@ -56,14 +56,14 @@ ReadsNextVertex gates shards old new was is (read.NotYet shard gate) =
     FoundNotReady gates shards old new was is shard gate
 
 -- the running program has read all that it visits
-pub record HasReadAll (at : Stand) : Type 0 where
+pub record ProgramHasReadAll (at : Stand) : Type 0 where
   pub running : Running
   pub running_is : at.client.running ≡ Some running
   pub over : next_read running.walk ≡ None
 
 -- what a read answers
 abbrev pub ReadAs : Shared → Stand → Read → Type 0
-ReadAs shared new read.Over = HasReadAll new
+ReadAs shared new read.Over = ProgramHasReadAll new
 ReadAs shared new read.More = ⊤
 ReadAs shared new (read.NotYet shard gate) = FoundUnready shared new shard gate
 
@@ -100,7 +100,7 @@ pub record GainsReply (number : ℕ) (old new : Client) (r : ℕ) (stamp : Stamp
   pub at_end : IsClientOf number new.session new.log.items
   pub session : new.session ≡ with_reply (with_begun stamp old.session)
   pub requests : requests_in new ≡ requests_in old
-  pub log : log_of new ≡ (log_of old ++ begun_entry number r stamp ∷ []) ++ replied_entry number r ∷ []
+  pub log : log_of_client new ≡ (log_of_client old ++ begun_entry number r stamp ∷ []) ++ replied_entry number r ∷ []
   pub running : new.running ≡ None
   pub replies : new.replies.items ≡ old.replies.items ++ reply_with r stamp state ∷ []
 
@@ -118,7 +118,8 @@ pub record Tries (shared : Shared) (script : Script) (number upto : ℕ) (old ne
 -- the session's first request without a reply, if it comes before `upto`
 abbrev pub below_in : ℕ → Client → Option ℕ
 below_in upto client =
-    option_and_then (λ r. if nat_lt r upto then Some r else None) (unanswered_in (requests_in client) (log_of client))
+    option_and_then (λ r. if nat_lt r upto then Some r else None)
+    (unanswered_in (requests_in client) (log_of_client client))
 
 -- a worker that ends after a try ends by what the try answered
 abbrev pub IsEndOf : Tried → Option Ended → Type 0

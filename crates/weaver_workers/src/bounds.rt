@@ -1,13 +1,15 @@
 //! The requests of a phase, and how many turns there are in it.
 ghost use Rattle.std.specs.Prelude.{◌≡◌, ◌≤◌, ◌-◌, ◌*◌, length};
+ghost use Rattle.weave_data.specs.Limits.{most_requests};
 ghost use Rattle.program_defs.specs.Works.{is_look};
-ghost use Rattle.weaver_workers.specs.Phases.{is_program, phase_end, phase_start, programs_in};
+ghost use Rattle.weaver_workers.specs.Phases.{phase_end, phase_start, programs_in};
+ghost use Rattle.report_rules.specs.Lookups.{is_program};
 
 use program_defs::{Script, Work};
 
 /// The number of the first request of a phase.
 pub fn start_of_phase(script: &Script, phase: u32) -> u32
-    requires { length script.now.requests ≤ 10000 }
+    requires { length script.now.requests ≤ most_requests }
     ensures { result ≡ phase_start script.now phase }
 {
     if phase == 0 {
@@ -18,7 +20,7 @@ pub fn start_of_phase(script: &Script, phase: u32) -> u32
 
 /// The number of the first request after a phase.
 pub fn end_of_phase(script: &Script, phase: u32) -> u32
-    requires { length script.now.requests ≤ 10000 }
+    requires { length script.now.requests ≤ most_requests }
     ensures { result ≡ phase_end script.now phase }
 {
     match script.phases.as_slice().get(phase as usize) {
@@ -30,7 +32,7 @@ pub fn end_of_phase(script: &Script, phase: u32) -> u32
 /// How many turns a worker of a gatekeeper or a shard takes in a phase from this request up to that one, without it:
 /// four for each.
 pub fn turns_of(from: u32, upto: u32) -> u32
-    requires { upto ≤ 10000 }
+    requires { upto ≤ most_requests }
     ensures { result ≡ (upto - from) * 4 }
 {
     if upto <= from {
@@ -41,7 +43,7 @@ pub fn turns_of(from: u32, upto: u32) -> u32
 
 /// In how many of these turns, the first ones, a gatekeeper sends empty messages: four for each program of the phase.
 pub fn program_turns(script: &Script, from: u32, upto: u32) -> u32
-    requires { upto ≤ 10000 }
+    requires { upto ≤ most_requests }
     ensures { result ≡ programs_in script.now from (upto - from) * 4 }
 {
     let mut turns: u32 = 0;

@@ -6,7 +6,7 @@ ghost use Rattle.program_defs.specs.declared.script.Work.TheVariants as work;
 ghost use Rattle.report_rules.specs.Lookups.{request_at};
 ghost use Rattle.weave_account.specs.Report.{state_by_verdict};
 ghost use Rattle.weave_entries.specs.SessionReplay.{BeginsNext};
-ghost use Rattle.weaver_core.specs.Clients.{spare_of, IsClientOf, IsInTurn};
+ghost use Rattle.weaver_core.specs.Sessions.{spare_of, IsClientOf, IsInTurn};
 ghost use Rattle.weaver_workers.specs.Keeping.{AreLocksOf, KeepsClient};
 ghost use Rattle.weaver_workers.specs.Turning.{stand, GainsReply, Tries};
 

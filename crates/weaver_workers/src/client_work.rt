@@ -1,7 +1,7 @@
 //! A client's worker: it goes through its session's requests of a phase.
 ghost use Rattle.std.specs.Prelude.{◌≡◌, ℕ, ◌<◌, length, IfOk, Some};
 ghost use Rattle.program_defs.specs.Limits.{IsWithinLimits};
-ghost use Rattle.weaver_core.specs.Clients.{log_of, requests_in, unanswered_in, IsAClient};
+ghost use Rattle.weaver_core.specs.Sessions.{log_of_client, requests_in, unanswered_in, IsAClient};
 ghost use Rattle.weaver_workers.specs.ClientWork.{WorkerEndsAs, WorkerGoesOn};
 ghost use Rattle.weaver_workers.specs.Keeping.{AreLocksOf, KeepsClient};
 ghost use Rattle.weaver_workers.specs.Turning.{below_in, stand, IsEndOf, Tries};
@@ -125,7 +125,7 @@ fn try_next<R: Wait>(
     requires locks { AreLocksOf script.now shared.now }
     requires keeps { KeepsClient shared.now script.now number hand.old client.old }
     requires there { request < length script.now.requests }
-    requires next { unanswered_in (requests_in client.old) (log_of client.old) ≡ Some request }
+    requires next { unanswered_in (requests_in client.old) (log_of_client client.old) ≡ Some request }
     ensures { IfOk result (λ tried. (upto : ℕ) → request < upto
         → Tries shared.now script.now number upto (stand hand.old client.old) (stand hand.new client.new) tried) }
 {

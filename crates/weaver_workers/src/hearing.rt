@@ -8,10 +8,8 @@ ghost use Rattle.weaver_workers.specs.Carrying.{AreTold, CarriesAtGate, HasSaid,
 use std::alloc::{AllocError, Global};
 use std::sync::Wait;
 use vector_stamp::Clock;
+use weave_data::MOST_GATES;
 use weaver_locks::{Hand, Shared};
-
-// No script has more gatekeepers.
-const MOST_GATES: u32 = 8;
 
 /// Room for a clock of each gatekeeper, and none in it. The one error is out of memory.
 pub(crate) fn no_clocks(alloc: Global) -> Result<Vec<Option<Clock>>, AllocError>

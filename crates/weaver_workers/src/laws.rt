@@ -3,7 +3,7 @@ ghost use Rattle.std.specs.Prelude.{ℕ, Bool, Result};
 ghost use Rattle.std.specs.Option.{ForSome};
 ghost use Rattle.program_defs.specs.declared.script.Script.{Script};
 ghost use Rattle.program_defs.specs.Limits.{IsWithinLimits};
-ghost use Rattle.weaver_core.specs.Clients.{log_of, IsClientOf};
+ghost use Rattle.weaver_core.specs.Sessions.{log_of_client, IsClientOf};
 ghost use Rattle.weaver_locks.specs.declared.hand.Hand.{Hand};
 ghost use Rattle.weaver_locks.specs.declared.shared.Shared.{Shared};
 ghost use Rattle.weaver_locks.specs.Hands.{IsHand};
@@ -26,7 +26,8 @@ pub fn hands_go_on()
     ensures client { (shared : Shared) (script : Script) (number upto : ℕ) (old new : Stand) → IsWithinLimits script
         → AreLocksOf script shared → KeepsClient shared script number old.hand old.client → IsHand shared new.hand
         → ForSome new.client.running (IsRunning shared new.hand)
-        → IsClientOf number new.client.session (log_of new.client) → DoesOneCall shared script number upto old new
+        → IsClientOf number new.client.session (log_of_client new.client)
+        → DoesOneCall shared script number upto old new
         → KeepsClient shared script number new.hand new.client }
     ensures landed { (old new : Hand) → OnlyCarries old new → HasLanded old → HasLanded new }
 {

@@ -4,10 +4,10 @@ ghost use Rattle.program_defs.specs.Limits.{IsWithinLimits};
 ghost use Rattle.program_defs.specs.declared.script.Request.{Request};
 ghost use Rattle.program_defs.specs.declared.script.Work.TheVariants as work;
 ghost use Rattle.report_rules.specs.Lookups.{request_at};
-ghost use Rattle.weaver_core.specs.Clients.{IsInTurn};
+ghost use Rattle.weaver_core.specs.Sessions.{IsInTurn};
 ghost use Rattle.weaver_workers.specs.ClientWork.{WorkerGoesOn};
 ghost use Rattle.weaver_workers.specs.Keeping.{AreLocksOf, KeepsClient};
-ghost use Rattle.weaver_workers.specs.Turning.{stand, tried_by, HasReadAll, RunsIn, Tries};
+ghost use Rattle.weaver_workers.specs.Turning.{stand, tried_by, ProgramHasReadAll, RunsIn, Tries};
 
 use crate::bringing::Brought;
 use crate::keeping::workers_keep_their_laws;
@@ -112,7 +112,7 @@ fn finish_look<R: Wait>(
     number: u32,
 ) -> Result<Tried, AllocError>
     requires keeps { KeepsClient shared.now script.now number hand.old client.old }
-    requires over { HasReadAll (stand hand.old client.old) }
+    requires over { ProgramHasReadAll (stand hand.old client.old) }
     ensures { IfOk result (λ tried. (upto : ℕ)
         → Tries shared.now script.now number upto (stand hand.old client.old) (stand hand.new client.new) tried) }
 {

@@ -1,7 +1,7 @@
 //! Scripts and reports that no text can express: each is that of a text, but for one change.
 //!
-//! In a text the answers are those of the transaction's `get`s, one for each, every name is that of a request, and there
-//! are at most eight gatekeepers.
+//! In a text the answers are those of the transaction's `get`s, one for each, every name is that of a request, and
+//! there are at most eight gatekeepers.
 
 use crate::cases::letter;
 use crate::clause_tests::MEETING;
@@ -127,8 +127,8 @@ fn requests_that_the_script_lacks(rt: HostRuntime) {
     assert_changed(&rt, rt.alloc(), &UNKNOWN);
 }
 
-// Gatekeeper 8 is none of the eight whose chains the graph keeps, so precedence is closed over all requests: t2 precedes
-// t0 by stamps, and t0 precedes t1 by the pair.
+// Gatekeeper 8 is none of the eight whose chains the graph keeps, so precedence is closed over all requests: t2
+// precedes t0 by stamps, and t0 precedes t1 by the pair.
 const CLOSED: [Row; 2] = [
     (
         PATH,

@@ -8,7 +8,7 @@ use Rattle.std.proofs.lemmas.List.Elements.{Contains-append_cases, Contains-appe
 use Rattle.std.proofs.Math.Seq.{drop-append_seam}
 use Rattle.weave_data.proofs.Members.{flat_has, has_flat, has_head, has_none, map_has, only}
 use Rattle.vector_stamp.specs.declared.clock.Stamp.{Stamp}
-use Rattle.vector_stamp.specs.Precedence.{Given}
+use Rattle.vector_stamp.specs.Precedence.{GivenPair}
 use Rattle.vector_stamp.specs.Settling.{SettledEntry, entries_of_call}
 use Rattle.program_defs.specs.declared.script.Script.{Script}
 use Rattle.weave_entries.specs.declared.gate_log.GateEntry.{GateEntry}
@@ -16,15 +16,15 @@ use Rattle.weave_entries.specs.declared.gate_log.GateDeed.TheVariants.{BeganTx}
 use Rattle.weave_entries.specs.declared.oracle_log.OracleEntry.{OracleEntry}
 use Rattle.weave_entries.specs.declared.verdict.Verdict.{Verdict}
 use Rattle.weave_entries.specs.declared.verdict.Verdict.TheVariants.{Committed, Conflict, Refused}
-use Rattle.weave_entries.specs.GateReplay.{Begun, begun_by, begun_in, program_by, programs_of, tx_by}
-use Rattle.weave_entries.specs.OracleReplay.{oracle_entry, pairs_of_log, settled_entry}
+use Rattle.weave_entries.specs.GateReplay.{BegunRequest, begun_by, begun_in, program_by, programs_of, tx_by}
+use Rattle.weave_entries.specs.OracleReplay.{oracle_entry_of, pairs_of_log, settled_entry}
 use Rattle.weave_entries.specs.ShardRules.{entries_of_visit}
 use Rattle.backing_store.specs.Commits.{asked_at, entries_added}
 use Rattle.weave_account.specs.declared.account.Account.{Account}
 use Rattle.weave_account.specs.Account.{gate_log}
 use Rattle.weave_account.specs.GoesOn.{IsBeginningOf}
 use Rattle.hands_account.proofs.Places.{has-on, onward, whole}
-use Rattle.seen_logs.specs.Seen.{since}
+use Rattle.seen_logs.specs.Seen.{entries_since}
 use Rattle.weaver_locks.specs.declared.hand.Hand.{Hand}
 use Rattle.weaver_locks.specs.declared.shared.Shared.{Shared}
 use Rattle.weaver_locks.specs.GateHolds.{gate_entry_by}
@@ -36,7 +36,7 @@ use Rattle.workers_account.specs.Asked.{AsksForOwn, IsBegunSince}
 use Rattle.workers_account.proofs.Visited.{program-begun}
 
 -- what a log has past its start, and what one that goes on has
-since-more : {E : Type 0} (start a b : List E) → IsBeginningOf start a → IsBeginningOf a b → IsBeginningOf (since start a) (since start b)
+since-more : {E : Type 0} (start a b : List E) → IsBeginningOf start a → IsBeginningOf a b → IsBeginningOf (entries_since start a) (entries_since start b)
 since-more start a b first second = (
   second.0,
   ap (drop (length start)) (second.1 ∙ ap (λ l. l ++ second.0) first.1 ∙ append_assoc start first.0 second.0)
@@ -45,7 +45,7 @@ since-more start a b first second = (
 )
 
 -- what began in a log began in one that goes on
-begun-further : (log next : List GateEntry) → IsBeginningOf log next → (begun : Begun) → Contains (begun_in log) begun → Contains (begun_in next) begun
+begun-further : (log next : List GateEntry) → IsBeginningOf log next → (begun : BegunRequest) → Contains (begun_in log) begun → Contains (begun_in next) begun
 begun-further log next on begun h =
     let from = flat_has (λ (e : GateEntry). begun_by e.author e.deed) log begun h in
     has_flat (λ (e : GateEntry). begun_by e.author e.deed) next from.0 begun (has-on log next on from.0 from.1) from.2
@@ -58,9 +58,9 @@ call-later author earlier later (place ∷ places) entry h =
     sym (ap (λ (e : SettledEntry). e.later) (only (record { author = author; earlier = earlier; later = later; places = place ∷ places }) entry h))
 
 mapped-later : (entries : List SettledEntry) (later : Stamp) → ((entry : SettledEntry) → Contains entries entry → entry.later ≡ later)
-    → (entry : OracleEntry) → Contains (map oracle_entry entries) entry → (settled_entry entry).later ≡ later
+    → (entry : OracleEntry) → Contains (map oracle_entry_of entries) entry → (settled_entry entry).later ≡ later
 mapped-later entries later each entry h =
-    let from = map_has oracle_entry entries entry h in
+    let from = map_has oracle_entry_of entries entry h in
     sym (ap (λ (e : OracleEntry). (settled_entry e).later) from.2) ∙ each from.0 from.1
 
 module _ (shared : Shared) where
@@ -70,7 +70,7 @@ module _ (shared : Shared) where
   begun-stays old new is_old same more stamp begun = record {
     home = begun.home;
     begun = begun.begun;
-    there = begun-further (since (gate_log (start_of shared) begun.home) (gate_log (seen_by old) begun.home)) (since (gate_log (start_of shared) begun.home) (gate_log (seen_by new) begun.home))
+    there = begun-further (entries_since (gate_log (start_of shared) begun.home) (gate_log (seen_by old) begun.home)) (entries_since (gate_log (start_of shared) begun.home) (gate_log (seen_by new) begun.home))
         (since-more (gate_log (start_of shared) begun.home) (gate_log (seen_by old) begun.home) (gate_log (seen_by new) begun.home) (is_old.seen.starts.gates begun.home) (more begun.home))
         begun.begun begun.there;
     own = begun.own ∙ sym same;
@@ -103,7 +103,7 @@ module _ (shared : Shared) where
         let does = did.transacts in
         let gate = did.asked.gate in
         let hand = old.hand in
-        let begun : Begun = record { author = hand_number hand; request = did.r; stamp = did.stamp } in
+        let begun : BegunRequest = record { author = hand_number hand; request = did.r; stamp = did.stamp } in
         let entry = gate_entry_by hand (BeganTx did.r did.stamp) in
         let before : IsBeginningOf (gate_log (start_of shared) gate) does.before =
         onward (gate_log (start_of shared) gate) (gate_log (seen_by hand) gate) does.before (keeps.is_hand.seen.starts.gates gate) does.begins.found in
@@ -112,9 +112,9 @@ module _ (shared : Shared) where
         let then_seen = onward (gate_log (seen_by does.begun) gate) (gate_log (seen_by does.judged) gate) (gate_log (seen_by new.hand) gate)
         (does.judges.was.more.gates gate) (does.sends.was.more.gates gate) in
         let number_is = does.sends.was.number ∙ does.judges.was.number ∙ does.begins.number in
-        let all : IsBeginningOf (since (gate_log (start_of shared) gate) (gate_log (seen_by does.begun) gate)) (since (gate_log (start_of shared) gate) (gate_log (seen_by new.hand) gate)) =
+        let all : IsBeginningOf (entries_since (gate_log (start_of shared) gate) (gate_log (seen_by does.begun) gate)) (entries_since (gate_log (start_of shared) gate) (gate_log (seen_by new.hand) gate)) =
         since-more (gate_log (start_of shared) gate) (gate_log (seen_by does.begun) gate) (gate_log (seen_by new.hand) gate) (before.0 ++ entry ∷ [], first) then_seen in
-        let here : since (gate_log (start_of shared) gate) (gate_log (seen_by does.begun) gate) ≡ before.0 ++ entry ∷ [] =
+        let here : entries_since (gate_log (start_of shared) gate) (gate_log (seen_by does.begun) gate) ≡ before.0 ++ entry ∷ [] =
         ap (drop (length (gate_log (start_of shared) gate))) first ∙ drop-append_seam (gate_log (start_of shared) gate) (before.0 ++ entry ∷ []) in
         let since_then : IsBegunSince shared new.hand did.stamp = record {
           home = gate;
@@ -129,16 +129,16 @@ module _ (shared : Shared) where
           number_is = number_is;
           more = λ home. onward (gate_log (seen_by hand) home) (gate_log (seen_by does.begun) home) (gate_log (seen_by new.hand) home) (does.begins.more.gates home)
               (onward (gate_log (seen_by does.begun) home) (gate_log (seen_by does.judged) home) (gate_log (seen_by new.hand) home) (does.judges.was.more.gates home) (does.sends.was.more.gates home));
-          gained = map oracle_entry (entries_added did.verdict (hand_number does.begun) (pairs_of_log does.judges.settled) (asked_at does.judges.before did.stamp did.ops) did.stamp);
+          gained = map oracle_entry_of (entries_added did.verdict (hand_number does.begun) (pairs_of_log does.judges.settled) (asked_at does.judges.before did.stamp did.ops) did.stamp);
           made = ap (λ (a : Account). a.oracle) does.sends.was.made ∙ ap (λ (a : Account). a.oracle) does.judges.was.made
-              ∙ ap (λ (a : Account). a.oracle ++ map oracle_entry (entries_added did.verdict (hand_number does.begun) (pairs_of_log does.judges.settled) (asked_at does.judges.before did.stamp did.ops) did.stamp)) does.begins.made;
+              ∙ ap (λ (a : Account). a.oracle ++ map oracle_entry_of (entries_added did.verdict (hand_number does.begun) (pairs_of_log does.judges.settled) (asked_at does.judges.before did.stamp did.ops) did.stamp)) does.begins.made;
           each = λ e h. subst (IsBegunSince shared new.hand)
               (sym (mapped-later (entries_added did.verdict (hand_number does.begun) (pairs_of_log does.judges.settled) (asked_at does.judges.before did.stamp did.ops) did.stamp) did.stamp
               (added-later did.verdict (hand_number does.begun) (asked_at does.judges.before did.stamp did.ops) did.stamp _) e h))
               since_then;
         }
       where
-        added-later : (verdict : Verdict) (author : ℕ) (earlier : List Stamp) (later : Stamp) (pairs : List Given) (entry : SettledEntry)
+        added-later : (verdict : Verdict) (author : ℕ) (earlier : List Stamp) (later : Stamp) (pairs : List GivenPair) (entry : SettledEntry)
             → Contains (entries_added verdict author pairs earlier later) entry → entry.later ≡ later
         added-later (Committed n answers counts) author earlier later pairs entry h = call-later author earlier later _ entry h
         added-later (Conflict v newer) author earlier later pairs entry h = absurd (has_none entry h)
@@ -150,18 +150,18 @@ module _ (shared : Shared) where
         let one = did.before in
         let runs = (keeps.running one did.before_is).runs in
         let home = one.stamp.home in
-        let begun : Begun = record { author = hand_number old.hand; request = one.request; stamp = one.stamp } in
+        let begun : BegunRequest = record { author = hand_number old.hand; request = one.request; stamp = one.stamp } in
         let was : IsBegunSince shared old.hand one.stamp = record {
           home = home;
           begun = begun;
-          there = program-begun (since (gate_log (start_of shared) home) (gate_log (seen_by old.hand) home)) begun runs.begun;
+          there = program-begun (entries_since (gate_log (start_of shared) home) (gate_log (seen_by old.hand) home)) begun runs.begun;
           own = refl;
           stamp_is = refl;
         } in
         record {
           number_is = visits.was.number;
           more = visits.was.more.gates;
-          gained = map oracle_entry (entries_of_visit (pairs_of_log visits.settled) (hand_number old.hand) one.stamp did.visits.vertex visits.before);
+          gained = map oracle_entry_of (entries_of_visit (pairs_of_log visits.settled) (hand_number old.hand) one.stamp did.visits.vertex visits.before);
           made = ap (λ (a : Account). a.oracle) visits.was.made;
           each = λ e h. subst (IsBegunSince shared new.hand)
               (sym (mapped-later (entries_of_visit (pairs_of_log visits.settled) (hand_number old.hand) one.stamp did.visits.vertex visits.before) one.stamp
@@ -198,6 +198,7 @@ module _ (shared : Shared) where
       asks-then from next at went.0.1.is_hand (does-asks script number upto from next keeps went.0.0)
       (goes-asks script number upto path next at went.0.1 went.1)
 
+  -- each entry that the hand added to the oracle's log puts events before a request that it began since the start
   pub asks-for-own : (script : Script) (number upto : ℕ) (path : List Stand) (from at : Stand) → KeepsClient shared script number from.hand from.client
       → Goes shared script number upto from path at → AsksForOwn shared from at
   asks-for-own script number upto path from at keeps went gained made entry h =

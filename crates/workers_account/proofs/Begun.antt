@@ -19,7 +19,7 @@ use Rattle.weave_entries.specs.declared.gate_log.GateEntry.{GateEntry}
 use Rattle.weave_entries.specs.declared.gate_log.GateDeed.{GateDeed}
 use Rattle.weave_entries.specs.declared.gate_log.GateDeed.TheVariants.{BeganTx, BeganProgram, Sent, Nop, Heard, Raised, Finished}
 use Rattle.weave_entries.specs.declared.session_log.SessionEntry.{SessionEntry}
-use Rattle.weave_entries.specs.GateReplay.{Begun, begun_by, begun_in, ended_by, ended_in}
+use Rattle.weave_entries.specs.GateReplay.{BegunRequest, begun_by, begun_in, ended_by, ended_in}
 use Rattle.weave_entries.specs.SessionReplay.{IsSessionLog, begins_in, session_stamp_of}
 use Rattle.weave_account.specs.declared.account.Account.{Account}
 use Rattle.weave_account.specs.Account.{all_begun, gate_log, session_log, stamp_of}
@@ -30,7 +30,7 @@ use Rattle.weave_account.proofs.Beginning.{all-in}
 use Rattle.weave_account.proofs.Replying.{has-all}
 use Rattle.hands_account.proofs.Places.{has-on}
 use Rattle.weaver_core.specs.declared.client.Client.{Client}
-use Rattle.weaver_core.specs.Clients.{log_of, requests_in}
+use Rattle.weaver_core.specs.Sessions.{log_of_client, requests_in}
 use Rattle.weaver_locks.specs.declared.hand.Hand.{Hand}
 use Rattle.weaver_locks.specs.declared.shared.Shared.{Shared}
 use Rattle.weaver_locks.specs.Hands.{hand_number, made_by}
@@ -62,12 +62,14 @@ told-ends (Sent r messages) tells = absurd cc
 told-ends (Raised epoch) tells = absurd cc
 told-ends (Finished r) tells = absurd cc
 
+-- nothing begins at gatekeepers where all entries are heard clocks or empty messages
 pub none-begun : (gates : ℕ → List GateEntry) → ((home : ℕ) (entry : GateEntry) → Contains (gates home) entry → IsTrue (is_telling entry.deed))
-    → (home : ℕ) (begun : Begun) → Contains (begun_in (gates home)) begun → ⊥
+    → (home : ℕ) (begun : BegunRequest) → Contains (begun_in (gates home)) begun → ⊥
 none-begun gates tells home begun h =
     let from = flat_has (λ (e : GateEntry). begun_by e.author e.deed) (gates home) begun h in
-    has_none begun (subst (λ (l : List Begun). Contains l begun) (told-begins from.0.author from.0.deed (tells home from.0 from.1)) from.2)
+    has_none begun (subst (λ (l : List BegunRequest). Contains l begun) (told-begins from.0.author from.0.deed (tells home from.0 from.1)) from.2)
 
+-- and nothing ends there
 pub none-ended : (gates : ℕ → List GateEntry) → ((home : ℕ) (entry : GateEntry) → Contains (gates home) entry → IsTrue (is_telling entry.deed))
     → (home r : ℕ) → Contains (ended_in (gates home)) r → ⊥
 none-ended gates tells home r h =
@@ -77,53 +79,55 @@ none-ended gates tells home r h =
 -- Accounts
 
 -- what began at a gatekeeper is among all that began
-pub all-has : (account : Account) (home : ℕ) (begun : Begun) → Contains (begun_in (gate_log account home)) begun → Contains (all_begun account) begun
+pub all-has : (account : Account) (home : ℕ) (begun : BegunRequest) → Contains (begun_in (gate_log account home)) begun → Contains (all_begun account) begun
 all-has account home begun h = all-in account home begun h
 
 -- a request that began has its stamp, if none began twice
-pub stamp-is : (account : Account) → BeginEachOnce account → (begun : Begun) → Contains (all_begun account) begun → stamp_of account begun.request ≡ Some begun.stamp
+pub stamp-is : (account : Account) → BeginEachOnce account → (begun : BegunRequest) → Contains (all_begun account) begun → stamp_of account begun.request ≡ Some begun.stamp
 stamp-is account once begun h =
-    ap (option_map (λ (b : Begun). b.stamp)) (find_by_key (λ (b : Begun). b.request) (all_begun account) begun once h)
+    ap (option_map (λ (b : BegunRequest). b.stamp)) (find_by_key (λ (b : BegunRequest). b.request) (all_begun account) begun once h)
 
 -- a request with a stamp began
 pub stamp-began : (account : Account) (r : ℕ) (stamp : Stamp) → stamp_of account r ≡ Some stamp
-    → (begun : Begun) × Contains (all_begun account) begun × (begun.request ≡ r) × (begun.stamp ≡ stamp)
-stamp-began account r stamp is = by (find (λ (b : Begun). b.request == r) (all_begun account)) refl is
+    → (begun : BegunRequest) × Contains (all_begun account) begun × (begun.request ≡ r) × (begun.stamp ≡ stamp)
+stamp-began account r stamp is = by (find (λ (b : BegunRequest). b.request == r) (all_begun account)) refl is
   where
-    by : (o : Option Begun) → find (λ (b : Begun). b.request == r) (all_begun account) ≡ o → option_map (λ (b : Begun). b.stamp) o ≡ Some stamp
-        → (begun : Begun) × Contains (all_begun account) begun × (begun.request ≡ r) × (begun.stamp ≡ stamp)
+    by : (o : Option BegunRequest) → find (λ (b : BegunRequest). b.request == r) (all_begun account) ≡ o → option_map (λ (b : BegunRequest). b.stamp) o ≡ Some stamp
+        → (begun : BegunRequest) × Contains (all_begun account) begun × (begun.request ≡ r) × (begun.stamp ≡ stamp)
     by None at e = absurd (none-some stamp e)
     by (Some begun) at e =
-        let has = find_has (λ (b : Begun). b.request == r) (all_begun account) begun at in
+        let has = find_has (λ (b : BegunRequest). b.request == r) (all_begun account) begun at in
         (begun, has.0, eqb-true begun.request r has.1, same_Some begun.stamp stamp e)
 
 -- a request without a stamp did not begin
-pub no-stamp : (account : Account) (r : ℕ) → stamp_of account r ≡ None → (begun : Begun) → Contains (all_begun account) begun → begun.request ≢ r
-no-stamp account r is begun h same = by (find (λ (b : Begun). b.request == r) (all_begun account)) refl is
+pub no-stamp : (account : Account) (r : ℕ) → stamp_of account r ≡ None → (begun : BegunRequest) → Contains (all_begun account) begun → begun.request ≢ r
+no-stamp account r is begun h same = by (find (λ (b : BegunRequest). b.request == r) (all_begun account)) refl is
   where
-    by : (o : Option Begun) → find (λ (b : Begun). b.request == r) (all_begun account) ≡ o → option_map (λ (b : Begun). b.stamp) o ≡ None → ⊥
-    by None at e = find_lacks (λ (b : Begun). b.request == r) (all_begun account) begun at h (eq-eqb begun.request r same)
+    by : (o : Option BegunRequest) → find (λ (b : BegunRequest). b.request == r) (all_begun account) ≡ o → option_map (λ (b : BegunRequest). b.stamp) o ≡ None → ⊥
+    by None at e = find_lacks (λ (b : BegunRequest). b.request == r) (all_begun account) begun at h (eq-eqb begun.request r same)
     by (Some other) at e = none-some other.stamp (sym e)
 
 module _ (laws : PhaseLaws) (shared : Shared) (script : Script) (upto : ℕ) (start : Account) (was is : List Client) (hands : List Hand)
     (run : IsPhaseRun shared script upto start was is hands) (closed : Account) (end : IsClosedBy shared script start is hands closed) where
   -- Logs of sessions
 
+  -- a session that was left as it was has the same log as at the start
   pub logs-alike : (t : ℕ) → slice_get is t ≡ slice_get was t → session_log closed t ≡ session_log start t
   logs-alike t same =
-      let log : List Client → List SessionEntry = λ cs. get_or (map log_of cs) t [] in
-      let there : (cs : List Client) → log cs ≡ unwrap_or (option_map log_of (slice_get cs t)) [] = λ cs.
-      sym (unwrap_or-slice_get (map log_of cs) t []) ∙ ap (λ (o : Option (List SessionEntry)). unwrap_or o []) (slice_get-map log_of cs t) in
+      let log : List Client → List SessionEntry = λ cs. get_or (map log_of_client cs) t [] in
+      let there : (cs : List Client) → log cs ≡ unwrap_or (option_map log_of_client (slice_get cs t)) [] = λ cs.
+      sym (unwrap_or-slice_get (map log_of_client cs) t []) ∙ ap (λ (o : Option (List SessionEntry)). unwrap_or o []) (slice_get-map log_of_client cs t) in
       ap (λ (logs : List (List SessionEntry)). get_or logs t []) end.sessions
-      ∙ there is ∙ ap (λ (o : Option Client). unwrap_or (option_map log_of o) []) same ∙ sym (there was)
+      ∙ there is ∙ ap (λ (o : Option Client). unwrap_or (option_map log_of_client o) []) same ∙ sym (there was)
       ∙ ap (λ (logs : List (List SessionEntry)). get_or logs t []) (sym run.at_start.logs)
 
   -- the log of a session is as it was, or it is that of a session that a hand followed
   pub record LeftLog (t : ℕ) (hand : Hand) (h : Contains hands hand) : Type 0 where
     pub part : SessionPart laws shared script upto start was is hands run t hand (part-of laws shared script upto start was is hands run hand h)
-    pub was_log : session_log start t ≡ log_of part.has.on.client
-    pub is_log : session_log closed t ≡ log_of part.has.on.left
+    pub was_log : session_log start t ≡ log_of_client part.has.on.client
+    pub is_log : session_log closed t ≡ log_of_client part.has.on.left
 
+  -- the log of each session is as it was, or it is that of a session that a hand followed
   pub session-case : (t : ℕ) → (session_log closed t ≡ session_log start t) ⊎ ((hand : Hand) × (h : Contains hands hand) × LeftLog t hand h)
   session-case t =
       elim (cases_lt t 64) [
@@ -161,7 +165,7 @@ module _ (laws : PhaseLaws) (shared : Shared) (script : Script) (upto : ℕ) (st
         | inr one ↦
             let keeps = one.2.part.has.followed.keeps in
             subst (λ (l : List SessionEntry). IsSessionLog t (requests_of_session script t) l) (sym one.2.is_log)
-            (subst (λ (rs : List ℕ). IsSessionLog t rs (log_of one.2.part.has.on.left)) keeps.requests keeps.at_end.right)
+            (subst (λ (rs : List ℕ). IsSessionLog t rs (log_of_client one.2.part.has.on.left)) keeps.requests keeps.at_end.right)
       ]
 
   -- and goes on
@@ -179,7 +183,7 @@ module _ (laws : PhaseLaws) (shared : Shared) (script : Script) (upto : ℕ) (st
   -- From the gatekeepers to the sessions
 
   -- a request of the start that began there is in its session's log
-  pub start-logged : (begun : Begun) → Contains (all_begun start) begun → (request : Request) → request_at script begun.request ≡ Some request
+  pub start-logged : (begun : BegunRequest) → Contains (all_begun start) begun → (request : Request) → request_at script begun.request ≡ Some request
       → Contains (begins_in (session_log start request.session)) (begun.request, begun.stamp)
   start-logged begun h request at =
       stamp-from (session_log start request.session) begun.request begun.stamp
@@ -192,7 +196,7 @@ module _ (laws : PhaseLaws) (shared : Shared) (script : Script) (upto : ℕ) (st
       subst (λ (l : List SessionEntry). Contains (begins_in l) (r, stamp)) (sym on.1) (begins-on (session_log start t) on.0 r stamp h)
 
   -- what a hand's part began is of the session that it followed
-  pub record BegunInPart (begun : Begun) (hand : Hand) (h : Contains hands hand) : Type 0 where
+  pub record BegunInPart (begun : BegunRequest) (hand : Hand) (h : Contains hands hand) : Type 0 where
     pub session : ℕ
     pub left : LeftLog session hand h
     pub logged : Contains (begins_in left.part.has.followed.in_step.gained.session) (begun.request, begun.stamp)
@@ -208,7 +212,8 @@ module _ (laws : PhaseLaws) (shared : Shared) (script : Script) (upto : ℕ) (st
     is_log = log-at closed is end.sessions t part.has.on.left part.has.on.left_is;
   }
 
-  pub begun-in-part : (hand : Hand) (h : Contains hands hand) (home : ℕ) (begun : Begun)
+  -- what a hand's part began is of the session that it followed, whose log has the begin too
+  pub begun-in-part : (hand : Hand) (h : Contains hands hand) (home : ℕ) (begun : BegunRequest)
       → Contains (begun_in ((part-of laws shared script upto start was is hands run hand h).gates home)) begun → BegunInPart begun hand h
   begun-in-part hand h home begun there =
       let part = part-of laws shared script upto start was is hands run hand h in
@@ -226,7 +231,7 @@ module _ (laws : PhaseLaws) (shared : Shared) (script : Script) (upto : ℕ) (st
       ]
 
   -- what began at the closed gatekeepers was logged by its session
-  pub logged : (home : ℕ) (begun : Begun) → Contains (begun_in (gate_log closed home)) begun → (request : Request) → request_at script begun.request ≡ Some request
+  pub logged : (home : ℕ) (begun : BegunRequest) → Contains (begun_in (gate_log closed home)) begun → (request : Request) → request_at script begun.request ≡ Some request
       → Contains (begins_in (session_log closed request.session)) (begun.request, begun.stamp)
   logged home begun h request at =
       let from = flat_has (λ (e : GateEntry). begun_by e.author e.deed) (gate_log closed home) begun h in
@@ -260,7 +265,7 @@ module _ (laws : PhaseLaws) (shared : Shared) (script : Script) (upto : ℕ) (st
   -- the begin of a request at some gatekeeper
   pub record IsBegunAt (account : Account) (r : ℕ) (stamp : Stamp) : Type 0 where
     pub home : ℕ
-    pub begun : Begun
+    pub begun : BegunRequest
     pub there : Contains (begun_in (gate_log account home)) begun
     pub request_is : begun.request ≡ r
     pub stamp_is : begun.stamp ≡ stamp
@@ -278,7 +283,7 @@ module _ (laws : PhaseLaws) (shared : Shared) (script : Script) (upto : ℕ) (st
       record { home = home.0; begun = began.0; there = home.1; request_is = began.2; stamp_is = began.3 }
 
   -- a begin of the start is among the closed ones
-  pub begun-on : (home : ℕ) (begun : Begun) → Contains (begun_in (gate_log start home)) begun → Contains (begun_in (gate_log closed home)) begun
+  pub begun-on : (home : ℕ) (begun : BegunRequest) → Contains (begun_in (gate_log start home)) begun → Contains (begun_in (gate_log closed home)) begun
   begun-on home begun h =
       let from = flat_has (λ (e : GateEntry). begun_by e.author e.deed) (gate_log start home) begun h in
       has_flat (λ (e : GateEntry). begun_by e.author e.deed) (gate_log closed home) from.0 begun
@@ -290,7 +295,7 @@ module _ (laws : PhaseLaws) (shared : Shared) (script : Script) (upto : ℕ) (st
   some-begun hand h r stamp author None impossible = absurd impossible
   some-begun hand h r stamp author (Some request) there =
       let part = part-of laws shared script upto start was is hands run hand h in
-      let begun : Begun = record { author = author; request = r; stamp = stamp } in
+      let begun : BegunRequest = record { author = author; request = r; stamp = stamp } in
       let from = flat_has (λ (e : GateEntry). begun_by e.author e.deed) (part.gates request.gate) begun there in
       record {
         home = request.gate;

@@ -64,6 +64,7 @@ module _ (script : Script) (session home : ℕ) (before : List GateEntry) where
       small = begun.small;
     }
 
+    -- a deed that begins in its session's turn still does so when the session's log goes on
     pub begins-later : (deed : GateDeed) → BeginsInTurn script session log home before deed
         → BeginsInTurn script session next home before deed
     begins-later (BeganTx r stamp) begins = turn-later is_change r stamp begins
@@ -144,6 +145,7 @@ one-at-gate old new gate before deed was none = record {
     entry : GateEntry
     entry = gate_entry_by old deed
 
+-- a hand that only carries begins nothing
 pub none-carried : (old new : Hand) → OnlyCarries old new → BeginsNone old new
 none-carried old new only = record {
   number = only.number;
@@ -227,6 +229,7 @@ module _ (script : Script) (session : ℕ) where
           subst (λ (b : List GateEntry). BeginsInTurn script session log gate b e.deed) (sym here.0)
           (subst (λ (x : GateEntry). BeginsInTurn script session log gate before x.deed) (sym here.1) begins)
 
+      -- if the one deed that the hand added begins in its session's turn, all that it began since was begun in turn
       pub begun-one : BegunBetween log old new
       begun-one home = elim (cases_eq home gate) [
         | inl same ↦ subst (λ (k : ℕ). BegunAt log old new k) (sym same) begun-there

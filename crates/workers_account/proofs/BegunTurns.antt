@@ -21,7 +21,7 @@ use Rattle.weave_account.specs.GoesOn.{IsBeginningOf}
 use Rattle.weave_account.specs.Sessions.{requests_of_session}
 use Rattle.seen_logs.specs.Seen.{GatesGoOn}
 use Rattle.hands_account.proofs.Places.{onward, whole}
-use Rattle.weaver_core.specs.Clients.{log_of}
+use Rattle.weaver_core.specs.Sessions.{log_of_client}
 use Rattle.weaver_locks.specs.declared.shared.Shared.{Shared}
 use Rattle.weaver_locks.specs.Hands.{hand_number, seen_by}
 use Rattle.weaver_workers.specs.ClientWork.{begun_entry, replied_entry, DoesOneCall, DoesChange, DoesStart, Goes, Stand}
@@ -46,7 +46,7 @@ session-is script number r asked h is =
 pub record Went (script : Script) (session : ℕ) (from at : Stand) : Type 0 where
   pub number : hand_number at.hand ≡ hand_number from.hand
   pub gates : GatesGoOn (seen_by from.hand) (seen_by at.hand)
-  pub log : IsBeginningOf (log_of from.client) (log_of at.client)
+  pub log : IsBeginningOf (log_of_client from.client) (log_of_client at.client)
   pub begins : AreBegunInTurn script session from at
 
 module _ (laws : TurnLaws) (shared : Shared) (script : Script) (number upto : ℕ) where
@@ -54,8 +54,8 @@ module _ (laws : TurnLaws) (shared : Shared) (script : Script) (number upto : �
   went-none at = record {
     number = refl;
     gates = λ home. whole (gate_log (seen_by at.hand) home);
-    log = whole (log_of at.client);
-    begins = begun-none script number (log_of at.client) at.hand;
+    log = whole (log_of_client at.client);
+    begins = begun-none script number (log_of_client at.client) at.hand;
   }
 
   went-then : (from mid at : Stand) → Went script number from mid → Went script number mid at → Went script number from at
@@ -63,8 +63,8 @@ module _ (laws : TurnLaws) (shared : Shared) (script : Script) (number upto : �
     number = second.number ∙ first.number;
     gates = λ home. onward (gate_log (seen_by from.hand) home) (gate_log (seen_by mid.hand) home) (gate_log (seen_by at.hand) home)
         (first.gates home) (second.gates home);
-    log = onward (log_of from.client) (log_of mid.client) (log_of at.client) first.log second.log;
-    begins = begun-then script number (log_of mid.client) (log_of at.client) from.hand mid.hand at.hand first.number second.gates
+    log = onward (log_of_client from.client) (log_of_client mid.client) (log_of_client at.client) first.log second.log;
+    begins = begun-then script number (log_of_client mid.client) (log_of_client at.client) from.hand mid.hand at.hand first.number second.gates
         second.log first.begins second.begins;
   }
 
@@ -77,16 +77,16 @@ module _ (laws : TurnLaws) (shared : Shared) (script : Script) (number upto : �
     own-new = laws.own shared new.hand stays.is_hand
 
     -- nothing was begun
-    went-quiet : BeginsNone old.hand new.hand → IsBeginningOf (log_of old.client) (log_of new.client) → Went script number old new
+    went-quiet : BeginsNone old.hand new.hand → IsBeginningOf (log_of_client old.client) (log_of_client new.client) → Went script number old new
     went-quiet none on = record {
       number = none.number;
       gates = none.gates;
       log = on;
-      begins = quiet script number (log_of new.client) old.hand new.hand none own-old own-new;
+      begins = quiet script number (log_of_client new.client) old.hand new.hand none own-old own-new;
     }
 
-    state : old.client.session ≡ session_of (requests_of_session script number) (log_of old.client)
-    state = keeps.at_end.state ∙ ap (λ (rs : List ℕ). session_of rs (log_of old.client)) keeps.requests
+    state : old.client.session ≡ session_of (requests_of_session script number) (log_of_client old.client)
+    state = keeps.at_end.state ∙ ap (λ (rs : List ℕ). session_of rs (log_of_client old.client)) keeps.requests
 
     -- the session's next request is one of its own
     its-session : (r : ℕ) (asked : Request) → next_request old.client.session ≡ Some r → request_at script r ≡ Some asked
@@ -100,15 +100,15 @@ module _ (laws : TurnLaws) (shared : Shared) (script : Script) (number upto : �
 
     -- a transaction was begun, judged and sent
     module _ (does : DoesChange shared script number upto old new) where
-      abbrev on-change : IsBeginningOf (log_of old.client) (log_of new.client)
+      abbrev on-change : IsBeginningOf (log_of_client old.client) (log_of_client new.client)
       on-change = (
         begun_entry number does.r does.stamp ∷ replied_entry number does.r ∷ [],
-        does.log ∙ append_assoc (log_of old.client) (begun_entry number does.r does.stamp ∷ []) (replied_entry number does.r ∷ []),
+        does.log ∙ append_assoc (log_of_client old.client) (begun_entry number does.r does.stamp ∷ []) (replied_entry number does.r ∷ []),
       )
 
-      change-turn : IsBegunInTurn script number (log_of new.client) is_change does.asked.gate does.transacts.before does.r does.stamp
+      change-turn : IsBegunInTurn script number (log_of_client new.client) is_change does.asked.gate does.transacts.before does.r does.stamp
       change-turn = record {
-        then = log_of old.client;
+        then = log_of_client old.client;
         on = on-change;
         next = sym (ap next_request state) ∙ does.next.turn.next;
         asked = does.asked;
@@ -126,7 +126,7 @@ module _ (laws : TurnLaws) (shared : Shared) (script : Script) (number upto : �
       went-change : Went script number old new
       went-change =
           let did = does.transacts in
-          let log = log_of new.client in
+          let log = log_of_client new.client in
           let own_begun = own-gates did.begun did.begun_seen in
           let own_judged = own-gates did.judged did.judged_seen in
           let judges = none-elsewhere did.begun did.judged did.judges.was.number did.judges.was.more.gates
@@ -149,12 +149,12 @@ module _ (laws : TurnLaws) (shared : Shared) (script : Script) (number upto : �
 
     -- a program was begun
     module _ (does : DoesStart shared script number upto old new) where
-      abbrev on-start : IsBeginningOf (log_of old.client) (log_of new.client)
+      abbrev on-start : IsBeginningOf (log_of_client old.client) (log_of_client new.client)
       on-start = (begun_entry number does.r does.stamp ∷ [], does.log)
 
-      start-turn : IsBegunInTurn script number (log_of new.client) is_look does.asked.gate does.starts.before does.r does.stamp
+      start-turn : IsBegunInTurn script number (log_of_client new.client) is_look does.asked.gate does.starts.before does.r does.stamp
       start-turn = record {
-        then = log_of old.client;
+        then = log_of_client old.client;
         on = on-start;
         next = sym (ap next_request state) ∙ does.next.turn.next;
         asked = does.asked;
@@ -174,12 +174,12 @@ module _ (laws : TurnLaws) (shared : Shared) (script : Script) (number upto : �
         number = does.starts.begins.number;
         gates = does.starts.begins.more.gates;
         log = on-start;
-        begins = begun-one script number (log_of new.client) old.hand new.hand does.starts.begins.number own-old own-new does.asked.gate
+        begins = begun-one script number (log_of_client new.client) old.hand new.hand does.starts.begins.number own-old own-new does.asked.gate
             does.starts.before (BeganProgram does.r does.stamp) does.starts.begins start-turn;
       }
 
-    same-log : log_of new.client ≡ log_of old.client → IsBeginningOf (log_of old.client) (log_of new.client)
-    same-log same = ([], same ∙ sym (append-nil (log_of old.client)))
+    same-log : log_of_client new.client ≡ log_of_client old.client → IsBeginningOf (log_of_client old.client) (log_of_client new.client)
+    same-log same = ([], same ∙ sym (append-nil (log_of_client old.client)))
 
     -- one thing was done
     went-one : DoesOneCall shared script number upto old new → Went script number old new

@@ -37,11 +37,11 @@ use Rattle.weave_entries.specs.declared.gate_log.GateEntry.{GateEntry}
 use Rattle.weave_entries.specs.declared.store_log.StoreEntry.{StoreEntry}
 use Rattle.weave_entries.specs.StoreReplay.{Judgement, judged_by, judgement_of, judgements_of}
 use Rattle.hands_account.proofs.Once.{tx-request}
-use Rattle.seen_logs.specs.Seen.{AreLegal, since, without_sessions}
+use Rattle.seen_logs.specs.Seen.{AreLegal, entries_since, without_sessions}
 use Rattle.weaver_hands.specs.Programs.{own_reads}
 use Rattle.weaver_workers.specs.Keeping.{KeepsClient}
 use Rattle.workers_account.specs.Visits.{IsReplyByJudgement, IsReplyByReads}
-use Rattle.weave_entries.specs.GateReplay.{Begun, begun_by, begun_in, ended_by, program_by, programs_of, tx_by}
+use Rattle.weave_entries.specs.GateReplay.{BegunRequest, begun_by, begun_in, ended_by, program_by, programs_of, tx_by}
 use Rattle.weave_entries.specs.SessionReplay.{IsSessionLog, SessionState, begins_in, has_reply_in, replied_in, reply_by, session_after, session_of, session_stamp_of}
 use Rattle.weave_entries.specs.ShardReplay.{Visit, visit_by, visits_of}
 use Rattle.weave_account.specs.declared.account.Account.{Account}
@@ -54,8 +54,8 @@ use Rattle.hands_account.proofs.ByHands.{by-author, start-within}
 use Rattle.hands_account.proofs.Places.{has-on}
 use Rattle.weaver_core.specs.declared.client.Client.{Client}
 use Rattle.weaver_core.specs.declared.walks.Running.{Running}
-use Rattle.weaver_core.specs.Clients.{SessionValues, log_of, requests_in}
-use Rattle.weaver_core.specs.Splitting.{AreRepliesByLog, AreValuesByLog, IsClientByLog, IsRunningByLog, begun_by as waiting_by, program_waiting, waiting_in}
+use Rattle.weaver_core.specs.Sessions.{SessionValues, log_of_client, requests_in}
+use Rattle.weaver_core.specs.Splitting.{AreRepliesByLog, AreValuesByLog, IsClientByLog, IsRunningByLog, begun_by_session as waiting_by, program_waiting, waiting_in}
 use Rattle.weaver_core.specs.Staying.{StayLaws}
 use Rattle.weaver_core.specs.Walks.{HasReadAll, IsLookAt}
 use Rattle.weaver_core.proofs.ProgramsStay.{StaysAt}
@@ -144,7 +144,7 @@ module _ (laws : PhaseLaws) (stay : StayLaws) (shared : Shared) (script : Script
       ∙ append-nil (filter p old)
 
   -- a request that had its reply at the start was begun by no hand since
-  pub replied-before : (t r : ℕ) → IsTrue (has_reply_in r (session_log start t)) → (begun : Begun) × Contains (all_begun start) begun × (begun.request ≡ r)
+  pub replied-before : (t r : ℕ) → IsTrue (has_reply_in r (session_log start t)) → (begun : BegunRequest) × Contains (all_begun start) begun × (begun.request ≡ r)
   replied-before t r replied =
       let ended = all-ended start r (replied-ended script start run.at_start.is_account r t replied) in
       let log = gate_log start ended.0 in
@@ -159,7 +159,7 @@ module _ (laws : PhaseLaws) (stay : StayLaws) (shared : Shared) (script : Script
         before.2,
       )
 
-  not-since : (r : ℕ) (begun : Begun) → Contains (all_begun start) begun → begun.request ≡ r → (author : ℕ)
+  not-since : (r : ℕ) (begun : BegunRequest) → Contains (all_begun start) begun → begun.request ≡ r → (author : ℕ)
       → BeganSince laws shared script upto start was is hands run closed end r author → ⊥
   not-since r begun there same author since =
       begun-new laws shared script upto start was is hands run closed end since.hand since.h since.home since.begun since.there begun there
@@ -211,7 +211,7 @@ module _ (laws : PhaseLaws) (stay : StayLaws) (shared : Shared) (script : Script
           ∙ ap (session_log closed) sessions ∙ same ∙ ap (session_log start) (sym sessions) ∙ sym (append-nil (session_log start one.session))) in
           has_none _ (subst (λ (l : List SessionEntry). Contains (begins_in l) (since.begun.request, since.begun.stamp)) nothing one.logged)
 
-  values-left : (t : ℕ) (client : Client) → session_log start t ≡ log_of client → session_log closed t ≡ session_log start t
+  values-left : (t : ℕ) (client : Client) → session_log start t ≡ log_of_client client → session_log closed t ≡ session_log start t
       → IsClientByLog script start client → IsClientByLog script closed client
   values-left t client log-is same by_log =
       let values : SessionValues = record { running = client.running; replies = client.replies.items } in
@@ -232,7 +232,7 @@ module _ (laws : PhaseLaws) (stay : StayLaws) (shared : Shared) (script : Script
     client = left.part.has.on.left
 
     abbrev log : List SessionEntry
-    log = log_of client
+    log = log_of_client client
 
     abbrev gained : List SessionEntry
     gained = left.part.has.followed.in_step.gained.session
@@ -245,7 +245,7 @@ module _ (laws : PhaseLaws) (stay : StayLaws) (shared : Shared) (script : Script
     record IsProgramSince (r : ℕ) (stamp : Stamp) : Type 0 where
       home : ℕ
       begun : Contains (begun_in (part.gates home)) (record { author = hand_number hand; request = r; stamp = stamp })
-      program : Contains (programs_of (since (gate_log start home) (gate_log (seen_by hand) home))) (record { author = hand_number hand; request = r; stamp = stamp })
+      program : Contains (programs_of (entries_since (gate_log start home) (gate_log (seen_by hand) home))) (record { author = hand_number hand; request = r; stamp = stamp })
 
     no-change : (work : Work) (program : Program) → work ≡ Look program → IsTrue (is_change work) → ⊥
     no-change work program is changes = let f : false ≡ true = ap is_change (sym is) ∙ changes in cc
@@ -254,7 +254,7 @@ module _ (laws : PhaseLaws) (stay : StayLaws) (shared : Shared) (script : Script
     program-since r stamp there program look =
         let step = left.part.has.followed.in_step in
         let home = look.request.gate in
-        let begun : Begun = record { author = hand_number hand; request = r; stamp = stamp } in
+        let begun : BegunRequest = record { author = hand_number hand; request = r; stamp = stamp } in
         let at_gate = subst (λ (o : Option Request). IsSomeAnd o (λ (request : Request). Contains (begun_in (step.gained.gates request.gate))
         (record { author = hand_number part.from; request = r; stamp = stamp }))) look.request_is (step.in_step.at_gate r stamp there) in
         let in_part = subst (λ (n : ℕ). Contains (begun_in (part.gates home)) (record { author = n; request = r; stamp = stamp })) part.number_is
@@ -291,7 +291,7 @@ module _ (laws : PhaseLaws) (stay : StayLaws) (shared : Shared) (script : Script
     }
 
     -- such a program has read in the closed logs what the hand's visits read
-    reads-are : (r : ℕ) (stamp : Stamp) (home : ℕ) → Contains (programs_of (since (gate_log start home) (gate_log (seen_by hand) home))) (record { author = hand_number hand; request = r; stamp = stamp })
+    reads-are : (r : ℕ) (stamp : Stamp) (home : ℕ) → Contains (programs_of (entries_since (gate_log start home) (gate_log (seen_by hand) home))) (record { author = hand_number hand; request = r; stamp = stamp })
         → own_reads hand r ≡ reads_of closed r
     reads-are r stamp home program =
         let number = run.by_number hand h in
@@ -299,7 +299,7 @@ module _ (laws : PhaseLaws) (stay : StayLaws) (shared : Shared) (script : Script
         let mine = all-own laws shared script upto start was is hands run closed end hand h home r stamp in_part in
         let theirs = laws.reads_closed script.gates script.shards (hands_of shared) (without_sessions start) (seen_by_number hands) (without_sessions closed)
         few legal-apart end.of_hands account.gatekeepers.once (hand_number hand) home r stamp number.0
-        (subst (λ (a : Account). Contains (programs_of (since (gate_log start home) (gate_log a home))) (record { author = hand_number hand; request = r; stamp = stamp })) (sym number.1) program) in
+        (subst (λ (a : Account). Contains (programs_of (entries_since (gate_log start home) (gate_log a home))) (record { author = hand_number hand; request = r; stamp = stamp })) (sym number.1) program) in
         mine ∙ ap (λ (a : Account). reads_of a r) (sym number.1) ∙ sym theirs
 
     -- Replies
@@ -440,7 +440,7 @@ module _ (laws : PhaseLaws) (stay : StayLaws) (shared : Shared) (script : Script
         let home = one.stamp.home in
         let requests : for.look.request ≡ look.request = same_Some for.look.request look.request (sym for.look.request_is ∙ look.request_is) in
         let works : Look (any_of one.walk) ≡ Look program = sym for.look.work_is ∙ ap (λ (q : Request). q.work) requests ∙ look.work_is in
-        let began = subst (λ (a : Account). Contains (programs_of (since (gate_log a home) (gate_log (seen_by hand) home)))
+        let began = subst (λ (a : Account). Contains (programs_of (entries_since (gate_log a home) (gate_log (seen_by hand) home)))
         (record { author = hand_number hand; request = one.request; stamp = one.stamp })) run.at_start.start_is for.runs.begun in
         record {
           program_is = cc;
@@ -472,5 +472,6 @@ module _ (laws : PhaseLaws) (stay : StayLaws) (shared : Shared) (script : Script
             (followed-by-log t one.0 one.1 (left-log laws shared script upto start was is hands run closed end t one.0 one.1 one.2))
       ]
 
+  -- each client's values after the phase are those of its log in the closed logs
   pub clients-by-log : (client : Client) → Contains is client → IsClientByLog script closed client
   clients-by-log client has = at-place has.0 client (slice_get-get_or is has.0 client has.1 ∙ ap Some has.2)

@@ -34,6 +34,7 @@ module _ (laws : PhaseLaws) (shared : Shared) (script : Script) (upto : ℕ) (st
     finishes = finishes laws shared script upto start was is hands run closed end hand h;
   }
 
+  -- the script was run by the hands from the start to the closed logs
   pub run-by-hands : IsRunByHands script (hands_of shared) start (seen_by_number hands) closed
   run-by-hands = record {
     at_start = run.at_start.is_account;
@@ -50,5 +51,6 @@ module _ (laws : PhaseLaws) (shared : Shared) (script : Script) (upto : ℕ) (st
     sessions = sessions-kept laws shared script upto start was is hands run closed end;
   }
 
+  -- the closed logs are an account of the script
   pub closed-account : IsAccount script closed
   closed-account = laws.account script (hands_of shared) start (seen_by_number hands) closed run.at_start.limits end.legal end.of_hands run-by-hands

@@ -21,7 +21,7 @@ use Rattle.weave_entries.specs.declared.session_log.SessionEntry.{SessionEntry}
 use Rattle.weave_entries.specs.declared.session_log.SessionDeed.{SessionDeed}
 use Rattle.weave_entries.specs.declared.session_log.SessionDeed.TheVariants as session
 use Rattle.weave_entries.specs.Logs.{AtEachEntry}
-use Rattle.weave_entries.specs.GateReplay.{Begun, begun_by, begun_in, ended_by, ended_in, program_by, tx_by}
+use Rattle.weave_entries.specs.GateReplay.{BegunRequest, begun_by, begun_in, ended_by, ended_in, program_by, tx_by}
 use Rattle.weave_entries.specs.GateRules.{EndsAs}
 use Rattle.weave_entries.specs.SessionReplay.{begins_in, has_reply_in, replied_in, reply_by}
 use Rattle.weave_account.specs.declared.account.Account.{Account}
@@ -46,6 +46,7 @@ replied-on log more r h =
     subst (λ (rs : List ℕ). Contains rs r) (sym (flat_map-append (λ (e : SessionEntry). reply_by e.deed) log more))
     (Contains-append_left (replied_in log) (replied_in more) r h)
 
+-- what has its reply in the entries after a log has it in the whole
 pub replied-later : (log more : List SessionEntry) (r : ℕ) → Contains (replied_in more) r → Contains (replied_in (log ++ more)) r
 replied-later log more r h =
     subst (λ (rs : List ℕ). Contains rs r) (sym (flat_map-append (λ (e : SessionEntry). reply_by e.deed) log more))
@@ -81,6 +82,7 @@ module _ (laws : PhaseLaws) (shared : Shared) (script : Script) (upto : ℕ) (st
     pub request_is : request_at script r ≡ Some request
     pub session_is : request.session ≡ session
 
+  -- what a hand's part ended at a gatekeeper has its reply in the log of the session that the hand followed
   pub ended-in-part : (hand : Hand) (h : Contains hands hand) (home r : ℕ)
       → Contains (ended_in ((part-of laws shared script upto start was is hands run hand h).gates home)) r → EndedInPart r hand h
   ended-in-part hand h home r there =

@@ -20,7 +20,7 @@ use Rattle.weave_entries.specs.declared.gate_log.GateDeed.{GateDeed}
 use Rattle.weave_entries.specs.declared.gate_log.GateDeed.TheVariants.{BeganTx, BeganProgram, Sent, Nop, Heard, Raised, Finished}
 use Rattle.weave_entries.specs.declared.session_log.SessionEntry.{SessionEntry}
 use Rattle.weave_entries.specs.Logs.{AtEachEntry}
-use Rattle.weave_entries.specs.GateReplay.{Begun, begun_in, begun_stamp, clock_of}
+use Rattle.weave_entries.specs.GateReplay.{BegunRequest, begun_in, begun_stamp, clock_of}
 use Rattle.weave_entries.specs.SessionReplay.{begins_in, next_request, session_of}
 use Rattle.weave_entries.specs.StoreReplay.{Judgement, judgements_of}
 use Rattle.weave_account.specs.declared.account.Account.{Account}
@@ -33,7 +33,7 @@ use Rattle.hands_account.specs.Runs.{WasGiven, own_begun, own_judgements}
 use Rattle.hands_account.proofs.Places.{pairs-append}
 use Rattle.seen_logs.specs.Seen.{IsOwn}
 use Rattle.weaver_core.specs.declared.client.Client.{Client}
-use Rattle.weaver_core.specs.Clients.{log_of}
+use Rattle.weaver_core.specs.Sessions.{log_of_client}
 use Rattle.weaver_locks.specs.declared.hand.Hand.{Hand}
 use Rattle.weaver_locks.specs.declared.shared.Shared.{Shared}
 use Rattle.weaver_locks.specs.Hands.{hand_number, seen_by}
@@ -105,6 +105,7 @@ module _ (laws : PhaseLaws) (shared : Shared) (script : Script) (upto : ℕ) (st
     abbrev part : Part shared script upto was is run.hand_of hand
     part = part-of laws shared script upto start was is hands run hand h
 
+    -- each request that the hand began since the start, it began as the script and the closed logs say
     pub begins : (home : ℕ) → AtEachEntry (λ before (entry : GateEntry). IsOwn number (gate_log start home) before entry.author
         → BeginsAs script closed home before entry.deed) (gate_log (seen_by hand) home)
     begins home before entry after at own =
@@ -118,13 +119,13 @@ module _ (laws : PhaseLaws) (shared : Shared) (script : Script) (upto : ℕ) (st
                 subst (λ (a : Account). length (gate_log a home) ≤ length before)
                     (sym (seen-start laws shared script upto start was is hands run hand part)) own.1,
               ) in
-              deed-begins on.0 (log_of on.2.on.left) left.is_log home before entry.deed (on.2.followed.begins home before entry after at own-from)
+              deed-begins on.0 (log_of_client on.2.on.left) left.is_log home before entry.deed (on.2.followed.begins home before entry after at own-from)
         ]
 
     -- What began is new
 
     -- what the hand's part began had not begun at the start
-    pub begun-new : (home : ℕ) (begun : Begun) → Contains (begun_in (part.gates home)) begun → (other : Begun) → Contains (all_begun start) other → other.request ≢ begun.request
+    pub begun-new : (home : ℕ) (begun : BegunRequest) → Contains (begun_in (part.gates home)) begun → (other : BegunRequest) → Contains (all_begun start) other → other.request ≢ begun.request
     begun-new home begun there other before same =
         let one = begun-in-part laws shared script upto start was is hands run closed end hand h home begun there in
         let t = one.session in
@@ -138,26 +139,27 @@ module _ (laws : PhaseLaws) (shared : Shared) (script : Script) (upto : ℕ) (st
         let less = later-differs (session_log start t) gained rise other.request begun.request other.stamp begun.stamp logged one.logged in
         omega (arith, less, same)
 
-    begun-rise : (home : ℕ) → AllPairs (λ (a b : Begun). a.request < b.request) (begun_in (part.gates home))
+    begun-rise : (home : ℕ) → AllPairs (λ (a b : BegunRequest). a.request < b.request) (begun_in (part.gates home))
     begun-rise home =
         elim part.did [
           | inl told ↦ nothing (begun_in (part.gates home)) (λ b there. none-begun part.gates told.tells home b there)
-          | inr on ↦ subst (λ (g : ℕ → List GateEntry). AllPairs (λ (a b : Begun). a.request < b.request) (begun_in (g home))) on.2.gates_are
+          | inr on ↦ subst (λ (g : ℕ → List GateEntry). AllPairs (λ (a b : BegunRequest). a.request < b.request) (begun_in (g home))) on.2.gates_are
               (on.2.followed.in_step.begun_rise home)
         ]
       where
-        nothing : (bs : List Begun) → ((b : Begun) → Contains bs b → ⊥) → AllPairs (λ (a b : Begun). a.request < b.request) bs
-        nothing [] none = pairs_none (λ (a b : Begun). a.request < b.request)
+        nothing : (bs : List BegunRequest) → ((b : BegunRequest) → Contains bs b → ⊥) → AllPairs (λ (a b : BegunRequest). a.request < b.request) bs
+        nothing [] none = pairs_none (λ (a b : BegunRequest). a.request < b.request)
         nothing (b ∷ bs) none = absurd (none b (0, omega arith, refl))
 
-    pub once : (home : ℕ) → AllPairs (λ (a b : Begun). a.request ≢ b.request) (begun_in (gate_log start home) ++ own_begun number start (seen_by hand) home)
+    -- at each gatekeeper, what was begun at the start and what the hand began since are all different requests
+    pub once : (home : ℕ) → AllPairs (λ (a b : BegunRequest). a.request ≢ b.request) (begun_in (gate_log start home) ++ own_begun number start (seen_by hand) home)
     once home =
-        let R = λ (a b : Begun). a.request ≢ b.request in
-        subst (λ (bs : List Begun). AllPairs R (begun_in (gate_log start home) ++ bs))
+        let R = λ (a b : BegunRequest). a.request ≢ b.request in
+        subst (λ (bs : List BegunRequest). AllPairs R (begun_in (gate_log start home) ++ bs))
         (sym (own-begun-is laws shared script upto start was is hands run hand part home))
         (pairs-append R (begun_in (gate_log start home)) (begun_in (part.gates home))
         (list-within R begun_in refl start.gates run.at_start.is_account.gatekeepers.once home)
-        (pairs-weaker (λ (a b : Begun). a.request < b.request) R (λ a b less same. omega (arith, less, same)) (begun_in (part.gates home)) (begun-rise home))
+        (pairs-weaker (λ (a b : BegunRequest). a.request < b.request) R (λ a b less same. omega (arith, less, same)) (begun_in (part.gates home)) (begun-rise home))
         (λ a b before since. begun-new home b since a (all-has start home a before)))
 
     -- Judgements
@@ -184,11 +186,13 @@ module _ (laws : PhaseLaws) (shared : Shared) (script : Script) (upto : ℕ) (st
               )
         ]
 
+    -- the hand judged, for each request, the operations that the script gives it
     pub work : (judged : Judgement) → Contains (own_judgements number start (seen_by hand)) judged
         → IsSomeAnd (request_at script judged.request) (λ (request : Request). request.work ≡ Change judged.ops)
     work judged there =
         (judged-part judged (subst (λ js. Contains js judged) (own-judgements-are laws shared script upto start was is hands run hand part) there)).2
 
+    -- of two requests of one session the hand judged the earlier one first
     pub in-turn : AllPairs (λ (a b : Judgement). InTurn script a.request b.request) (own_judgements number start (seen_by hand))
     in-turn =
         let R = λ (a b : Judgement). a.request < b.request in
@@ -208,6 +212,7 @@ module _ (laws : PhaseLaws) (shared : Shared) (script : Script) (upto : ℕ) (st
         let same = same_Some request other (sym at ∙ is) in
         ap (λ (q : Request). run.hand_of q.session) (sym same) ∙ ap run.hand_of of ∙ hand-is
 
+    -- what the hand began or judged since the start is of its own sessions
     pub own-sessions : (r : ℕ) → WasGiven number start (seen_by hand) r → ForSome (request_at script r) (λ (request : Request). run.hand_of request.session ≡ number)
     own-sessions r (inl given) =
         let begun = given.1 in

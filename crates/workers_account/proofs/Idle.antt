@@ -8,7 +8,7 @@ use Rattle.weave_data.proofs.Members.{any_from, cut_at, filter_has, flat_has, ha
 use Rattle.weave_data.proofs.Ordered.{pairs_cases}
 use Rattle.program_defs.specs.declared.script.Script.{Script}
 use Rattle.weave_entries.specs.declared.gate_log.GateEntry.{GateEntry}
-use Rattle.weave_entries.specs.GateReplay.{Begun, begun_by, begun_in, ended_by, ended_in, program_by, tx_by}
+use Rattle.weave_entries.specs.GateReplay.{BegunRequest, begun_by, begun_in, ended_by, ended_in, program_by, tx_by}
 use Rattle.weave_account.specs.declared.account.Account.{Account}
 use Rattle.weave_account.specs.Account.{all_begun, gate_log}
 use Rattle.seen_logs.specs.Seen.{without_sessions}
@@ -40,29 +40,30 @@ module _ (laws : PhaseLaws) (script : Script) (start : Account) (shared : Shared
   made-is : (home : ℕ) → gate_log (made_by hand) home ≡ filter own (gate_log start home)
   made-is home = laws.own_at_gate shared hand is_hand home ∙ ap (λ (a : Account). filter own (gate_log a home)) seen-is
 
+  -- what the hand made at a gatekeeper was there at the start, with its number
   pub made-there : (home : ℕ) (entry : GateEntry) → Contains (gate_log (made_by hand) home) entry
       → Contains (gate_log start home) entry × IsTrue (own entry)
   made-there home entry h =
       filter_has own (gate_log start home) entry (subst (λ (l : List GateEntry). Contains l entry) (made-is home) h)
 
   -- what the hand began was begun at the start
-  pub begun-there : (home : ℕ) (begun : Begun) → Contains (begun_in (gate_log (made_by hand) home)) begun
+  pub begun-there : (home : ℕ) (begun : BegunRequest) → Contains (begun_in (gate_log (made_by hand) home)) begun
       → Contains (begun_in (gate_log start home)) begun
   begun-there home begun h =
       let from = flat_has (λ (e : GateEntry). begun_by e.author e.deed) (gate_log (made_by hand) home) begun h in
       has_flat (λ (e : GateEntry). begun_by e.author e.deed) (gate_log start home) from.0 begun (made-there home from.0 from.1).0 from.2
 
   -- a request has one begin
-  one-begin : (a b : Begun) → Contains (all_begun start) a → Contains (all_begun start) b → a.request ≡ b.request → a ≡ b
+  one-begin : (a b : BegunRequest) → Contains (all_begun start) a → Contains (all_begun start) b → a.request ≡ b.request → a ≡ b
   one-begin a b has-a has-b same =
-      elim (pairs_cases (λ (x y : Begun). x.request ≢ y.request) (all_begun start) at-start.is_account.gatekeepers.once a b has-a has-b) [
+      elim (pairs_cases (λ (x y : BegunRequest). x.request ≢ y.request) (all_begun start) at-start.is_account.gatekeepers.once a b has-a has-b) [
         | inl is ↦ is
         | inr (inl differs) ↦ absurd (differs same)
         | inr (inr differs) ↦ absurd (differs (sym same))
       ]
 
   -- the hand itself ended what it began
-  ended-by-hand : (home : ℕ) (begun : Begun) → Contains (begun_in (gate_log start home)) begun → begun.author ≡ hand_number hand
+  ended-by-hand : (home : ℕ) (begun : BegunRequest) → Contains (begun_in (gate_log start home)) begun → begun.author ≡ hand_number hand
       → (entry : GateEntry) → Contains (gate_log start home) entry → Contains (ended_by entry.deed) begun.request → IsTrue (own entry)
   ended-by-hand home begun there mine entry at ends =
       let log = gate_log start home in
@@ -73,8 +74,9 @@ module _ (laws : PhaseLaws) (script : Script) (start : Account) (shared : Shared
       let earlier = has_flat (λ (e : GateEntry). begun_by e.author e.deed) log from.0 before.0
       (has-on cut.before log (entry ∷ cut.after, cut.is) from.0 from.1) from.2 in
       let same = one-begin before.0 begun (all-has start home before.0 earlier) (all-has start home begun there) before.2 in
-      eq-eqb entry.author (hand_number hand) (sym before.3 ∙ ap (λ (b : Begun). b.author) same ∙ mine)
+      eq-eqb entry.author (hand_number hand) (sym before.3 ∙ ap (λ (b : BegunRequest). b.author) same ∙ mine)
 
+  -- no transaction of the hand is in flight
   pub landed : HasLanded hand
   landed home begun there =
       let log = gate_log start home in

@@ -8,7 +8,7 @@ use Rattle.std.proofs.lemmas.List.Elements.{Contains-append_right}
 use Rattle.weave_data.proofs.Members.{any_from, any_has, filter_has, flat_has, has_flat}
 use Rattle.program_defs.specs.declared.script.Script.{Script}
 use Rattle.weave_entries.specs.declared.gate_log.GateEntry.{GateEntry}
-use Rattle.weave_entries.specs.GateReplay.{Begun, ended_by, ended_in, flight_of, has_ended_in, tx_by, txs_of}
+use Rattle.weave_entries.specs.GateReplay.{BegunRequest, ended_by, ended_in, flight_of, has_ended_in, tx_by, txs_of}
 use Rattle.weave_account.specs.declared.account.Account.{Account}
 use Rattle.weave_account.specs.Account.{gate_log}
 use Rattle.weave_account.specs.IsAccount.{IsAccount}
@@ -31,7 +31,7 @@ ended-test log r test =
 
 -- a transaction of a phase's start was sent then
 pub sent-before : (laws : PhaseLaws) (script : Script) (start : Account) (shared : Shared) (clients : List Client) → IsPhaseStart script start shared clients
-    → (home : ℕ) (tx : Begun) → Contains (txs_of (gate_log start home)) tx → Contains (ended_in (gate_log start home)) tx.request
+    → (home : ℕ) (tx : BegunRequest) → Contains (txs_of (gate_log start home)) tx → Contains (ended_in (gate_log start home)) tx.request
 sent-before laws script start shared clients at-start home tx there =
     let log = gate_log start home in
     elim (cases_Bool (has_ended_in tx.request log)) [
@@ -57,7 +57,7 @@ module _ (laws : PhaseLaws) (shared : Shared) (script : Script) (upto : ℕ) (st
       has_flat (λ (e : GateEntry). ended_by e.deed) (gate_log closed home) from.0 r (within from.0 from.1) from.2
 
   -- each transaction was sent
-  all-sent : (home : ℕ) (tx : Begun) → Contains (txs_of (gate_log closed home)) tx → Contains (ended_in (gate_log closed home)) tx.request
+  all-sent : (home : ℕ) (tx : BegunRequest) → Contains (txs_of (gate_log closed home)) tx → Contains (ended_in (gate_log closed home)) tx.request
   all-sent home tx there =
       let from = flat_has (λ (e : GateEntry). tx_by e.author e.deed) (gate_log closed home) tx there in
       elim (gate-entry laws shared script upto start was is hands run closed end home from.0 from.1) [
@@ -81,10 +81,11 @@ module _ (laws : PhaseLaws) (shared : Shared) (script : Script) (upto : ℕ) (st
             (ended-test log tx.request test)
       ]
 
+  -- if the closed logs are an account, no transaction is in flight in them
   pub none-in-flight : NoneInFlight closed
   none-in-flight home = by (flight_of (gate_log closed home)) refl
     where
-      by : (o : Option Begun) → flight_of (gate_log closed home) ≡ o → flight_of (gate_log closed home) ≡ None
+      by : (o : Option BegunRequest) → flight_of (gate_log closed home) ≡ o → flight_of (gate_log closed home) ≡ None
       by None is = is
       by (Some tx) is =
           let flies = (laws.flights home script.shards (gate_log closed home) (account.gatekeepers.logs home)

@@ -18,15 +18,15 @@ use Rattle.report_rules.specs.Lookups.{request_at}
 use Rattle.weave_entries.specs.declared.gate_log.GateEntry.{GateEntry}
 use Rattle.weave_entries.specs.declared.session_log.SessionEntry.{SessionEntry}
 use Rattle.weave_entries.specs.declared.store_log.StoreEntry.{StoreEntry}
-use Rattle.weave_entries.specs.GateReplay.{Begun, begun_by, begun_in, ended_by}
+use Rattle.weave_entries.specs.GateReplay.{BegunRequest, begun_by, begun_in, ended_by}
 use Rattle.weave_entries.specs.SessionReplay.{begin_by, begins_in, reply_by, session_of}
 use Rattle.weave_entries.specs.StoreReplay.{Judgement, judged_by, judgements_of}
 use Rattle.weave_account.specs.Account.{gate_log}
 use Rattle.weaver_core.specs.declared.client.Client.{Client}
-use Rattle.weaver_core.specs.Clients.{log_of, IsClientOf}
+use Rattle.weaver_core.specs.Sessions.{log_of_client, IsClientOf}
 use Rattle.weaver_locks.specs.Hands.{made_by}
 use Rattle.weaver_workers.specs.ClientWork.{Stand}
-use Rattle.workers_account.specs.Gained.{AreInStep, Gained, IsInStep, IsJudgedFor}
+use Rattle.workers_account.specs.Gained.{AreInStep, GainedEntries, IsInStep, IsJudgedFor}
 use Rattle.workers_account.specs.InStepLaws.{InStepLaws}
 use Rattle.workers_account.proofs.StepGains.{Rises}
 
@@ -46,7 +46,7 @@ module _ {A B : Type 0} (f : A → List B) (xs ys : List A) where
   second-made y h = subst (λ (l : List B). Contains l y) (sym (flat_map-append f xs ys)) (Contains-append_right (flat_map f xs) (flat_map f ys) y h)
 
 -- what an entry begins
-abbrev pub begun_of : GateEntry → List Begun
+abbrev pub begun_of : GateEntry → List BegunRequest
 begun_of entry = begun_by entry.author entry.deed
 
 -- what an entry ends
@@ -153,16 +153,16 @@ Less a b = a < b
 
 module _ (laws : InStepLaws) (number : ℕ) (client : Client) (at_end : IsClientOf number client.session client.log.items) where
   -- they rise, since they are the first ones of the session
-  numbers-rise : AllPairs Less (numbers (log_of client))
+  numbers-rise : AllPairs Less (numbers (log_of_client client))
   numbers-rise =
       let requests = client.session.requests in
-      let count = (session_of requests (log_of client)).begun in
-      subst (AllPairs Less) (sym (laws.begun_first number requests (log_of client) at_end.right))
+      let count = (session_of requests (log_of_client client)).begun in
+      subst (AllPairs Less) (sym (laws.begun_first number requests (log_of_client client) at_end.right))
       (pairs_front Less (take count requests) (drop count requests)
       (subst (AllPairs Less) (sym (take-append-drop count requests)) at_end.rising))
 
   -- so of a log in two parts each request of the first is before each of the second
-  pub parts-precede : (old first second : List SessionEntry) → log_of client ≡ (old ++ first) ++ second → Precedes first second
+  pub parts-precede : (old first second : List SessionEntry) → log_of_client client ≡ (old ++ first) ++ second → Precedes first second
   parts-precede old first second is q r s t h k =
       pairs_across Less (numbers (old ++ first)) (numbers second) q r
       (subst (AllPairs Less) (ap numbers is ∙ ap (map (λ (begun : ℕ × Stamp). begun.0)) (flat_map-append begin_of (old ++ first) second)
@@ -174,7 +174,7 @@ module _ (laws : InStepLaws) (number : ℕ) (client : Client) (at_end : IsClient
 
 module _ (script : Script) (author upto : ℕ) (from mid at : Stand) where
   -- what was gained in two parts
-  abbrev pub both-gained : Gained from mid → Gained mid at → Gained from at
+  abbrev pub both-gained : GainedEntries from mid → GainedEntries mid at → GainedEntries from at
   both-gained first second = record {
     gates = λ home. first.gates home ++ second.gates home;
     at_gates = λ home. second.at_gates home ∙ ap (λ l. l ++ second.gates home) (first.at_gates home)
@@ -182,7 +182,7 @@ module _ (script : Script) (author upto : ℕ) (from mid at : Stand) where
     store = first.store ++ second.store;
     at_store = second.at_store ∙ ap (λ l. l ++ second.store) first.at_store ∙ append_assoc (made_by from.hand).store first.store second.store;
     session = first.session ++ second.session;
-    in_session = second.in_session ∙ ap (λ l. l ++ second.session) first.in_session ∙ append_assoc (log_of from.client) first.session second.session;
+    in_session = second.in_session ∙ ap (λ l. l ++ second.session) first.in_session ∙ append_assoc (log_of_client from.client) first.session second.session;
     replies = first.replies ++ second.replies;
     in_replies = second.in_replies ∙ ap (λ l. l ++ second.replies) first.in_replies
         ∙ append_assoc from.client.replies.items first.replies second.replies;
@@ -194,7 +194,7 @@ module _ (script : Script) (author upto : ℕ) (from mid at : Stand) where
   join-in-step laws number at_end first second =
       let was = first.gained in
       let now = second.gained in
-      let precedes : Precedes was.session now.session = parts-precede laws number at.client at_end (log_of from.client) was.session now.session
+      let precedes : Precedes was.session now.session = parts-precede laws number at.client at_end (log_of_client from.client) was.session now.session
       (now.in_session ∙ ap (λ l. l ++ now.session) was.in_session) in
       record {
         gained = both-gained was now;

@@ -36,6 +36,7 @@ module _ (laws : ReadyLaws) (script : Script) (start : Account) (gates : List Ga
         shard_logs = shard_logs;
       })
 
+  -- machines in order, whose logs are an account's and keep the rules, may be put behind locks
   pub may-start : MayStart gates store oracle shards
   may-start = record {
     some_gate = (let e = limits.some_gate in omega (arith, many, e));

@@ -14,7 +14,7 @@ use Rattle.weave_account.specs.GoesOn.{IsBeginningOf}
 use Rattle.weave_entries.specs.declared.session_log.SessionEntry.{SessionEntry}
 use Rattle.weave_entries.specs.SessionReplay.{begin_by, begins_in, has_reply_in, replied_in}
 use Rattle.weaver_core.specs.declared.client.Client.{Client}
-use Rattle.weaver_core.specs.Clients.{log_of, requests_in, IsClientOf, IsInTurn}
+use Rattle.weaver_core.specs.Sessions.{log_of_client, requests_in, IsClientOf, IsInTurn}
 use Rattle.weaver_locks.specs.declared.shared.Shared.{Shared}
 use Rattle.weaver_workers.specs.ClientWork.{begun_entry, replied_entry, DoesOneCall, Goes, HasReplies, Stand}
 use Rattle.weaver_workers.specs.Keeping.{KeepsClient}
@@ -29,23 +29,23 @@ BeginsWithin start upto gained = (r : ℕ) (stamp : Stamp) → Contains (begins_
 record GainsWithin (start upto : ℕ) (old new : Client) : Type 0 where
   requests : requests_in new ≡ requests_in old
   gained : List SessionEntry
-  log : log_of new ≡ log_of old ++ gained
+  log : log_of_client new ≡ log_of_client old ++ gained
   begins : BeginsWithin start upto gained
 
 module _ (laws : ReadLaws) (decided : (r : ℕ) (log : List SessionEntry) → IsTrue (has_reply_in r log) ↔ Contains (replied_in log) r) (shared : Shared) (script : Script) (number start upto : ℕ) where
   -- replies stay
-  still-replied : (old new : Client) → requests_in new ≡ requests_in old → IsBeginningOf (log_of old) (log_of new) → HasReplies start old
+  still-replied : (old new : Client) → requests_in new ≡ requests_in old → IsBeginningOf (log_of_client old) (log_of_client new) → HasReplies start old
       → HasReplies start new
   still-replied old new same on has r there less =
-      (decided r (log_of new)).1
-      (replied-on (log_of old) (log_of new) on r ((decided r (log_of old)).0 (has r (subst (λ (rs : List ℕ). Contains rs r) same there) less)))
+      (decided r (log_of_client new)).1
+      (replied-on (log_of_client old) (log_of_client new) on r ((decided r (log_of_client old)).0 (has r (subst (λ (rs : List ℕ). Contains rs r) same there) less)))
 
   -- the session's next request comes after those of earlier phases
-  next-is-later : (client : Client) → IsClientOf number client.session (log_of client) → HasReplies start client → (r : ℕ)
+  next-is-later : (client : Client) → IsClientOf number client.session (log_of_client client) → HasReplies start client → (r : ℕ)
       → IsInTurn client.session r → start ≤ r
   next-is-later client is has r turn = elim (cases_lt r start) [
-    | inl less ↦ absurd (next-unreplied laws number client.session (log_of client) is r turn
-        ((decided r (log_of client)).0 (has r (get-has client.session.requests client.session.begun r turn.next) less)))
+    | inl less ↦ absurd (next-unreplied laws number client.session (log_of_client client) is r turn
+        ((decided r (log_of_client client)).0 (has r (get-has client.session.requests client.session.begun r turn.next) less)))
     | inr over ↦ over
   ]
 
@@ -55,11 +55,11 @@ module _ (laws : ReadLaws) (decided : (r : ℕ) (log : List SessionEntry) → Is
       let same = ap (λ (b : ℕ × Stamp). b.0) (only (r, stamp) (q, at) (subst (λ (bs : List (ℕ × Stamp)). Contains bs (q, at)) is h)) in
       subst (λ (k : ℕ). (start ≤ k) × (k < upto)) same within
 
-  nothing-gained : (old new : Client) → requests_in new ≡ requests_in old → log_of new ≡ log_of old → GainsWithin start upto old new
+  nothing-gained : (old new : Client) → requests_in new ≡ requests_in old → log_of_client new ≡ log_of_client old → GainsWithin start upto old new
   nothing-gained old new requests log = record {
     requests = requests;
     gained = [];
-    log = log ∙ sym (append-nil (log_of old));
+    log = log ∙ sym (append-nil (log_of_client old));
     begins = λ r stamp h. absurd (has_none (r, stamp) h);
   }
 
@@ -69,7 +69,7 @@ module _ (laws : ReadLaws) (decided : (r : ℕ) (log : List SessionEntry) → Is
   one-gains old new keeps has (inl change) = record {
     requests = change.requests;
     gained = begun_entry number change.r change.stamp ∷ replied_entry number change.r ∷ [];
-    log = change.log ∙ append_assoc (log_of old.client) (begun_entry number change.r change.stamp ∷ []) (replied_entry number change.r ∷ []);
+    log = change.log ∙ append_assoc (log_of_client old.client) (begun_entry number change.r change.stamp ∷ []) (replied_entry number change.r ∷ []);
     begins = λ q at h. one-begin change.r q change.stamp at
         (begun_entry number change.r change.stamp ∷ replied_entry number change.r ∷ []) refl h
         (next-is-later old.client keeps.at_end has change.r change.next.turn, change.next.below);
@@ -96,7 +96,7 @@ module _ (laws : ReadLaws) (decided : (r : ℕ) (log : List SessionEntry) → Is
   then-gains old mid new first second = record {
     requests = second.requests ∙ first.requests;
     gained = first.gained ++ second.gained;
-    log = second.log ∙ (ap (λ (l : List SessionEntry). l ++ second.gained) first.log ∙ append_assoc (log_of old) first.gained second.gained);
+    log = second.log ∙ (ap (λ (l : List SessionEntry). l ++ second.gained) first.log ∙ append_assoc (log_of_client old) first.gained second.gained);
     begins = λ r stamp h. elim (Contains-append_cases (begins_in first.gained) (begins_in second.gained) (r, stamp)
         (subst (λ (bs : List (ℕ × Stamp)). Contains bs (r, stamp)) (flat_map-append (λ (e : SessionEntry). begin_by e.deed) first.gained second.gained) h)) [
           | inl early ↦ first.begins r stamp early
@@ -117,9 +117,9 @@ module _ (laws : ReadLaws) (decided : (r : ℕ) (log : List SessionEntry) → Is
   -- whatever the log is said to have gained
   pub begun-within : (path : List Stand) (from at : Stand) (gained : List SessionEntry)
       → KeepsClient shared script number from.hand from.client → HasReplies start from.client
-      → Goes shared script number upto from path at → log_of at.client ≡ log_of from.client ++ gained
+      → Goes shared script number upto from path at → log_of_client at.client ≡ log_of_client from.client ++ gained
       → (r : ℕ) (stamp : Stamp) → Contains (begins_in gained) (r, stamp) → (start ≤ r) × (r < upto)
   begun-within path from at gained keeps has went log r stamp h =
       let all = all-gain path from at keeps has went in
       all.begins r stamp (subst (λ (l : List SessionEntry). Contains (begins_in l) (r, stamp))
-      (append_cancel_left (log_of from.client) gained all.gained (sym log ∙ all.log)) h)
+      (append_cancel_left (log_of_client from.client) gained all.gained (sym log ∙ all.log)) h)

@@ -9,7 +9,7 @@ use Rattle.std.proofs.lemmas.List.Concat.{flat_map-append}
 use Rattle.std.proofs.lemmas.List.Elements.{Contains-append_cases, filter-append}
 use Rattle.std.proofs.lemmas.Option.{none-some, same_Some}
 use Rattle.weave_data.proofs.Members.{cut_at, flat_has, has_cut, has_filter, has_flat, has_none, has_read}
-use Rattle.vector_stamp.specs.Precedence.{Given}
+use Rattle.vector_stamp.specs.Precedence.{GivenPair}
 use Rattle.vector_stamp.specs.Settling.{SettledEntry}
 use Rattle.vector_stamp.specs.declared.clock.Stamp.{Stamp}
 use Rattle.program_defs.specs.declared.script.Request.{Request}
@@ -19,7 +19,7 @@ use Rattle.weave_entries.specs.declared.gate_log.GateEntry.{GateEntry}
 use Rattle.weave_entries.specs.declared.gate_log.GateDeed.{GateDeed}
 use Rattle.weave_entries.specs.declared.gate_log.GateDeed.TheVariants.{BeganTx, BeganProgram, Sent, Nop, Heard, Raised, Finished}
 use Rattle.weave_entries.specs.declared.oracle_log.OracleEntry.{OracleEntry}
-use Rattle.weave_entries.specs.GateReplay.{Begun, begun_by, begun_in}
+use Rattle.weave_entries.specs.GateReplay.{BegunRequest, begun_by, begun_in}
 use Rattle.weave_entries.specs.OracleReplay.{pairs_of_entry, pairs_of_log, settled_entry}
 use Rattle.weave_account.specs.declared.account.Account.{Account}
 use Rattle.weave_account.specs.Account.{all_begun, gate_log, pairs_in, session_log}
@@ -27,7 +27,7 @@ use Rattle.weave_account.specs.GoesOn.{IsBeginningOf}
 use Rattle.weave_account.specs.IsAccount.{IsAccount}
 use Rattle.step_rules.specs.Requests.{has_reply}
 use Rattle.hands_account.proofs.ByHands.{by-author, start-within}
-use Rattle.seen_logs.specs.Seen.{since, without_sessions}
+use Rattle.seen_logs.specs.Seen.{entries_since, without_sessions}
 use Rattle.weaver_core.specs.declared.client.Client.{Client}
 use Rattle.weaver_core.specs.Staying.{StayLaws}
 use Rattle.weaver_locks.specs.declared.hand.Hand.{Hand}
@@ -65,20 +65,20 @@ mapped-has {A} {B} f (x ∷ xs) y h = by (f x) refl h (mapped-has f xs y)
 -- the pairs of an entry put events before its later one
 entry-later : (entry : SettledEntry) (earlier later : Stamp) → Contains (pairs_of_entry entry) (earlier, later) → entry.later ≡ later
 entry-later entry earlier later h =
-    let given : Given = (earlier, later) in
-    let from = mapped-has (λ (place : ℕ). option_map {U = Given} (λ (event : Stamp). (event, entry.later)) (slice_get entry.earlier place)) entry.places given h in
+    let given : GivenPair = (earlier, later) in
+    let from = mapped-has (λ (place : ℕ). option_map {U = GivenPair} (λ (event : Stamp). (event, entry.later)) (slice_get entry.earlier place)) entry.places given h in
     by (slice_get entry.earlier from.0) from.1
   where
-    by : (o : Option Stamp) → option_map {U = Given} (λ (event : Stamp). (event, entry.later)) o ≡ Some (earlier, later) → entry.later ≡ later
-    by None at = let given : Given = (earlier, later) in absurd (none-some given at)
-    by (Some event) at = let one : Given = (event, entry.later) in let given : Given = (earlier, later) in ap (λ (pair : Given). pair.1) (same_Some one given at)
+    by : (o : Option Stamp) → option_map {U = GivenPair} (λ (event : Stamp). (event, entry.later)) o ≡ Some (earlier, later) → entry.later ≡ later
+    by None at = let given : GivenPair = (earlier, later) in absurd (none-some given at)
+    by (Some event) at = let one : GivenPair = (event, entry.later) in let given : GivenPair = (earlier, later) in ap (λ (pair : GivenPair). pair.1) (same_Some one given at)
 
 module _ (laws : PhaseLaws) (stay : StayLaws) (shared : Shared) (script : Script) (upto : ℕ) (start : Account) (was is : List Client) (hands : List Hand)
     (run : IsPhaseRun shared script upto start was is hands) (closed : Account) (end : IsClosedBy shared script start is hands closed)
     (account : IsAccount script closed) where
   -- Begins
 
-  deed-below : (hand : Hand) (h : Contains hands hand) (home : ℕ) (begun : Begun) → Contains (begun_in ((part-of laws shared script upto start was is hands run hand h).gates home)) begun
+  deed-below : (hand : Hand) (h : Contains hands hand) (home : ℕ) (begun : BegunRequest) → Contains (begun_in ((part-of laws shared script upto start was is hands run hand h).gates home)) begun
       → begun.request < upto
   deed-below hand h home begun there =
       let one = begun-in-part laws shared script upto start was is hands run closed end hand h home begun there in
@@ -129,6 +129,7 @@ module _ (laws : PhaseLaws) (stay : StayLaws) (shared : Shared) (script : Script
             (ap (λ (a : Account). gate_log a home) (sym one.seen_is) ∙ by.at) (sym one.number_is, by.own.1);
       }
 
+  -- what gatekeepers gained begins no request from the phase's end on, and raises no epoch
   pub gain-below : GainBelow upto start closed
   gain-below home =
       let more = gates-on laws shared script upto start was is hands run closed end home in
@@ -184,8 +185,8 @@ module _ (laws : PhaseLaws) (stay : StayLaws) (shared : Shared) (script : Script
     since-open stamp since-then =
         let home = since-then.home in
         let begun = since-then.begun in
-        let log = since (gate_log start home) (gate_log (seen_by hand) home) in
-        let there = subst (λ (a : Account). Contains (begun_in (since (gate_log a home) (gate_log (seen_by hand) home))) begun) run.at_start.start_is since-then.there in
+        let log = entries_since (gate_log start home) (gate_log (seen_by hand) home) in
+        let there = subst (λ (a : Account). Contains (begun_in (entries_since (gate_log a home) (gate_log (seen_by hand) home))) begun) run.at_start.start_is since-then.there in
         let from = flat_has (λ (e : GateEntry). begun_by e.author e.deed) log begun there in
         let by = begun-author from.0.author from.0.deed begun from.2 ∙ since-then.own in
         let in_part = subst (λ (l : List GateEntry). Contains l from.0)
@@ -203,12 +204,13 @@ module _ (laws : PhaseLaws) (stay : StayLaws) (shared : Shared) (script : Script
               begun-new laws shared script upto start was is hands run closed end hand h home begun of_part before.0 before.1 before.2);
         }
 
+  -- the later end of each pair that was added is a request that had no reply at the start
   pub open-pairs : AddsOpenPairs script start closed
   open-pairs earlier later there =
-      let given : Given = (earlier, later) in
+      let given : GivenPair = (earlier, later) in
       let pairs : pairs_in closed ≡ pairs_in start ++ pairs_of_log more.0 =
       ap pairs_of_log more.1 ∙ flat_map-append (λ (entry : OracleEntry). pairs_of_entry (settled_entry entry)) start.oracle more.0 in
-      elim (Contains-append_cases (pairs_in start) (pairs_of_log more.0) given (subst (λ (l : List Given). Contains l given) pairs there)) [
+      elim (Contains-append_cases (pairs_in start) (pairs_of_log more.0) given (subst (λ (l : List GivenPair). Contains l given) pairs there)) [
         | inl before ↦ inl before
         | inr gained ↦
             let from = flat_has (λ (entry : OracleEntry). pairs_of_entry (settled_entry entry)) more.0 given gained in

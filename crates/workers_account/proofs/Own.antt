@@ -14,13 +14,13 @@ use Rattle.weave_entries.specs.declared.gate_log.GateDeed.TheVariants.{BeganTx, 
 use Rattle.weave_entries.specs.declared.store_log.StoreEntry.{StoreEntry}
 use Rattle.weave_entries.specs.declared.store_log.StoreDeed.{StoreDeed}
 use Rattle.weave_entries.specs.declared.store_log.StoreDeed.TheVariants.{Judged}
-use Rattle.weave_entries.specs.GateReplay.{Begun, begun_by, begun_in}
+use Rattle.weave_entries.specs.GateReplay.{BegunRequest, begun_by, begun_in}
 use Rattle.weave_entries.specs.StoreReplay.{Judgement, judged_by, judgements_of}
 use Rattle.weave_account.specs.declared.account.Account.{Account}
 use Rattle.weave_account.specs.Account.{gate_log}
 use Rattle.hands_account.specs.Runs.{own_begun, own_judgements}
 use Rattle.hands_account.proofs.Places.{in-back}
-use Rattle.seen_logs.specs.Seen.{IsOwn, since}
+use Rattle.seen_logs.specs.Seen.{IsOwn, entries_since}
 use Rattle.weaver_core.specs.declared.client.Client.{Client}
 use Rattle.weaver_locks.specs.declared.hand.Hand.{Hand}
 use Rattle.weaver_locks.specs.declared.shared.Shared.{Shared}
@@ -33,19 +33,21 @@ use Rattle.workers_account.proofs.Parts.{Part, own-since, own-stored, seen-on, s
 module _ (laws : PhaseLaws) (shared : Shared) (script : Script) (upto : ℕ) (start : Account) (was is : List Client) (hands : List Hand)
     (run : IsPhaseRun shared script upto start was is hands) (hand : Hand) (part : Part shared script upto was is run.hand_of hand) where
   -- the entries since the start
-  pub since-is : (home : ℕ) → since (gate_log start home) (gate_log (seen_by hand) home)
+  pub since-is : (home : ℕ) → entries_since (gate_log start home) (gate_log (seen_by hand) home)
       ≡ (seen-on laws shared script upto start was is hands run hand part home).0
   since-is home =
       let on = seen-on laws shared script upto start was is hands run hand part home in
       ap (drop (length (gate_log start home))) on.1 ∙ drop-append_seam (gate_log start home) on.0
 
+  -- what the hand began since the start at a gatekeeper is what its part began there
   pub own-begun-is : (home : ℕ) → own_begun (hand_number hand) start (seen_by hand) home ≡ begun_in (part.gates home)
   own-begun-is home =
       let on = seen-on laws shared script upto start was is hands run hand part home in
-      ap (λ log. filter (λ (b : Begun). b.author == hand_number hand) (begun_in log)) (since-is home)
+      ap (λ log. filter (λ (b : BegunRequest). b.author == hand_number hand) (begun_in log)) (since-is home)
       ∙ begun-by-author (hand_number hand) on.0
       ∙ ap begun_in (own-since laws shared script upto start was is hands run hand part home)
 
+  -- what it judged since the start is what its part judged
   pub own-judgements-are : own_judgements (hand_number hand) start (seen_by hand) ≡ judgements_of part.store
   own-judgements-are =
       let on = stored-on laws shared script upto start was is hands run hand part in

@@ -9,7 +9,7 @@ use Rattle.weave_entries.specs.GateReplay.{begun_in}
 use Rattle.weave_entries.specs.StoreReplay.{judgements_of}
 use Rattle.weave_account.specs.declared.account.Account.{Account}
 use Rattle.weave_account.specs.Account.{gate_log}
-use Rattle.seen_logs.specs.Seen.{since, IsWithin}
+use Rattle.seen_logs.specs.Seen.{entries_since, IsWithin}
 use Rattle.hands_account.specs.Runs.{own_begun, own_judgements}
 use Rattle.weaver_locks.specs.declared.hand.Hand.{Hand}
 use Rattle.weaver_locks.specs.Hands.{hand_number, made_by, seen_by}
@@ -45,7 +45,7 @@ module _ (start : Account) (first hand : Hand) (start_is : seen_by first ≡ sta
   own-begun-is home gained gains =
       let number = hand_number hand in
       let on = more.gates home in
-      begun-by-author number (since (gate_log start home) (gate_log (seen_by hand) home))
+      begun-by-author number (entries_since (gate_log start home) (gate_log (seen_by hand) home))
       ∙ ap begun_in (own-since (λ (e : GateEntry). e.author == number) (gate_log start home) (gate_log (seen_by hand) home) on.0
       (gate_log (made_by first) home) (gate_log (made_by hand) home) gained
       (on.1 ∙ ap (λ (a : Account). gate_log a home ++ on.0) start_is)
@@ -58,7 +58,7 @@ module _ (start : Account) (first hand : Hand) (start_is : seen_by first ≡ sta
       → own_judgements (hand_number hand) start (seen_by hand) ≡ judgements_of gained
   own-judgements-is gained gains =
       let number = hand_number hand in
-      judged-by-author number (since start.store (seen_by hand).store)
+      judged-by-author number (entries_since start.store (seen_by hand).store)
       ∙ ap judgements_of (own-since (λ (e : StoreEntry). e.author == number) start.store (seen_by hand).store more.store.0
       (made_by first).store (made_by hand).store gained
       (more.store.1 ∙ ap (λ (a : Account). a.store ++ more.store.0) start_is)

@@ -12,9 +12,9 @@ use Rattle.weave_entries.specs.declared.gate_log.GateDeed.TheVariants.{BeganTx, 
 use Rattle.weave_entries.specs.declared.store_log.StoreEntry.{StoreEntry}
 use Rattle.weave_entries.specs.declared.store_log.StoreDeed.{StoreDeed}
 use Rattle.weave_entries.specs.declared.store_log.StoreDeed.TheVariants.{Judged}
-use Rattle.weave_entries.specs.GateReplay.{Begun, begun_by, begun_in, program_by, programs_of}
+use Rattle.weave_entries.specs.GateReplay.{BegunRequest, begun_by, begun_in, program_by, programs_of}
 use Rattle.weave_entries.specs.StoreReplay.{Judgement, judged_by, judgements_of}
-use Rattle.seen_logs.specs.Seen.{since}
+use Rattle.seen_logs.specs.Seen.{entries_since}
 
 -- What was gained
 
@@ -27,7 +27,7 @@ module _ {E : Type 0} (own : E → Bool) where
 
   -- and so are those since the start
   pub own-since : (start seen more made_start made gained : List E) → seen ≡ start ++ more → made_start ≡ filter own start
-      → made ≡ filter own seen → made ≡ made_start ++ gained → filter own (since start seen) ≡ gained
+      → made ≡ filter own seen → made ≡ made_start ++ gained → filter own (entries_since start seen) ≡ gained
   own-since start seen more made_start made gained on first last is =
       ap (filter own) (ap (drop (length start)) on ∙ drop-append_seam start more)
       ∙ own-gained start more made_start gained first (sym (ap (filter own) on) ∙ sym last ∙ is)
@@ -63,14 +63,14 @@ module _ {E A : Type 0} (own : E → Bool) (passes : A → Bool) where
       at false = refl
 
 -- the same, either way
-either-way : (b : Bool) (begun : List Begun) → begun ≡ cond b begun begun
+either-way : (b : Bool) (begun : List BegunRequest) → begun ≡ cond b begun begun
 either-way true begun = refl
 either-way false begun = refl
 
 -- The logs
 
 -- what a deed begins has the deed's author
-own-begin : (number author : ℕ) (deed : GateDeed) → filter (λ (b : Begun). b.author == number) (begun_by author deed)
+own-begin : (number author : ℕ) (deed : GateDeed) → filter (λ (b : BegunRequest). b.author == number) (begun_by author deed)
     ≡ cond (author == number) (begun_by author deed) []
 own-begin number author (BeganTx r stamp) = refl
 own-begin number author (BeganProgram r stamp) = refl
@@ -80,7 +80,7 @@ own-begin number author (Heard clock) = either-way (author == number) []
 own-begin number author (Raised epoch) = either-way (author == number) []
 own-begin number author (Finished r) = either-way (author == number) []
 
-own-program : (number author : ℕ) (deed : GateDeed) → filter (λ (b : Begun). b.author == number) (program_by author deed)
+own-program : (number author : ℕ) (deed : GateDeed) → filter (λ (b : BegunRequest). b.author == number) (program_by author deed)
     ≡ cond (author == number) (program_by author deed) []
 own-program number author (BeganTx r stamp) = either-way (author == number) []
 own-program number author (BeganProgram r stamp) = refl
@@ -94,17 +94,17 @@ own-judged : (number author : ℕ) (deed : StoreDeed) → ((judged_by author dee
 own-judged number author (Judged r stamp ops asked verdict) = refl
 
 -- what an author began is what its entries began
-pub begun-by-author : (number : ℕ) (log : List GateEntry) → filter (λ (b : Begun). b.author == number) (begun_in log)
+pub begun-by-author : (number : ℕ) (log : List GateEntry) → filter (λ (b : BegunRequest). b.author == number) (begun_in log)
     ≡ begun_in (filter (λ (e : GateEntry). e.author == number) log)
 begun-by-author number log =
-    flat-own (λ (e : GateEntry). e.author == number) (λ (b : Begun). b.author == number)
+    flat-own (λ (e : GateEntry). e.author == number) (λ (b : BegunRequest). b.author == number)
     (λ (e : GateEntry). begun_by e.author e.deed) (λ (e : GateEntry). own-begin number e.author e.deed) log
 
 -- and so of programs
-pub programs-by-author : (number : ℕ) (log : List GateEntry) → filter (λ (b : Begun). b.author == number) (programs_of log)
+pub programs-by-author : (number : ℕ) (log : List GateEntry) → filter (λ (b : BegunRequest). b.author == number) (programs_of log)
     ≡ programs_of (filter (λ (e : GateEntry). e.author == number) log)
 programs-by-author number log =
-    flat-own (λ (e : GateEntry). e.author == number) (λ (b : Begun). b.author == number)
+    flat-own (λ (e : GateEntry). e.author == number) (λ (b : BegunRequest). b.author == number)
     (λ (e : GateEntry). program_by e.author e.deed) (λ (e : GateEntry). own-program number e.author e.deed) log
 
 -- what was judged for an author is what its entries judged

@@ -169,6 +169,7 @@ module _ (laws : PhaseLaws) (shared : Shared) (script : Script) (upto : ℕ) (st
     pub number_is : hand_number hand ≡ number
     pub seen_is : seen_by_number hands number ≡ seen_by hand
 
+  -- there is a hand of each number, and what was seen by the number is what that hand has seen
   pub of-number : (number : ℕ) → number < hands_of shared → OfNumber number
   of-number number low =
       let one = laws.found hands number (run.all number low) in
@@ -194,6 +195,7 @@ module _ (laws : PhaseLaws) (shared : Shared) (script : Script) (upto : ℕ) (st
         ∙ ap (λ (n : ℕ). filter (λ (e : GateEntry). e.author == n) (gate_log (seen_by part.from) home)) part.number_is
         ∙ ap (λ (a : Account). filter (λ (e : GateEntry). e.author == hand_number hand) (gate_log a home)) seen-start
 
+    -- what the hand had made at the store then is what the start's log has with its number
     pub stored-start : (made_by part.from).store ≡ filter (λ (e : StoreEntry). e.author == hand_number hand) start.store
     stored-start =
         ap (λ (a : Account). a.store) (laws.own shared part.from part.from_is)
@@ -204,6 +206,7 @@ module _ (laws : PhaseLaws) (shared : Shared) (script : Script) (upto : ℕ) (st
     pub seen-on : (home : ℕ) → IsBeginningOf (gate_log start home) (gate_log (seen_by hand) home)
     seen-on home = subst (λ (a : Account). IsBeginningOf (gate_log a home) (gate_log (seen_by hand) home)) seen-start (part.more.gates home)
 
+    -- the same of the store's log
     pub stored-on : IsBeginningOf start.store (seen_by hand).store
     stored-on = subst (λ (a : Account). IsBeginningOf a.store (seen_by hand).store) seen-start part.more.store
 
@@ -213,6 +216,7 @@ module _ (laws : PhaseLaws) (shared : Shared) (script : Script) (upto : ℕ) (st
         own-gained (λ (e : GateEntry). e.author == hand_number hand) (gate_log start home) (seen-on home).0 (gate_log (made_by part.from) home) (part.gates home) (made-start home)
         (ap (filter (λ (e : GateEntry). e.author == hand_number hand)) (sym (seen-on home).1) ∙ sym (laws.own_at_gate shared hand part.is_hand home) ∙ part.at_gates home)
 
+    -- its own entries among what it has seen of the store's log since are those that it made there since
     pub own-stored : filter (λ (e : StoreEntry). e.author == hand_number hand) stored-on.0 ≡ part.store
     own-stored =
         own-gained (λ (e : StoreEntry). e.author == hand_number hand) start.store stored-on.0 (made_by part.from).store part.store stored-start
@@ -231,6 +235,7 @@ module _ (laws : PhaseLaws) (shared : Shared) (script : Script) (upto : ℕ) (st
     GateEntryIs home entry = Contains (gate_log start home) entry
         ⊎ ((hand : Hand) × (h : Contains hands hand) × (hand_number hand ≡ entry.author) × Contains ((part-of hand h).gates home) entry)
 
+    -- each entry of a gatekeeper's closed log was there at the start, or was made since by the hand of its author
     pub gate-entry : (home : ℕ) (entry : GateEntry) → Contains (gate_log closed home) entry → GateEntryIs home entry
     gate-entry home entry h =
         let cut = cut_at (gate_log closed home) entry h in

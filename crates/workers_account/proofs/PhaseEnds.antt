@@ -11,7 +11,7 @@ use Rattle.program_defs.specs.declared.script.Script.{Script}
 use Rattle.weave_account.specs.declared.account.Account.{Account}
 use Rattle.weave_account.specs.Sessions.{requests_of_session}
 use Rattle.weaver_core.specs.declared.client.Client.{Client}
-use Rattle.weaver_core.specs.Clients.{requests_in}
+use Rattle.weaver_core.specs.Sessions.{requests_in}
 use Rattle.weaver_core.specs.Staying.{StayLaws}
 use Rattle.weaver_locks.specs.declared.hand.Hand.{Hand}
 use Rattle.weaver_locks.specs.declared.shared.Shared.{Shared}
@@ -50,6 +50,7 @@ module _ (laws : PhaseLaws) (stay : StayLaws) (shared : Shared) (script : Script
       sym (unwrap_or-slice_get (map requests_in is) k d) ∙ ap (λ (o : Option (List ℕ)). unwrap_or o d) (requests-at k within)
       ∙ unwrap_or-slice_get (map requests_in was) k d
 
+  -- the closed logs are an account that goes on from the start, with no transaction in flight and clients by their logs
   pub phase-end : IsPhaseEnd script upto start is closed
   phase-end =
       let account = closed-account laws shared script upto start was is hands run closed end in

@@ -19,7 +19,7 @@ use Rattle.weave_entries.specs.declared.gate_log.GateEntry.{GateEntry}
 use Rattle.weave_entries.specs.declared.gate_log.GateDeed.{GateDeed}
 use Rattle.weave_entries.specs.declared.gate_log.GateDeed.TheVariants.{BeganTx, BeganProgram, Sent, Nop, Heard, Raised, Finished}
 use Rattle.weave_entries.specs.declared.session_log.SessionEntry.{SessionEntry}
-use Rattle.weave_entries.specs.GateReplay.{Begun, begun_by, begun_in, ended_by, ended_in, program_by, programs_of, tx_by}
+use Rattle.weave_entries.specs.GateReplay.{BegunRequest, begun_by, begun_in, ended_by, ended_in, program_by, programs_of, tx_by}
 use Rattle.weave_entries.specs.GateRules.{EndsAs, IsGateLog}
 use Rattle.weave_entries.specs.SessionReplay.{SessionState, begins_in, replied_count, replied_in, reply_by, session_of}
 use Rattle.weave_account.specs.declared.account.Account.{Account}
@@ -29,10 +29,10 @@ use Rattle.weave_account.specs.Sessions.{requests_of_session}
 use Rattle.hands_account.specs.Runs.{FinishesItsOwn, FinishesOwnPrograms, IsOwnProgram}
 use Rattle.hands_account.proofs.Places.{has-on, since-place}
 use Rattle.hands_account.proofs.Programs.{reads-move}
-use Rattle.seen_logs.specs.Seen.{since}
+use Rattle.seen_logs.specs.Seen.{entries_since}
 use Rattle.weaver_core.specs.declared.client.Client.{Client}
 use Rattle.weaver_core.specs.declared.walks.Running.{Running}
-use Rattle.weaver_core.specs.Clients.{log_of}
+use Rattle.weaver_core.specs.Sessions.{log_of_client}
 use Rattle.weaver_core.specs.Walks.{IsLookAt}
 use Rattle.weaver_hands.specs.Programs.{own_reads}
 use Rattle.weaver_locks.specs.declared.hand.Hand.{Hand}
@@ -52,9 +52,9 @@ use Rattle.workers_account.proofs.Visited.{all-own, program-begun, since-part}
 
 -- what a deed ended was begun before it, by its author
 pub ended-begun : (before : List GateEntry) (author : ℕ) (deed : GateDeed) (r : ℕ) → Contains (ended_by deed) r → EndsAs before author deed
-    → (begun : Begun) × Contains (begun_in before) begun × (begun.request ≡ r) × (begun.author ≡ author)
+    → (begun : BegunRequest) × Contains (begun_in before) begun × (begun.request ≡ r) × (begun.author ≡ author)
 ended-begun before author (Sent q messages) r h ends =
-    let begun : Begun = record { author = author; request = q; stamp = ends.0 } in
+    let begun : BegunRequest = record { author = author; request = q; stamp = ends.0 } in
     let from = flat_has (λ (e : GateEntry). tx_by e.author e.deed) before begun ends.1 in (
       begun,
       has_flat (λ (e : GateEntry). begun_by e.author e.deed) before from.0 begun from.1
@@ -63,7 +63,7 @@ ended-begun before author (Sent q messages) r h ends =
       refl,
     )
 ended-begun before author (Finished q) r h ends =
-    let begun : Begun = record { author = author; request = q; stamp = ends.0 } in
+    let begun : BegunRequest = record { author = author; request = q; stamp = ends.0 } in
     (begun, program-begun before begun ends.1, only q r h, refl)
 ended-begun before author (BeganTx q stamp) r h ends = absurd (has_none r h)
 ended-begun before author (BeganProgram q stamp) r h ends = absurd (has_none r h)
@@ -81,7 +81,7 @@ module _ (laws : PhaseLaws) (shared : Shared) (script : Script) (upto : ℕ) (st
   part = part-of laws shared script upto start was is hands run hand h
 
   -- a request that the hand began has not ended at the start
-  not-ended : (home : ℕ) (begun : Begun) → Contains (begun_in (part.gates home)) begun → (other : ℕ) (entry : GateEntry) → Contains (gate_log start other) entry
+  not-ended : (home : ℕ) (begun : BegunRequest) → Contains (begun_in (part.gates home)) begun → (other : ℕ) (entry : GateEntry) → Contains (gate_log start other) entry
       → Contains (ended_by entry.deed) begun.request → ⊥
   not-ended home begun there other entry early ends =
       let cut = cut_at (gate_log start other) entry early in
@@ -92,13 +92,14 @@ module _ (laws : PhaseLaws) (shared : Shared) (script : Script) (upto : ℕ) (st
       (all-has start other before.0 (has_flat (λ (e : GateEntry). begun_by e.author e.deed) (gate_log start other) from.0 before.0
       (has-on cut.before (gate_log start other) (entry ∷ cut.after, cut.is) from.0 from.1) from.2)) before.2
 
+  -- each program that the hand began since the start has read its vertices in turn, and all of them if it has ended
   pub programs : (r : ℕ) → IsOwnProgram number start (seen_by hand) r → (request : Request) (program : Program)
       → request_at script r ≡ Some request → request.work ≡ Look program
       → ReadsInTurn (reads_of (seen_by hand) r) program (IsTrue (is_ended (seen_by hand) r))
   programs r own request program at look =
       let home = own.0 in
       let stamp = own.1 in
-      let begun : Begun = record { author = number; request = r; stamp = stamp } in
+      let begun : BegunRequest = record { author = number; request = r; stamp = stamp } in
       let there = since-part laws shared script upto start was is hands run closed end hand h home r stamp own.2 in
       let one = begun-in-part laws shared script upto start was is hands run closed end hand h home begun there in
       let left = one.left in
@@ -106,14 +107,14 @@ module _ (laws : PhaseLaws) (shared : Shared) (script : Script) (upto : ℕ) (st
       let gained = followed.in_step.gained in
       let looks : IsLookAt script r program = record { request = request; request_is = at; work_is = look } in
       let turn = followed.reads gained.session gained.in_session r stamp one.logged program looks in
-      reads-move program (own_reads hand r) (reads_of (seen_by hand) r) (Contains (replied_in (log_of left.part.has.on.left)) r) (IsTrue (is_ended (seen_by hand) r))
+      reads-move program (own_reads hand r) (reads_of (seen_by hand) r) (Contains (replied_in (log_of_client left.part.has.on.left)) r) (IsTrue (is_ended (seen_by hand) r))
       (sym (all-own laws shared script upto start was is hands run closed end hand h home r stamp there))
       (λ ended. replied home begun there one left ended)
       turn
     where
-      replied : (home : ℕ) (begun : Begun) → Contains (begun_in (part.gates home)) begun → (one : BegunInPart laws shared script upto start was is hands run closed end begun hand h)
+      replied : (home : ℕ) (begun : BegunRequest) → Contains (begun_in (part.gates home)) begun → (one : BegunInPart laws shared script upto start was is hands run closed end begun hand h)
           → (left : LeftLog laws shared script upto start was is hands run closed end one.session hand h) → IsTrue (is_ended (seen_by hand) begun.request)
-          → Contains (replied_in (log_of left.part.has.on.left)) begun.request
+          → Contains (replied_in (log_of_client left.part.has.on.left)) begun.request
       replied home begun there one left ended =
           let r = begun.request in
           let at_home = all-ended (seen_by hand) r ended in
@@ -140,7 +141,7 @@ module _ (laws : PhaseLaws) (shared : Shared) (script : Script) (upto : ℕ) (st
       none-since one for =
           let home = one.stamp.home in
           let log = gate_log (start_of shared) home in
-          let nothing : since log (gate_log (seen_by part.from) home) ≡ [] =
+          let nothing : entries_since log (gate_log (seen_by part.from) home) ≡ [] =
           ap (λ (a : Account). drop (length log) (gate_log a home)) part.seen
           ∙ ap (drop (length log)) (sym (append-nil log)) ∙ drop-append_seam log [] in
           has_none (record { author = hand_number part.from; request = one.request; stamp = one.stamp })
@@ -161,7 +162,7 @@ module _ (laws : PhaseLaws) (shared : Shared) (script : Script) (upto : ℕ) (st
       let right = run.at_start.is_account.sessions.logs session in
       let state : session_of requests log ≡ on.client.session =
       ap (λ (l : List SessionEntry). session_of requests l) left.was_log
-      ∙ ap (λ (rs : List ℕ). session_of rs (log_of on.client)) (sym on.keeps.requests) ∙ sym on.keeps.at_end.state in
+      ∙ ap (λ (rs : List ℕ). session_of rs (log_of_client on.client)) (sym on.keeps.requests) ∙ sym on.keeps.at_end.state in
       let waits : (session_of requests log).waits ≡ false = ap (λ (s : SessionState). s.waits) state ∙ not-waiting session on.client on.keeps in
       let count : replied_count (session_of requests log) ≡ (session_of requests log).begun =
       ap (λ (b : Bool). if b then (session_of requests log).begun - 1 else (session_of requests log).begun) waits in
@@ -182,7 +183,7 @@ module _ (laws : PhaseLaws) (shared : Shared) (script : Script) (upto : ℕ) (st
 
   -- a program that the hand finished had not begun at the start
   finished-new : (home r : ℕ) (entry : GateEntry) → Contains (part.gates home) entry → entry.deed ≡ Finished r
-      → (begun : Begun) → Contains (all_begun start) begun → begun.request ≡ r → ⊥
+      → (begun : BegunRequest) → Contains (all_begun start) begun → begun.request ≡ r → ⊥
   finished-new home r entry there deed-is begun before same =
       let ended : Contains (ended_in (part.gates home)) r =
       has_flat (λ (e : GateEntry). ended_by e.deed) (part.gates home) entry r there (subst (λ (d : GateDeed). Contains (ended_by d) r) (sym deed-is) (has_head r [])) in
@@ -193,6 +194,7 @@ module _ (laws : PhaseLaws) (shared : Shared) (script : Script) (upto : ℕ) (st
       replied-new one.session one.left r since begun.stamp
       (subst (λ (x : ℕ × ℕ). Contains (begins_in (session_log start x.1)) (x.0, begun.stamp)) (λ i. (same i, one.session_is i)) logged)
 
+  -- the hand has finished no programs but those that it began since the start
   pub finishes : FinishesOwnPrograms number start (seen_by hand)
   finishes home before entry after at own = by entry.deed refl
     where
@@ -209,19 +211,19 @@ module _ (laws : PhaseLaws) (shared : Shared) (script : Script) (upto : ℕ) (st
           let right = subst (λ (n : ℕ). IsGateLog home n log) run.at_start.locks.shards (part.is_hand.legal.gate_logs home) in
           let rule = laws.ends home script.shards log right before entry after at in
           let ends = subst (λ (d : GateDeed). EndsAs before entry.author d) deed-is rule in
-          let begun : Begun = record { author = entry.author; request = r; stamp = ends.0 } in
+          let begun : BegunRequest = record { author = entry.author; request = r; stamp = ends.0 } in
           let place = since-place (gate_log start home) log (seen-on laws shared script upto start was is hands run hand part home) before entry after at own.1 in
           let parts : programs_of before ≡ programs_of (gate_log start home) ++ programs_of place.0 =
           ap programs_of place.1 ∙ flat_map-append (λ (e : GateEntry). program_by e.author e.deed) (gate_log start home) place.0 in
-          elim (Contains-append_cases (programs_of (gate_log start home)) (programs_of place.0) begun (subst (λ (l : List Begun). Contains l begun) parts ends.1)) [
+          elim (Contains-append_cases (programs_of (gate_log start home)) (programs_of place.0) begun (subst (λ (l : List BegunRequest). Contains l begun) parts ends.1)) [
             | inl early ↦ absurd (finished-new home r entry there deed-is begun (all-has start home begun (program-begun (gate_log start home) begun early)) refl)
             | inr since-then ↦
-                let all : programs_of (since (gate_log start home) log) ≡ programs_of place.0 ++ programs_of (entry ∷ after) =
+                let all : programs_of (entries_since (gate_log start home) log) ≡ programs_of place.0 ++ programs_of (entry ∷ after) =
                 ap programs_of place.2 ∙ flat_map-append (λ (e : GateEntry). program_by e.author e.deed) place.0 (entry ∷ after) in (
                   home,
                   ends.0,
-                  subst (λ (n : ℕ). Contains (programs_of (since (gate_log start home) log)) (record { author = n; request = r; stamp = ends.0 })) own.0
-                      (subst (λ (l : List Begun). Contains l begun) (sym all)
+                  subst (λ (n : ℕ). Contains (programs_of (entries_since (gate_log start home) log)) (record { author = n; request = r; stamp = ends.0 })) own.0
+                      (subst (λ (l : List BegunRequest). Contains l begun) (sym all)
                       (Contains-append_left (programs_of place.0) (programs_of (entry ∷ after)) begun since-then)),
                 )
           ]

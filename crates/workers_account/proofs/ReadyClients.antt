@@ -18,7 +18,7 @@ use Rattle.report_rules.specs.Lookups.{is_some_and, request_at}
 use Rattle.weave_entries.specs.declared.session_log.SessionDeed.{SessionDeed}
 use Rattle.weave_entries.specs.declared.session_log.SessionDeed.TheVariants as session_deed
 use Rattle.weave_entries.specs.declared.session_log.SessionEntry.{SessionEntry}
-use Rattle.weave_entries.specs.GateReplay.{Begun, begun_in, programs_of}
+use Rattle.weave_entries.specs.GateReplay.{BegunRequest, begun_in, programs_of}
 use Rattle.weave_entries.specs.SessionReplay.{IsSessionLog, SessionState, begins_in, has_begun_in, has_reply_in, session_after, session_of}
 use Rattle.weave_account.specs.declared.account.Account.{Account}
 use Rattle.weave_account.specs.Account.{all_begun, gate_log, session_log, shard_log}
@@ -26,8 +26,8 @@ use Rattle.weave_account.specs.Sessions.{requests_of_session}
 use Rattle.seen_logs.specs.Seen.{ShardRefersWithin}
 use Rattle.weaver_core.specs.declared.client.Client.{Client}
 use Rattle.weaver_core.specs.declared.walks.Running.{Running}
-use Rattle.weaver_core.specs.Clients.{log_of, requests_in}
-use Rattle.weaver_core.specs.Splitting.{IsClientByLog, begun_by, program_waiting, waiting_in}
+use Rattle.weaver_core.specs.Sessions.{log_of_client, requests_in}
+use Rattle.weaver_core.specs.Splitting.{IsClientByLog, begun_by_session, program_waiting, waiting_in}
 use Rattle.weaver_core.specs.Staying.{StayLaws}
 use Rattle.weaver_core.proofs.Waiting.{session-laws, stamp-waits, waits-more, waits-open}
 use Rattle.weaver_locks.specs.declared.hand.Hand.{Hand}
@@ -58,7 +58,7 @@ free-by-log requests =
     ap (λ (state : SessionState). state.waits) (one-more requests front entry)
     ∙ after (session_of requests front) entry.deed (sym (waits-more front entry) ∙ none))
   where
-    after : (state : SessionState) (deed : SessionDeed) → begun_by deed ≡ None → (session_after state deed).waits ≡ false
+    after : (state : SessionState) (deed : SessionDeed) → begun_by_session deed ≡ None → (session_after state deed).waits ≡ false
     after state (session_deed.Begun r stamp) none = absurd (none-some (r, stamp) (sym none))
     after state (session_deed.Replied r) none = refl
 
@@ -76,9 +76,9 @@ map-none f (Some x) is = absurd (none-some (f x) (sym is))
 module _ (laws : PhaseLaws) (stay : StayLaws) (more : ReadyLaws) (script : Script) (start : Account) (shared : Shared) (clients : List Client)
     (hand : Hand) (session : ℕ) (client : Client) (at-start : IsPhaseStart script start shared clients) (is_hand : IsHand shared hand)
     (seen : seen_by hand ≡ start_of shared) (client-is : slice_get clients session ≡ Some client)
-    (answered : (r : ℕ) (stamp : Stamp) → Contains (begins_in (log_of client)) (r, stamp) → IsTrue (has_reply_in r (log_of client))) where
+    (answered : (r : ℕ) (stamp : Stamp) → Contains (begins_in (log_of_client client)) (r, stamp) → IsTrue (has_reply_in r (log_of_client client))) where
   abbrev log : List SessionEntry
-  log = log_of client
+  log = log_of_client client
 
   -- The session
 
@@ -138,7 +138,7 @@ module _ (laws : PhaseLaws) (stay : StayLaws) (more : ReadyLaws) (script : Scrip
       let alone : (session_of [] (session_log start session)).last ≡ Some stamp =
       ap (λ (l : List SessionEntry). (session_of [] l).last) log-is ∙ sym (last-any (requests_in client) [] log)
       ∙ ap (λ (state : SessionState). state.last) (sym by-log.session) ∙ last in
-      let begun = map_has (λ (b : Begun). b.stamp) (all_begun start) stamp
+      let begun = map_has (λ (b : BegunRequest). b.stamp) (all_begun start) stamp
       (more.last_begun script start at-start.limits at-start.is_account session stamp alone) in
       let home = has-all start begun.0 begun.1 in
       record {
@@ -151,7 +151,7 @@ module _ (laws : PhaseLaws) (stay : StayLaws) (more : ReadyLaws) (script : Scrip
   -- The requests that it has still to begin
 
   -- none of them had begun at the start
-  unbegun : (n r : ℕ) → client.session.begun ≤ n → slice_get (requests_in client) n ≡ Some r → (begun : Begun) → Contains (all_begun start) begun
+  unbegun : (n r : ℕ) → client.session.begun ≤ n → slice_get (requests_in client) n ≡ Some r → (begun : BegunRequest) → Contains (all_begun start) begun
       → begun.request ≢ r
   unbegun n r late at begun there same =
       let of = in-session script session r (subst (λ (rs : List ℕ). Contains rs r) requests-are (get-has (requests_in client) n r at)) in
@@ -186,6 +186,7 @@ module _ (laws : PhaseLaws) (stay : StayLaws) (more : ReadyLaws) (script : Scrip
         (seen-is laws script start shared clients at-start hand is_hand seen) h)))));
   }
 
+  -- the hand may go on with the session, all of whose begun requests have their replies
   pub keeps-ready : KeepsClient shared script session hand client
   keeps-ready = record {
     is_hand = is_hand;

@@ -16,7 +16,7 @@ use Rattle.weave_entries.specs.declared.store_log.StoreEntry.{StoreEntry}
 use Rattle.weave_entries.specs.StoreReplay.{judged_by, judgements_of, Judgement}
 use Rattle.weave_account.specs.GoesOn.{IsBeginningOf}
 use Rattle.weave_account.specs.Report.{state_by_verdict}
-use Rattle.weaver_core.specs.Clients.{log_of}
+use Rattle.weaver_core.specs.Sessions.{log_of_client}
 use Rattle.weaver_locks.specs.declared.shared.Shared.{Shared}
 use Rattle.weaver_locks.specs.Hands.{made_by, IsHand}
 use Rattle.weaver_locks.specs.Locks.{shard_count}
@@ -54,14 +54,14 @@ module _ (laws : ReadLaws) (shared : Shared) (script : Script) (number upto : â„
   step-reply does reply was = record {
     stamp = was.stamp;
     stamp_is = was.stamp_is;
-    begun = begins-on (log_of old.client) (log_of new.client) on (reply.request, was.stamp) was.begun;
+    begun = begins-on (log_of_client old.client) (log_of_client new.client) on (reply.request, was.stamp) was.begun;
     state = elim was.state [
       | inl judged â†¦ inl (by-judgement judged)
       | inr reads â†¦ inr (by-reads reads)
     ];
   }
     where
-      on : IsBeginningOf (log_of old.client) (log_of new.client)
+      on : IsBeginningOf (log_of_client old.client) (log_of_client new.client)
       on = step-on shared script number upto old new does
 
       by-judgement : IsReplyByJudgement script old.hand reply â†’ IsReplyByJudgement script new.hand reply
@@ -80,7 +80,7 @@ module _ (laws : ReadLaws) (shared : Shared) (script : Script) (number upto : â„
       by-reads was = record {
         program = was.program;
         look = was.look;
-        replied = replied-on (log_of old.client) (log_of new.client) on reply.request was.replied;
+        replied = replied-on (log_of_client old.client) (log_of_client new.client) on reply.request was.replied;
         answer = was.answer;
         state_is = was.state_is;
         plain = subst (Î» (reads : List (Name Ã— State)). IsPlainAnswer (graph_read reads) was.program was.answer)
@@ -96,7 +96,7 @@ module _ (laws : ReadLaws) (shared : Shared) (script : Script) (number upto : â„
       record {
         stamp = does.stamp;
         stamp_is = refl;
-        begun = begins-now (log_of old.client) (log_of new.client) (step-on shared script number upto old new (inl does)) (does.r, does.stamp)
+        begun = begins-now (log_of_client old.client) (log_of_client new.client) (step-on shared script number upto old new (inl does)) (does.r, does.stamp)
             (has_head (does.r, does.stamp) []);
         state = inl (record {
           judged = judged_by entry.author entry.deed;
@@ -120,12 +120,12 @@ module _ (laws : ReadLaws) (shared : Shared) (script : Script) (number upto : â„
       record {
         stamp = does.before.stamp;
         stamp_is = refl;
-        begun = begins-on (log_of old.client) (log_of new.client) on (does.before.request, does.before.stamp)
-            (last-there number old.client.session (log_of old.client) keeps.at_end does.before.request does.before.stamp runs.begun runs.turn runs.stamp_is);
+        begun = begins-on (log_of_client old.client) (log_of_client new.client) on (does.before.request, does.before.stamp)
+            (last-there number old.client.session (log_of_client old.client) keeps.at_end does.before.request does.before.stamp runs.begun runs.turn runs.stamp_is);
         state = inr (record {
           program = any_of does.before.walk;
           look = runs.look;
-          replied = replied-now (log_of old.client) (log_of new.client) on does.before.request (has_head does.before.request []);
+          replied = replied-now (log_of_client old.client) (log_of_client new.client) on does.before.request (has_head does.before.request []);
           answer = does.answer;
           state_is = refl;
           plain = subst (Î» (reads : List (Name Ã— State)). IsPlainAnswer (graph_read reads) (any_of does.before.walk) does.answer)

@@ -12,7 +12,7 @@ use Rattle.vector_stamp.specs.declared.clock.Stamp.{Stamp}
 use Rattle.weave_entries.specs.declared.session_log.SessionEntry.{SessionEntry}
 use Rattle.weave_entries.specs.SessionReplay.{RepliesToLast, SessionState, begin_by, begins_in, replied_count, replied_in, reply_by}
 use Rattle.weave_account.specs.GoesOn.{IsBeginningOf}
-use Rattle.weaver_core.specs.Clients.{IsClientOf, IsInTurn}
+use Rattle.weaver_core.specs.Sessions.{IsClientOf, IsInTurn}
 use Rattle.workers_account.specs.ReadLaws.{ReadLaws}
 use Rattle.hands_account.proofs.LastStamp.{IsAfter, last-begun}
 use Rattle.weave_account.proofs.InSession.{NoneBegun, SomeBegun}

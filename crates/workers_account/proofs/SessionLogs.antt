@@ -21,7 +21,7 @@ use Rattle.weave_account.specs.declared.account.Account.{Account}
 use Rattle.weave_account.specs.Account.{session_log}
 use Rattle.weave_account.specs.Sessions.{requests_of_session}
 use Rattle.weaver_core.specs.declared.client.Client.{Client}
-use Rattle.weaver_core.specs.Clients.{log_of}
+use Rattle.weaver_core.specs.Sessions.{log_of_client}
 use Rattle.weaver_core.proofs.ValuesStay.{in-session as of-session}
 use Rattle.workers_account.specs.PhaseLaws.{PhaseLaws}
 use Rattle.step_rules.proofs.VisitLogs.{in-take}
@@ -49,12 +49,12 @@ pub in-session : (script : Script) (t q : ℕ) → Contains (requests_of_session
 in-session script t q has = of-session script t q has
 
 -- the log of a session is its client's
-pub log-at : (account : Account) (clients : List Client) → account.sessions ≡ map log_of clients → (session : ℕ) (client : Client)
-    → slice_get clients session ≡ Some client → session_log account session ≡ log_of client
+pub log-at : (account : Account) (clients : List Client) → account.sessions ≡ map log_of_client clients → (session : ℕ) (client : Client)
+    → slice_get clients session ≡ Some client → session_log account session ≡ log_of_client client
 log-at account clients are session client at =
     ap (λ (logs : List (List SessionEntry)). get_or logs session []) are
-    ∙ get_or_from_slice_get (map log_of clients) session (log_of client) []
-    (slice_get-map log_of clients session ∙ ap (option_map log_of) at)
+    ∙ get_or_from_slice_get (map log_of_client clients) session (log_of_client client) []
+    (slice_get-map log_of_client clients session ∙ ap (option_map log_of_client) at)
 
 module _ (laws : PhaseLaws) (script : Script) (session : ℕ) (log : List SessionEntry)
     (right : IsSessionLog session (requests_of_session script session) log) where
@@ -116,11 +116,13 @@ begins-on log more r stamp h =
     subst (λ (bs : List (ℕ × Stamp)). Contains bs (r, stamp)) (sym (flat_map-append (λ (e : SessionEntry). begin_by e.deed) log more))
     (Contains-append_left (begins_in log) (begins_in more) (r, stamp) h)
 
+-- what began in the entries after a log began in the whole
 pub begins-later : (log more : List SessionEntry) (r : ℕ) (stamp : Stamp) → Contains (begins_in more) (r, stamp) → Contains (begins_in (log ++ more)) (r, stamp)
 begins-later log more r stamp h =
     subst (λ (bs : List (ℕ × Stamp)). Contains bs (r, stamp)) (sym (flat_map-append (λ (e : SessionEntry). begin_by e.deed) log more))
     (Contains-append_right (begins_in log) (begins_in more) (r, stamp) h)
 
+-- what began in the whole began in the log or in the entries after it
 pub begins-cases : (log more : List SessionEntry) (r : ℕ) (stamp : Stamp) → Contains (begins_in (log ++ more)) (r, stamp)
     → Contains (begins_in log) (r, stamp) ⊎ Contains (begins_in more) (r, stamp)
 begins-cases log more r stamp h =

@@ -19,7 +19,7 @@ use Rattle.weave_entries.specs.declared.message.Addressed.{Addressed}
 use Rattle.weave_entries.specs.declared.session_log.SessionEntry.{SessionEntry}
 use Rattle.weave_entries.specs.declared.store_log.StoreEntry.{StoreEntry}
 use Rattle.weave_entries.specs.declared.verdict.Verdict.{Verdict}
-use Rattle.weave_entries.specs.GateReplay.{Begun, begun_by, begun_in, ended_by, ended_in}
+use Rattle.weave_entries.specs.GateReplay.{BegunRequest, begun_by, begun_in, ended_by, ended_in}
 use Rattle.weave_entries.specs.SessionReplay.{begins_in, replied_in}
 use Rattle.weave_entries.specs.StoreReplay.{Judgement, judgements_of}
 use Rattle.weaver_locks.specs.StoreHolds.{judged_entries}
@@ -64,10 +64,10 @@ telling-raises (Finished r) epoch tells is = cc
 abbrev pub Tells : List GateEntry → Type 0
 Tells log = (entry : GateEntry) → Contains log entry → IsTrue (is_telling entry.deed)
 
-none-begun : (log : List GateEntry) → Tells log → (begun : Begun) → Contains (begun_in log) begun → ⊥
+none-begun : (log : List GateEntry) → Tells log → (begun : BegunRequest) → Contains (begun_in log) begun → ⊥
 none-begun log tells begun h =
     let of = flat_has (λ (entry : GateEntry). begun_by entry.author entry.deed) log begun h in
-    has_none begun (subst (λ (l : List Begun). Contains l begun) (telling-begins of.0.author of.0.deed (tells of.0 of.1)) of.2)
+    has_none begun (subst (λ (l : List BegunRequest). Contains l begun) (telling-begins of.0.author of.0.deed (tells of.0 of.1)) of.2)
 
 none-ended : (log : List GateEntry) → Tells log → (r : ℕ) → Contains (ended_in log) r → ⊥
 none-ended log tells r h =
@@ -89,14 +89,14 @@ finished-raises : (r epoch : ℕ) → Finished r ≢ Raised epoch
 finished-raises r epoch is = cc
 
 -- of two begins the first is of the lesser request
-abbrev pub Rises : Begun → Begun → Type 0
+abbrev pub Rises : BegunRequest → BegunRequest → Type 0
 Rises a b = a.request < b.request
 
 -- nothing begun is in order
 pub none-rise : (log : List GateEntry) → Tells log → AllPairs Rises (begun_in log)
 none-rise log tells = subst (AllPairs Rises) (sym (nothing (begun_in log) (none-begun log tells))) (pairs_none Rises)
   where
-    nothing : (xs : List Begun) → ((x : Begun) → Contains xs x → ⊥) → xs ≡ []
+    nothing : (xs : List BegunRequest) → ((x : BegunRequest) → Contains xs x → ⊥) → xs ≡ []
     nothing [] none = refl
     nothing (x ∷ xs) none = absurd (none x (has_head x xs))
 
@@ -134,7 +134,7 @@ module _ (script : Script) (author upto : ℕ) where
       -- one more reply, and the program's finish at its gatekeeper
       pub finish-in-step : AreInStep script author upto (at_one gate finish_entries) [] reply_log
       finish-in-step = record {
-        begun = at-each gate finish_entries (λ home l. (begun : Begun) → Contains (begun_in l) begun → Contains (begins_in reply_log) (begun.request, begun.stamp))
+        begun = at-each gate finish_entries (λ home l. (begun : BegunRequest) → Contains (begun_in l) begun → Contains (begins_in reply_log) (begun.request, begun.stamp))
             (λ begun h. absurd (has_none begun h)) (λ home other begun h. absurd (has_none begun h));
         at_gate = λ q stamp h. absurd (has_none (q, stamp) h);
         below = λ q stamp h. absurd (has_none (q, stamp) h);
@@ -153,7 +153,7 @@ module _ (script : Script) (author upto : ℕ) where
 
     -- the request was begun
     module _ (asked : Request) (stamp : Stamp) (is : request_at script r ≡ Some asked) (low : r < upto) where
-      abbrev one : Begun
+      abbrev one : BegunRequest
       one = record { author = author; request = r; stamp = stamp }
 
       -- at its own gatekeeper, which made these entries
@@ -173,8 +173,8 @@ module _ (script : Script) (author upto : ℕ) where
       -- one more begin of the session, and the program's at its gatekeeper
       pub start-in-step : AreInStep script author upto (at_one asked.gate start_entries) [] begin_log
       start-in-step = record {
-        begun = at-each asked.gate start_entries (λ home l. (b : Begun) → Contains (begun_in l) b → Contains (begins_in begin_log) (b.request, b.stamp))
-            (λ b h. subst (λ (b : Begun). Contains (begins_in begin_log) (b.request, b.stamp)) (only one b h) (has_head (r, stamp) []))
+        begun = at-each asked.gate start_entries (λ home l. (b : BegunRequest) → Contains (begun_in l) b → Contains (begins_in begin_log) (b.request, b.stamp))
+            (λ b h. subst (λ (b : BegunRequest). Contains (begins_in begin_log) (b.request, b.stamp)) (only one b h) (has_head (r, stamp) []))
             (λ home other b h. absurd (has_none b h));
         at_gate = λ q s h. subst (λ (p : ℕ × Stamp). IsBegunAtItsGate script author (at_one asked.gate start_entries) p.0 p.1) (only (r, stamp) (q, s) h)
             (begun-there start_entries (has_head one []));
@@ -222,8 +222,8 @@ module _ (script : Script) (author upto : ℕ) where
         -- a begin and a reply of the session, the begin and the sending at the gatekeeper, and the judgement
         pub change-in-step : AreInStep script author upto (at_one asked.gate change_entries) judgement answer_log
         change-in-step = record {
-          begun = at-each asked.gate change_entries (λ home l. (b : Begun) → Contains (begun_in l) b → Contains (begins_in answer_log) (b.request, b.stamp))
-              (λ b h. subst (λ (b : Begun). Contains (begins_in answer_log) (b.request, b.stamp)) (only one b h) (has_head (r, stamp) []))
+          begun = at-each asked.gate change_entries (λ home l. (b : BegunRequest) → Contains (begun_in l) b → Contains (begins_in answer_log) (b.request, b.stamp))
+              (λ b h. subst (λ (b : BegunRequest). Contains (begins_in answer_log) (b.request, b.stamp)) (only one b h) (has_head (r, stamp) []))
               (λ home other b h. absurd (has_none b h));
           at_gate = λ q s h. subst (λ (p : ℕ × Stamp). IsBegunAtItsGate script author (at_one asked.gate change_entries) p.0 p.1) (only (r, stamp) (q, s) h)
               (begun-there change_entries (has_head one []));

@@ -12,7 +12,7 @@ use Rattle.weave_entries.specs.StoreRule.{asked_vertices, lasts_of}
 use Rattle.weave_account.specs.declared.account.Account.{Account}
 use Rattle.weave_account.specs.GoesOn.{IsBeginningOf}
 use Rattle.weaver_core.specs.declared.walks.Running.{Running}
-use Rattle.weaver_core.specs.Clients.{log_of}
+use Rattle.weaver_core.specs.Sessions.{log_of_client}
 use Rattle.weaver_locks.specs.declared.hand.Hand.{Hand}
 use Rattle.weaver_locks.specs.declared.shared.Shared.{Shared}
 use Rattle.weaver_locks.specs.Hands.{hand_number, made_by, IsHand}
@@ -92,22 +92,22 @@ module _ (shared : Shared) (script : Script) (number upto : ℕ) (old new : Stan
   step-entries (inr (inr (inr (inr carry)))) = []
 
   -- its log has these entries more
-  pub step-log : (does : DoesOneCall shared script number upto old new) → log_of new.client ≡ log_of old.client ++ step-entries does
+  pub step-log : (does : DoesOneCall shared script number upto old new) → log_of_client new.client ≡ log_of_client old.client ++ step-entries does
   step-log (inl change) =
-      change.log ∙ append_assoc (log_of old.client) (begun_entry number change.r change.stamp ∷ []) (replied_entry number change.r ∷ [])
+      change.log ∙ append_assoc (log_of_client old.client) (begun_entry number change.r change.stamp ∷ []) (replied_entry number change.r ∷ [])
   step-log (inr (inl start)) = start.log
-  step-log (inr (inr (inl visit))) = visit.same.log ∙ sym (append-nil (log_of old.client))
+  step-log (inr (inr (inl visit))) = visit.same.log ∙ sym (append-nil (log_of_client old.client))
   step-log (inr (inr (inr (inl finish)))) = finish.log
-  step-log (inr (inr (inr (inr carry)))) = carry.same.log ∙ sym (append-nil (log_of old.client))
+  step-log (inr (inr (inr (inr carry)))) = carry.same.log ∙ sym (append-nil (log_of_client old.client))
 
   -- so it goes on
-  abbrev pub step-on : DoesOneCall shared script number upto old new → IsBeginningOf (log_of old.client) (log_of new.client)
+  abbrev pub step-on : DoesOneCall shared script number upto old new → IsBeginningOf (log_of_client old.client) (log_of_client new.client)
   step-on does = (step-entries does, step-log does)
 
 -- what has its reply doesn't run
 pub replied-rests : (laws : ReadLaws) (shared : Shared) (script : Script) (number : ℕ) (at : Stand)
     → KeepsClient shared script number at.hand at.client → (r : ℕ)
-    → Contains (replied_in (log_of at.client)) r → RunsNot at r
+    → Contains (replied_in (log_of_client at.client)) r → RunsNot at r
 replied-rests laws shared script number at keeps r h running is same =
-    waiting-unreplied laws number at.client.session (log_of at.client) keeps.at_end running.request (keeps.running running is).turn
-    (subst (λ (q : ℕ). Contains (replied_in (log_of at.client)) q) same h)
+    waiting-unreplied laws number at.client.session (log_of_client at.client) keeps.at_end running.request (keeps.running running is).turn
+    (subst (λ (q : ℕ). Contains (replied_in (log_of_client at.client)) q) same h)

@@ -13,14 +13,14 @@ use Rattle.weave_entries.specs.declared.gate_log.GateEntry.{GateEntry}
 use Rattle.weave_entries.specs.declared.message.Addressed.{Addressed}
 use Rattle.weave_entries.specs.declared.store_log.StoreEntry.{StoreEntry}
 use Rattle.weave_entries.specs.declared.verdict.Verdict.{Verdict}
-use Rattle.weave_entries.specs.GateReplay.{Begun}
+use Rattle.weave_entries.specs.GateReplay.{BegunRequest}
 use Rattle.weave_entries.specs.Sending.{messages_of}
 use Rattle.weave_entries.specs.SessionReplay.{SessionState}
 use Rattle.weave_entries.specs.StoreReplay.{Judgement}
 use Rattle.weave_account.specs.declared.account.Account.{Account}
 use Rattle.weave_account.specs.Account.{gate_log}
 use Rattle.weave_account.specs.Report.{state_by_verdict}
-use Rattle.weaver_core.specs.Clients.{log_of}
+use Rattle.weaver_core.specs.Sessions.{log_of_client}
 use Rattle.weaver_locks.specs.declared.shared.Shared.{Shared}
 use Rattle.weaver_locks.specs.GateHolds.{gate_entry_by}
 use Rattle.weaver_locks.specs.Hands.{hand_number, made_by}
@@ -30,7 +30,7 @@ use Rattle.weaver_workers.specs.ClientWork.{begun_entry, replied_entry, reply_wi
 use Rattle.weaver_workers.specs.Keeping.{AreLocksOf, KeepsClient}
 use Rattle.weaver_workers.proofs.ReadOn.{home-there}
 use Rattle.weaver_workers.proofs.Rows.{own-logs}
-use Rattle.workers_account.specs.Gained.{Gained, IsInStep}
+use Rattle.workers_account.specs.Gained.{GainedEntries, IsInStep}
 use Rattle.workers_account.proofs.OneGate.{as-many, at-each, at_one, log-elsewhere, log-here, logs-gain}
 use Rattle.workers_account.proofs.StepGains.{change-in-step, change-rises, finish-in-step, finish-rises, judgement-rises, none-rise, start-in-step, start-rises, Tells, tells-in-step}
 
@@ -45,14 +45,14 @@ module _ (script : Script) (upto : ℕ) (old new : Stand) (same : IsSameSession 
     (tells : (home : ℕ) → Tells (gates home))
     (at_gates : (home : ℕ) → gate_log (made_by new.hand) home ≡ gate_log (made_by old.hand) home ++ gates home)
     (store : (made_by new.hand).store ≡ (made_by old.hand).store) where
-  abbrev still-gains : Gained old new
+  abbrev still-gains : GainedEntries old new
   still-gains = record {
     gates = gates;
     at_gates = at_gates;
     store = [];
     at_store = store ∙ sym (append-nil (made_by old.hand).store);
     session = [];
-    in_session = same.log ∙ sym (append-nil (log_of old.client));
+    in_session = same.log ∙ sym (append-nil (log_of_client old.client));
     replies = [];
     in_replies = same.replies ∙ sym (append-nil old.client.replies.items);
   }
@@ -102,7 +102,7 @@ module _ (shared : Shared) (script : Script) (number upto : ℕ) (within : IsWit
     judged = judged_entries (hand_number does.transacts.begun) does.r does.stamp does.ops does.transacts.judges.before given
 
     sent-it : does.transacts.sends.flight.request ≡ does.r
-    sent-it = ap (λ (b : Begun). b.request) does.transacts.flight_is
+    sent-it = ap (λ (b : BegunRequest). b.request) does.transacts.flight_is
 
     change-low : does.asked.gate < length (made_by old.hand).gates
     change-low = gate-there does.asked.gate (subst (λ (n : ℕ). does.asked.gate < n) (sym locks.gates) (within.homes does.r does.asked does.next.request_is))
@@ -129,7 +129,7 @@ module _ (shared : Shared) (script : Script) (number upto : ℕ) (within : IsWit
         ∙ ap (λ (a : Account). gate_log a home) does.transacts.judges.was.made
         ∙ log-elsewhere (made_by old.hand) (made_by does.transacts.begun) does.asked.gate (began ∷ []) does.transacts.begins.made home other
 
-    abbrev change-gains : Gained old new
+    abbrev change-gains : GainedEntries old new
     change-gains = record {
       gates = at_one does.asked.gate (began ∷ sent does.r ∷ []);
       at_gates = at-each does.asked.gate (began ∷ sent does.r ∷ [])
@@ -139,7 +139,7 @@ module _ (shared : Shared) (script : Script) (number upto : ℕ) (within : IsWit
       at_store = ap (λ (a : Account). a.store) does.transacts.sends.was.made ∙ ap (λ (a : Account). a.store) does.transacts.judges.was.made
           ∙ ap (λ (a : Account). a.store ++ judged) does.transacts.begins.made;
       session = begun_entry number does.r does.stamp ∷ replied_entry number does.r ∷ [];
-      in_session = does.log ∙ append_assoc (log_of old.client) (begun_entry number does.r does.stamp ∷ []) (replied_entry number does.r ∷ []);
+      in_session = does.log ∙ append_assoc (log_of_client old.client) (begun_entry number does.r does.stamp ∷ []) (replied_entry number does.r ∷ []);
       replies = reply_with does.r does.stamp (state_by_verdict does.verdict) ∷ [];
       in_replies = does.replies;
     }
@@ -162,7 +162,7 @@ module _ (shared : Shared) (script : Script) (number upto : ℕ) (within : IsWit
     start-low : does.asked.gate < length (made_by old.hand).gates
     start-low = gate-there does.asked.gate (subst (λ (n : ℕ). does.asked.gate < n) (sym locks.gates) (within.homes does.r does.asked does.next.request_is))
 
-    abbrev start-gains : Gained old new
+    abbrev start-gains : GainedEntries old new
     start-gains = record {
       gates = at_one does.asked.gate (gate_entry_by old.hand (BeganProgram does.r does.stamp) ∷ []);
       at_gates = logs-gain (made_by old.hand) (made_by new.hand) does.asked.gate (gate_entry_by old.hand (BeganProgram does.r does.stamp) ∷ [])
@@ -191,7 +191,7 @@ module _ (shared : Shared) (script : Script) (number upto : ℕ) (within : IsWit
     finish-low = gate-there does.before.stamp.home
         (home-there shared old.hand does.before keeps.is_hand (keeps.running does.before does.before_is).runs)
 
-    abbrev finish-gains : Gained old new
+    abbrev finish-gains : GainedEntries old new
     finish-gains = record {
       gates = at_one does.before.stamp.home (gate_entry_by old.hand (Finished does.before.request) ∷ []);
       at_gates = logs-gain (made_by old.hand) (made_by new.hand) does.before.stamp.home (gate_entry_by old.hand (Finished does.before.request) ∷ [])

@@ -21,7 +21,7 @@ use Rattle.report_rules.specs.Lookups.{request_at}
 use Rattle.weave_entries.specs.declared.session_log.SessionEntry.{SessionEntry}
 use Rattle.weave_entries.specs.SessionReplay.{begin_by, begins_in, replied_in}
 use Rattle.weave_account.specs.Programs.{ReadsInTurn}
-use Rattle.weaver_core.specs.Clients.{log_of}
+use Rattle.weaver_core.specs.Sessions.{log_of_client}
 use Rattle.weaver_core.specs.Walks.{IsLookAt}
 use Rattle.weaver_locks.specs.declared.shared.Shared.{Shared}
 use Rattle.weaver_locks.specs.Hands.{IsHand}
@@ -56,22 +56,22 @@ look-no-change script r program asked ops look is work =
 -- if the request is a program, it has read in turn
 abbrev pub HasTurn : Script → Stand → ℕ → Type 0
 HasTurn script at r = (program : Program) → IsLookAt script r program
-    → ReadsInTurn (own_reads at.hand r) program (Contains (replied_in (log_of at.client)) r)
+    → ReadsInTurn (own_reads at.hand r) program (Contains (replied_in (log_of_client at.client)) r)
 
 module _ (laws : ReadLaws) (shared : Shared) (script : Script) (number upto : ℕ) (old new : Stand)
     (keeps : KeepsClient shared script number old.hand old.client) (is : IsHand shared new.hand) where
   -- each has read what it had read, and what has got its reply had read all
   turn-left : (r : ℕ) → own_reads new.hand r ≡ own_reads old.hand r
-      → ((program : Program) → IsLookAt script r program → Contains (replied_in (log_of new.client)) r
-      → Contains (replied_in (log_of old.client)) r ⊎ (next_visit (own_reads old.hand r) program ≡ None))
+      → ((program : Program) → IsLookAt script r program → Contains (replied_in (log_of_client new.client)) r
+      → Contains (replied_in (log_of_client old.client)) r ⊎ (next_visit (own_reads old.hand r) program ≡ None))
       → HasTurn script old r → HasTurn script new r
   turn-left r same done turn program look =
-      turn-same (own_reads old.hand r) (own_reads new.hand r) program (Contains (replied_in (log_of old.client)) r)
-      (Contains (replied_in (log_of new.client)) r) same (done program look) (turn program look)
+      turn-same (own_reads old.hand r) (own_reads new.hand r) program (Contains (replied_in (log_of_client old.client)) r)
+      (Contains (replied_in (log_of_client new.client)) r) same (done program look) (turn program look)
 
   -- no reply more
-  same-replied : log_of new.client ≡ log_of old.client → (r : ℕ) → Contains (replied_in (log_of new.client)) r
-      → Contains (replied_in (log_of old.client)) r
+  same-replied : log_of_client new.client ≡ log_of_client old.client → (r : ℕ) → Contains (replied_in (log_of_client new.client)) r
+      → Contains (replied_in (log_of_client old.client)) r
   same-replied same r h = subst (λ (l : List SessionEntry). Contains (replied_in l) r) same h
 
   -- after a transaction
@@ -79,10 +79,10 @@ module _ (laws : ReadLaws) (shared : Shared) (script : Script) (number upto : �
   change-turn does r turn =
       turn-left r (laws.reads shared old.hand new.hand r keeps.is_hand is
       (laws.transact _ old.hand new.hand does.asked.gate does.r does.ops old.client.session.last does.stamp does.verdict does.transacts r))
-      (λ program look h. done program look (replied-cases (log_of old.client) (log_of new.client) (step-on shared script number upto old new (inl does)) r h)) turn
+      (λ program look h. done program look (replied-cases (log_of_client old.client) (log_of_client new.client) (step-on shared script number upto old new (inl does)) r h)) turn
     where
-      done : (program : Program) → IsLookAt script r program → Contains (replied_in (log_of old.client)) r ⊎ Contains (does.r ∷ []) r
-          → Contains (replied_in (log_of old.client)) r ⊎ (next_visit (own_reads old.hand r) program ≡ None)
+      done : (program : Program) → IsLookAt script r program → Contains (replied_in (log_of_client old.client)) r ⊎ Contains (does.r ∷ []) r
+          → Contains (replied_in (log_of_client old.client)) r ⊎ (next_visit (own_reads old.hand r) program ≡ None)
       done program look (inl before) = inl before
       done program look (inr now) =
           absurd (look-no-change script does.r program does.asked does.ops
@@ -93,10 +93,10 @@ module _ (laws : ReadLaws) (shared : Shared) (script : Script) (number upto : �
   start-turn does r turn =
       turn-left r (laws.reads shared old.hand new.hand r keeps.is_hand is
       (laws.start _ old.hand new.hand does.asked.gate does.r old.client.session.last does.stamp does.starts r))
-      (λ program look h. done program (replied-cases (log_of old.client) (log_of new.client) (step-on shared script number upto old new (inr (inl does))) r h)) turn
+      (λ program look h. done program (replied-cases (log_of_client old.client) (log_of_client new.client) (step-on shared script number upto old new (inr (inl does))) r h)) turn
     where
-      done : (program : Program) → Contains (replied_in (log_of old.client)) r ⊎ Contains [] r
-          → Contains (replied_in (log_of old.client)) r ⊎ (next_visit (own_reads old.hand r) program ≡ None)
+      done : (program : Program) → Contains (replied_in (log_of_client old.client)) r ⊎ Contains [] r
+          → Contains (replied_in (log_of_client old.client)) r ⊎ (next_visit (own_reads old.hand r) program ≡ None)
       done program (inl before) = inl before
       done program (inr none) = absurd (has_none r none)
 
@@ -117,9 +117,9 @@ module _ (laws : ReadLaws) (shared : Shared) (script : Script) (number upto : �
           let next : next_visit (own_reads old.hand does.before.request) program ≡ Some visits.vertex =
           ap (λ (p : Program). next_visit (own_reads old.hand does.before.request) p) one ∙ visits.in_turn in
           turn-more laws (own_reads old.hand does.before.request) (own_reads new.hand does.before.request) program visits.vertex visits.state
-          (Contains (replied_in (log_of new.client)) does.before.request) next visits.more
+          (Contains (replied_in (log_of_client new.client)) does.before.request) next visits.more
           (turn-same (own_reads old.hand does.before.request) (own_reads old.hand does.before.request) program
-          (Contains (replied_in (log_of old.client)) does.before.request) (Contains (replied_in (log_of new.client)) does.before.request)
+          (Contains (replied_in (log_of_client old.client)) does.before.request) (Contains (replied_in (log_of_client new.client)) does.before.request)
           refl (λ h. inl (same-replied does.same.log does.before.request h)) (was program look))
 
   -- after a program was finished
@@ -127,10 +127,10 @@ module _ (laws : ReadLaws) (shared : Shared) (script : Script) (number upto : �
   finish-turn does r turn =
       turn-left r (laws.reads shared old.hand new.hand r keeps.is_hand is
       (laws.finish _ old.hand new.hand does.before does.answer does.finishes r))
-      (λ program look h. done program look (replied-cases (log_of old.client) (log_of new.client) (step-on shared script number upto old new (inr (inr (inr (inl does))))) r h)) turn
+      (λ program look h. done program look (replied-cases (log_of_client old.client) (log_of_client new.client) (step-on shared script number upto old new (inr (inr (inr (inl does))))) r h)) turn
     where
-      done : (program : Program) → IsLookAt script r program → Contains (replied_in (log_of old.client)) r ⊎ Contains (does.before.request ∷ []) r
-          → Contains (replied_in (log_of old.client)) r ⊎ (next_visit (own_reads old.hand r) program ≡ None)
+      done : (program : Program) → IsLookAt script r program → Contains (replied_in (log_of_client old.client)) r ⊎ Contains (does.before.request ∷ []) r
+          → Contains (replied_in (log_of_client old.client)) r ⊎ (next_visit (own_reads old.hand r) program ≡ None)
       done program look (inl before) = inl before
       done program look (inr now) =
           let same : does.before.request ≡ r = only does.before.request r now in
@@ -156,17 +156,17 @@ module _ (laws : ReadLaws) (shared : Shared) (script : Script) (number upto : �
   -- a program that was begun has read nothing
   first-turn : (does : DoesStart shared script number upto old new) → HasTurn script new does.r
   first-turn does program look =
-      subst (λ (reads : List (Name × State)). ReadsInTurn reads program (Contains (replied_in (log_of new.client)) does.r)) (sym none)
-      (turn-at-first program (Contains (replied_in (log_of new.client)) does.r)
-      (λ h. unreplied (replied-cases (log_of old.client) (log_of new.client) (step-on shared script number upto old new (inr (inl does))) does.r h)))
+      subst (λ (reads : List (Name × State)). ReadsInTurn reads program (Contains (replied_in (log_of_client new.client)) does.r)) (sym none)
+      (turn-at-first program (Contains (replied_in (log_of_client new.client)) does.r)
+      (λ h. unreplied (replied-cases (log_of_client old.client) (log_of_client new.client) (step-on shared script number upto old new (inr (inl does))) does.r h)))
     where
       none : own_reads new.hand does.r ≡ []
       none = laws.reads shared old.hand new.hand does.r keeps.is_hand is
           (laws.start _ old.hand new.hand does.asked.gate does.r old.client.session.last does.stamp does.starts does.r)
           ∙ (keeps.fresh old.client.session.begun does.r (omega arith) does.next.turn.next).unread
 
-      unreplied : Contains (replied_in (log_of old.client)) does.r ⊎ Contains [] does.r → ⊥
-      unreplied (inl before) = next-unreplied laws number old.client.session (log_of old.client) keeps.at_end does.r does.next.turn before
+      unreplied : Contains (replied_in (log_of_client old.client)) does.r ⊎ Contains [] does.r → ⊥
+      unreplied (inl before) = next-unreplied laws number old.client.session (log_of_client old.client) keeps.at_end does.r does.next.turn before
       unreplied (inr now) = has_none does.r now
 
   -- what was begun has a turn
@@ -187,7 +187,7 @@ module _ (laws : ReadLaws) (shared : Shared) (script : Script) (number upto : �
 -- all that was begun so far has read in turn
 record HaveTurns (script : Script) (from at : Stand) : Type 0 where
   gained : List SessionEntry
-  log : log_of at.client ≡ log_of from.client ++ gained
+  log : log_of_client at.client ≡ log_of_client from.client ++ gained
   turns : (r : ℕ) (stamp : Stamp) → Contains (begins_in gained) (r, stamp) → HasTurn script at r
 
 module _ (laws : ReadLaws) (shared : Shared) (script : Script) (number upto : ℕ) where
@@ -198,7 +198,7 @@ module _ (laws : ReadLaws) (shared : Shared) (script : Script) (number upto : �
       let on = step-on shared script number upto old new does in
       record {
         gained = so_far.gained ++ on.0;
-        log = on.1 ∙ ap (λ (l : List SessionEntry). l ++ on.0) so_far.log ∙ append_assoc (log_of from.client) so_far.gained on.0;
+        log = on.1 ∙ ap (λ (l : List SessionEntry). l ++ on.0) so_far.log ∙ append_assoc (log_of_client from.client) so_far.gained on.0;
         turns = λ r stamp h. elim (Contains-append_cases (begins_in so_far.gained) (begins_in on.0) (r, stamp)
             (subst (λ (l : List (ℕ × Stamp)). Contains l (r, stamp)) (flat_map-append (λ (e : SessionEntry). begin_by e.deed) so_far.gained on.0) h)) [
               | inl before ↦ step-turn laws shared script number upto old new keeps is does r (so_far.turns r stamp before)
@@ -219,8 +219,8 @@ module _ (laws : ReadLaws) (shared : Shared) (script : Script) (number upto : �
   read-in-turn path from at keeps went gained log r stamp h =
       let so_far = turns-on path from from at keeps went (record {
         gained = [];
-        log = sym (append-nil (log_of from.client));
+        log = sym (append-nil (log_of_client from.client));
         turns = λ q s none. absurd (has_none (q, s) none);
       }) in
       so_far.turns r stamp (subst (λ (l : List SessionEntry). Contains (begins_in l) (r, stamp))
-      (append_cancel_left (log_of from.client) gained so_far.gained (sym log ∙ so_far.log)) h)
+      (append_cancel_left (log_of_client from.client) gained so_far.gained (sym log ∙ so_far.log)) h)

@@ -14,7 +14,7 @@ use Rattle.weave_entries.specs.declared.gate_log.GateDeed.{GateDeed}
 use Rattle.weave_entries.specs.declared.shard_log.ShardEntry.{ShardEntry}
 use Rattle.weave_entries.specs.declared.shard_log.ShardDeed.{ShardDeed}
 use Rattle.weave_entries.specs.declared.shard_log.ShardDeed.TheVariants.{Arrived, Applied, Visited, Collected}
-use Rattle.weave_entries.specs.GateReplay.{Begun, begun_by, begun_in, programs_of}
+use Rattle.weave_entries.specs.GateReplay.{BegunRequest, begun_by, begun_in, programs_of}
 use Rattle.weave_entries.specs.ShardReplay.{Visit, visit_by, visits_of}
 use Rattle.weave_account.specs.declared.account.Account.{Account}
 use Rattle.weave_account.specs.Account.{all_begun, gate_log, reads_of, shard_log}
@@ -23,7 +23,7 @@ use Rattle.weave_account.proofs.Beginning.{program-begun as program-among}
 use Rattle.hands_account.proofs.ByHands.{start-or-hand, start-within}
 use Rattle.hands_account.proofs.Once.{begun-author as entry-author}
 use Rattle.hands_account.proofs.Places.{has-on}
-use Rattle.seen_logs.specs.Seen.{VisitsItsOwn, since}
+use Rattle.seen_logs.specs.Seen.{VisitsItsOwn, entries_since}
 use Rattle.weaver_core.specs.declared.client.Client.{Client}
 use Rattle.weaver_hands.specs.Programs.{own_reads}
 use Rattle.weaver_locks.specs.declared.hand.Hand.{Hand}
@@ -39,11 +39,11 @@ use Rattle.workers_account.proofs.Follows.{begun-new}
 use Rattle.workers_account.proofs.Own.{since-is}
 
 -- a program that began is among what began
-pub program-begun : (log : List GateEntry) (begun : Begun) → Contains (programs_of log) begun → Contains (begun_in log) begun
+pub program-begun : (log : List GateEntry) (begun : BegunRequest) → Contains (programs_of log) begun → Contains (begun_in log) begun
 program-begun log begun h = program-among log begun h
 
 -- what an entry began has the entry's author
-pub begun-author : (author : ℕ) (deed : GateDeed) (begun : Begun) → Contains (begun_by author deed) begun → author ≡ begun.author
+pub begun-author : (author : ℕ) (deed : GateDeed) (begun : BegunRequest) → Contains (begun_by author deed) begun → author ≡ begun.author
 begun-author author deed begun h = entry-author author deed begun h
 
 -- a visit has its entry's author
@@ -58,7 +58,7 @@ module _ (laws : PhaseLaws) (shared : Shared) (script : Script) (upto : ℕ) (st
     (run : IsPhaseRun shared script upto start was is hands) (closed : Account) (end : IsClosedBy shared script start is hands closed) where
   -- the request had begun at the start
   pub record BeganBefore (r : ℕ) : Type 0 where
-    pub begun : Begun
+    pub begun : BegunRequest
     pub there : Contains (all_begun start) begun
     pub request_is : begun.request ≡ r
 
@@ -68,18 +68,18 @@ module _ (laws : PhaseLaws) (shared : Shared) (script : Script) (upto : ℕ) (st
     pub h : Contains hands hand
     pub number_is : hand_number hand ≡ author
     pub home : ℕ
-    pub begun : Begun
+    pub begun : BegunRequest
     pub there : Contains (begun_in ((part-of laws shared script upto start was is hands run hand h).gates home)) begun
     pub request_is : begun.request ≡ r
 
   -- what a hand began since the start, as it has seen it, is of its part
   pub since-part : (hand : Hand) (h : Contains hands hand) (home r : ℕ) (stamp : Stamp)
-      → Contains (programs_of (since (gate_log start home) (gate_log (seen_by hand) home))) (record { author = hand_number hand; request = r; stamp = stamp })
+      → Contains (programs_of (entries_since (gate_log start home) (gate_log (seen_by hand) home))) (record { author = hand_number hand; request = r; stamp = stamp })
       → Contains (begun_in ((part-of laws shared script upto start was is hands run hand h).gates home)) (record { author = hand_number hand; request = r; stamp = stamp })
   since-part hand h home r stamp there =
       let part = part-of laws shared script upto start was is hands run hand h in
-      let begun : Begun = record { author = hand_number hand; request = r; stamp = stamp } in
-      let more = since (gate_log start home) (gate_log (seen_by hand) home) in
+      let begun : BegunRequest = record { author = hand_number hand; request = r; stamp = stamp } in
+      let more = entries_since (gate_log start home) (gate_log (seen_by hand) home) in
       let from = flat_has (λ (e : GateEntry). begun_by e.author e.deed) more begun (program-begun more begun there) in
       let own = begun-author from.0.author from.0.deed begun from.2 in
       has_flat (λ (e : GateEntry). begun_by e.author e.deed) (part.gates home) from.0 begun
@@ -94,7 +94,7 @@ module _ (laws : PhaseLaws) (shared : Shared) (script : Script) (upto : ℕ) (st
       → ShardFitsAs script start shard before deed → BeganBefore visit.request
   visit-before shard before author (Visited r stamp v updates settled) visit h fits =
       let same = only (record { author = author; request = r; stamp = stamp; vertex = v; updates = updates; settled = settled }) visit h in
-      let begun : Begun = record { author = fits.author; request = r; stamp = stamp } in
+      let begun : BegunRequest = record { author = fits.author; request = r; stamp = stamp } in
       record {
         begun = begun;
         there = all-has start fits.home begun (program-begun (gate_log start fits.home) begun fits.begun);
@@ -110,7 +110,7 @@ module _ (laws : PhaseLaws) (shared : Shared) (script : Script) (upto : ℕ) (st
   visit-since author low (Visited r stamp v updates settled) visit h own =
       let same = only (record { author = author; request = r; stamp = stamp; vertex = v; updates = updates; settled = settled }) visit h in
       let one = of-number laws shared script upto start was is hands run author low in
-      let seen = subst (λ (x : ℕ × Account). Contains (programs_of (since (gate_log start own.0) (gate_log x.1 own.0))) (record { author = x.0; request = r; stamp = stamp }))
+      let seen = subst (λ (x : ℕ × Account). Contains (programs_of (entries_since (gate_log start own.0) (gate_log x.1 own.0))) (record { author = x.0; request = r; stamp = stamp }))
       (λ i. (sym one.number_is i, one.seen_is i)) own.1 in
       record {
         hand = one.hand;

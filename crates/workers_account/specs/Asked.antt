@@ -2,10 +2,10 @@
 use Rattle.std.specs.Prelude.{◌≡◌, ℕ, List, ◌++◌, Contains}
 use Rattle.vector_stamp.specs.declared.clock.Stamp.{Stamp}
 use Rattle.weave_entries.specs.declared.oracle_log.OracleEntry.{OracleEntry}
-use Rattle.weave_entries.specs.GateReplay.{Begun, begun_in}
+use Rattle.weave_entries.specs.GateReplay.{BegunRequest, begun_in}
 use Rattle.weave_entries.specs.OracleReplay.{settled_entry}
 use Rattle.weave_account.specs.Account.{gate_log}
-use Rattle.seen_logs.specs.Seen.{since}
+use Rattle.seen_logs.specs.Seen.{entries_since}
 use Rattle.weaver_locks.specs.declared.hand.Hand.{Hand}
 use Rattle.weaver_locks.specs.declared.shared.Shared.{Shared}
 use Rattle.weaver_locks.specs.Hands.{hand_number, made_by, seen_by}
@@ -15,8 +15,8 @@ use Rattle.weaver_workers.specs.ClientWork.{Stand}
 -- the stamp is that of a request that the hand began since the start
 pub record IsBegunSince (shared : Shared) (hand : Hand) (stamp : Stamp) : Type 0 where
   pub home : ℕ
-  pub begun : Begun
-  pub there : Contains (begun_in (since (gate_log (start_of shared) home) (gate_log (seen_by hand) home))) begun
+  pub begun : BegunRequest
+  pub there : Contains (begun_in (entries_since (gate_log (start_of shared) home) (gate_log (seen_by hand) home))) begun
   pub own : begun.author ≡ hand_number hand
   pub stamp_is : begun.stamp ≡ stamp
 

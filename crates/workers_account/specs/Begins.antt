@@ -20,7 +20,7 @@ use Rattle.weave_account.specs.Account.{gate_log}
 use Rattle.weave_account.specs.GoesOn.{IsBeginningOf}
 use Rattle.weave_account.specs.Sessions.{requests_of_session}
 use Rattle.seen_logs.specs.Seen.{IsOwn}
-use Rattle.weaver_core.specs.Clients.{log_of}
+use Rattle.weaver_core.specs.Sessions.{log_of_client}
 use Rattle.weaver_locks.specs.Hands.{hand_number, seen_by}
 use Rattle.weaver_workers.specs.ClientWork.{Stand}
 
@@ -54,4 +54,4 @@ BeginsInTurn script session log home before _ = ⊤
 abbrev pub AreBegunInTurn : Script → ℕ → Stand → Stand → Type 0
 AreBegunInTurn script session from at = (home : ℕ) → AtEachEntry (λ before (entry : GateEntry).
     IsOwn (hand_number from.hand) (gate_log (seen_by from.hand) home) before entry.author
-    → BeginsInTurn script session (log_of at.client) home before entry.deed) (gate_log (seen_by at.hand) home)
+    → BeginsInTurn script session (log_of_client at.client) home before entry.deed) (gate_log (seen_by at.hand) home)

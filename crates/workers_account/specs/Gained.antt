@@ -10,22 +10,22 @@ use Rattle.weave_entries.specs.declared.gate_log.GateEntry.{GateEntry}
 use Rattle.weave_entries.specs.declared.gate_log.GateDeed.TheVariants.{Raised}
 use Rattle.weave_entries.specs.declared.session_log.SessionEntry.{SessionEntry}
 use Rattle.weave_entries.specs.declared.store_log.StoreEntry.{StoreEntry}
-use Rattle.weave_entries.specs.GateReplay.{Begun, begun_in, ended_in}
+use Rattle.weave_entries.specs.GateReplay.{BegunRequest, begun_in, ended_in}
 use Rattle.weave_entries.specs.SessionReplay.{begins_in, replied_in}
 use Rattle.weave_entries.specs.StoreReplay.{Judgement, judgements_of}
 use Rattle.weave_account.specs.Account.{gate_log}
-use Rattle.weaver_core.specs.Clients.{log_of, requests_in}
+use Rattle.weaver_core.specs.Sessions.{log_of_client, requests_in}
 use Rattle.weaver_locks.specs.Hands.{made_by}
 use Rattle.weaver_workers.specs.ClientWork.{Stand}
 
 -- These are the hand's new entries at each gatekeeper and at the store, the session's new entries, and its new replies.
-pub record Gained (from at : Stand) : Type 0 where
+pub record GainedEntries (from at : Stand) : Type 0 where
   pub gates : ℕ → List GateEntry
   pub at_gates : (home : ℕ) → gate_log (made_by at.hand) home ≡ gate_log (made_by from.hand) home ++ gates home
   pub store : List StoreEntry
   pub at_store : (made_by at.hand).store ≡ (made_by from.hand).store ++ store
   pub session : List SessionEntry
-  pub in_session : log_of at.client ≡ log_of from.client ++ session
+  pub in_session : log_of_client at.client ≡ log_of_client from.client ++ session
   pub replies : List Reply
   pub in_replies : at.client.replies.items ≡ from.client.replies.items ++ replies
 
@@ -44,7 +44,7 @@ pub record IsJudgedFor (script : Script) (log : List SessionEntry) (judged : Jud
 -- before `upto`. No epoch was raised.
 pub record AreInStep (script : Script) (author upto : ℕ) (gates : ℕ → List GateEntry) (store : List StoreEntry)
     (log : List SessionEntry) : Type 0 where
-  pub begun : (home : ℕ) (begun : Begun) → Contains (begun_in (gates home)) begun
+  pub begun : (home : ℕ) (begun : BegunRequest) → Contains (begun_in (gates home)) begun
       → Contains (begins_in log) (begun.request, begun.stamp)
   pub at_gate : (r : ℕ) (stamp : Stamp) → Contains (begins_in log) (r, stamp)
       → IsBegunAtItsGate script author gates r stamp
@@ -57,9 +57,9 @@ pub record AreInStep (script : Script) (author upto : ℕ) (gates : ℕ → List
 -- What was gained is in step. The requests that were begun and judged rise. There is one reply for each that the log
 -- has.
 pub record IsInStep (script : Script) (author upto : ℕ) (from at : Stand) : Type 0 where
-  pub gained : Gained from at
+  pub gained : GainedEntries from at
   pub in_step : AreInStep script author upto gained.gates gained.store gained.session
-  pub begun_rise : (home : ℕ) → AllPairs (λ (a b : Begun). a.request < b.request) (begun_in (gained.gates home))
+  pub begun_rise : (home : ℕ) → AllPairs (λ (a b : BegunRequest). a.request < b.request) (begun_in (gained.gates home))
   pub judged_rise : AllPairs (λ (a b : Judgement). a.request < b.request) (judgements_of gained.store)
   pub requests : requests_in at.client ≡ requests_in from.client
   pub replied : map (λ (reply : Reply). reply.request) gained.replies ≡ replied_in gained.session

@@ -6,14 +6,14 @@ use Rattle.program_defs.specs.declared.script.Script.{Script}
 use Rattle.report_rules.specs.Lookups.{request_at}
 use Rattle.weave_entries.specs.declared.gate_log.GateEntry.{GateEntry}
 use Rattle.weave_entries.specs.declared.gate_log.GateDeed.TheVariants.{Raised}
-use Rattle.weave_entries.specs.GateReplay.{Begun, begun_in}
+use Rattle.weave_entries.specs.GateReplay.{BegunRequest, begun_in}
 use Rattle.weave_account.specs.declared.account.Account.{Account}
 use Rattle.weave_account.specs.Account.{all_begun, gate_log, pairs_in}
 use Rattle.step_rules.specs.Requests.{has_reply}
 
 -- a begun request of this stamp that had no reply before
 pub record IsOpen (script : Script) (old new : Account) (stamp : Stamp) : Type 0 where
-  pub begun : Begun
+  pub begun : BegunRequest
   pub there : Contains (all_begun new) begun
   pub stamp_is : begun.stamp ≡ stamp
   pub unanswered : (request : Request) → request_at script begun.request ≡ Some request
@@ -29,7 +29,7 @@ AddsOpenPairs script old new =
 pub record GainsBelow (upto : ℕ) (old new : List GateEntry) : Type 0 where
   pub more : List GateEntry
   pub log : new ≡ old ++ more
-  pub begun : (begun : Begun) → Contains (begun_in more) begun → begun.request < upto
+  pub begun : (begun : BegunRequest) → Contains (begun_in more) begun → begun.request < upto
   pub epochs : (entry : GateEntry) → Contains more entry → (epoch : ℕ) → entry.deed ≢ Raised epoch
 
 -- each gatekeeper's has

@@ -2,6 +2,7 @@
 use Rattle.std.specs.Prelude.{◌≡◌, ◌⊎◌, ℕ, ◌<◌, List, length, map, Contains, slice_get, Some}
 use Rattle.std.specs.List.{range_with_len}
 use Rattle.std.proofs.Common.{inl, inr}
+use Rattle.weave_data.specs.Limits.{most_sessions}
 use Rattle.program_defs.specs.declared.script.Script.{Script}
 use Rattle.program_defs.specs.Limits.{IsWithinLimits}
 use Rattle.weave_account.specs.declared.account.Account.{Account}
@@ -11,7 +12,7 @@ use Rattle.weave_account.specs.Sessions.{requests_of_session}
 use Rattle.seen_logs.specs.Closed.{AreOfHands}
 use Rattle.seen_logs.specs.Seen.{AreLegal, IsWithin, without_sessions}
 use Rattle.weaver_core.specs.declared.client.Client.{Client}
-use Rattle.weaver_core.specs.Clients.{log_of, requests_in}
+use Rattle.weaver_core.specs.Sessions.{log_of_client, requests_in}
 use Rattle.weaver_core.specs.Splitting.{IsClientByLog, NoneInFlight}
 use Rattle.weaver_locks.specs.declared.hand.Hand.{Hand}
 use Rattle.weaver_locks.specs.declared.shared.Shared.{Shared}
@@ -31,8 +32,8 @@ pub record IsPhaseStart (script : Script) (start : Account) (shared : Shared) (c
   pub landed : NoneInFlight start
   pub locks : AreLocksOf script shared
   pub start_is : start_of shared ≡ without_sessions start
-  pub logs : start.sessions ≡ map log_of clients
-  pub requests : map requests_in clients ≡ map (requests_of_session script) (range_with_len 0 64)
+  pub logs : start.sessions ≡ map log_of_client clients
+  pub requests : map requests_in clients ≡ map (requests_of_session script) (range_with_len 0 most_sessions)
   pub by_log : (client : Client) → Contains clients client → IsClientByLog script start client
 
 -- The hand only carried.
@@ -45,7 +46,7 @@ pub record CarriedOn (shared : Shared) (from hand : Hand) : Type 0 where
 pub record FollowedOn (shared : Shared) (script : Script) (upto : ℕ) (was is : List Client) (session : ℕ)
     (from hand : Hand)
     : Type 0 where
-  pub within : session < 64
+  pub within : session < most_sessions
   pub client : Client
   pub client_is : slice_get was session ≡ Some client
   pub left : Client
@@ -87,8 +88,8 @@ pub record IsPhaseRun (shared : Shared) (script : Script) (upto : ℕ) (start : 
       × (seen_by_number hands (hand_number hand) ≡ seen_by hand)
   pub hand_of : ℕ → ℕ
   pub parts : (hand : Hand) → Contains hands hand → IsPartBy shared script upto was is hand_of hand
-  pub many : length is ≡ 64
-  pub sessions : (session : ℕ) → session < 64 → (slice_get is session ≡ slice_get was session)
+  pub many : length is ≡ most_sessions
+  pub sessions : (session : ℕ) → session < most_sessions → (slice_get is session ≡ slice_get was session)
       ⊎ ((hand : Hand) × (h : Contains hands hand)
       × IsOfSession shared script upto was is hand_of (parts hand h).from hand
       session (parts hand h).did)
@@ -99,7 +100,7 @@ pub record IsClosedBy (shared : Shared) (script : Script) (start : Account) (is 
     (closed : Account) : Type 0 where
   pub gates : length closed.gates ≡ script.gates
   pub shards : length closed.shards ≡ script.shards
-  pub sessions : closed.sessions ≡ map log_of is
+  pub sessions : closed.sessions ≡ map log_of_client is
   pub legal : AreLegal script.gates script.shards closed
   pub of_hands : AreOfHands script.shards (hands_of shared) (without_sessions start) (seen_by_number hands)
       (without_sessions closed)
@@ -115,7 +116,7 @@ pub record IsPhaseEnd (script : Script) (upto : ℕ) (start : Account) (is : Lis
     pub is_account : IsAccount script closed
     pub goes_on : GoesOn start closed
     pub landed : NoneInFlight closed
-    pub requests : map requests_in is ≡ map (requests_of_session script) (range_with_len 0 64)
+    pub requests : map requests_in is ≡ map (requests_of_session script) (range_with_len 0 most_sessions)
     pub by_log : (client : Client) → Contains is client → IsClientByLog script closed client
     pub begins : GainBelow upto start closed
     pub pairs : AddsOpenPairs script start closed

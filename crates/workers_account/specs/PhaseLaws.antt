@@ -1,6 +1,7 @@
 -- The laws that the account of a phase relies on, in one record. No public contract cites this.
 use Rattle.std.specs.Prelude.{◌≡◌, ◌↔◌, ℕ, ◌<◌, ◌≤◌, ◌==◌, List, [], map, take, length, AllPairs, Contains, IsTrue, Some}
 use Rattle.std.specs.List.{filter}
+use Rattle.weave_data.specs.Limits.{most_gates}
 use Rattle.vector_stamp.specs.declared.clock.Clock.{Clock}
 use Rattle.vector_stamp.specs.declared.clock.Stamp.{Stamp}
 use Rattle.program_defs.specs.declared.script.Request.{Request}
@@ -10,7 +11,7 @@ use Rattle.report_rules.specs.Lookups.{request_at}
 use Rattle.weave_entries.specs.declared.gate_log.GateEntry.{GateEntry}
 use Rattle.weave_entries.specs.declared.session_log.SessionEntry.{SessionEntry}
 use Rattle.weave_entries.specs.declared.session_log.SessionDeed.{SessionDeed}
-use Rattle.weave_entries.specs.GateReplay.{Begun, ended_in, flight_of, programs_of, txs_of}
+use Rattle.weave_entries.specs.GateReplay.{BegunRequest, ended_in, flight_of, programs_of, txs_of}
 use Rattle.weave_entries.specs.GateRules.{BeginsEachOnce, EndsWhatItBegan, IsGateLog}
 use Rattle.weave_entries.specs.SessionReplay.{IsSessionLog, begins_in, has_reply_in, next_request, replied_count, replied_in, session_of}
 use Rattle.weave_entries.specs.ShardReplay.{Visit}
@@ -22,7 +23,7 @@ use Rattle.weave_account.specs.GoesOn.{GoesOn, IsBeginningOf, visits_by}
 use Rattle.weave_account.specs.IsAccount.{IsAccount}
 use Rattle.weave_account.specs.Sessions.{RepliesAs, SessionsClause, requests_of_session}
 use Rattle.seen_logs.specs.Closed.{AreOfHands}
-use Rattle.seen_logs.specs.Seen.{AreLegal, VisitsOwnPrograms, since, without_sessions}
+use Rattle.seen_logs.specs.Seen.{AreLegal, VisitsOwnPrograms, entries_since, without_sessions}
 use Rattle.hands_account.specs.Runs.{IsRunByHands}
 use Rattle.weaver_locks.specs.declared.hand.Hand.{Hand}
 use Rattle.weaver_locks.specs.declared.shared.Shared.{Shared}
@@ -57,15 +58,16 @@ pub record PhaseLaws : Type 0 where
       → Contains (visits_by r (shard_log (seen_by hand) shard)) visit → visit.author ≡ hand_number hand)
       → own_reads hand r ≡ reads_of (seen_by hand) r
   pub reads_closed : (gates shards hands : ℕ) (start : Account) (seen_by : ℕ → Account) (closed : Account)
-      → length closed.gates ≤ 8 → AreLegal gates shards closed
+      → length closed.gates ≤ most_gates → AreLegal gates shards closed
       → AreOfHands shards hands start seen_by closed → BeginEachOnce closed
       → (number home r : ℕ) (stamp : Stamp) → number < hands
-      → Contains (programs_of (since (gate_log start home) (gate_log (seen_by number) home)))
+      → Contains (programs_of (entries_since (gate_log start home) (gate_log (seen_by number) home)))
       (record { author = number; request = r; stamp = stamp }) → reads_of closed r ≡ reads_of (seen_by number) r
   -- Logs at gatekeepers
   pub ends : (home shards : ℕ) (log : List GateEntry) → IsGateLog home shards log → EndsWhatItBegan log
   pub flights : (home shards : ℕ) (log : List GateEntry) → IsGateLog home shards log → BeginsEachOnce log
-      → (tx : Begun) → (flight_of log ≡ Some tx) ↔ (Contains (txs_of log) tx × ¬ Contains (ended_in log) tx.request)
+      → (tx : BegunRequest)
+      → (flight_of log ≡ Some tx) ↔ (Contains (txs_of log) tx × ¬ Contains (ended_in log) tx.request)
   -- Sessions
   pub begun_first : (number : ℕ) (requests : List ℕ) (log : List SessionEntry) → IsSessionLog number requests log
       → map (λ (begun : ℕ × Stamp). begun.0) (begins_in log) ≡ take (session_of requests log).begun requests

@@ -3,7 +3,7 @@ use Rattle.std.specs.Prelude.{◌≡◌, ℕ, ◌<◌, Contains, IsTrue, Some}
 use Rattle.program_defs.specs.declared.script.Request.{Request}
 use Rattle.program_defs.specs.declared.script.Script.{Script}
 use Rattle.report_rules.specs.Lookups.{request_at}
-use Rattle.weave_entries.specs.GateReplay.{Begun}
+use Rattle.weave_entries.specs.GateReplay.{BegunRequest}
 use Rattle.weave_account.specs.declared.account.Account.{Account}
 use Rattle.weave_account.specs.Account.{all_begun}
 use Rattle.step_rules.specs.Requests.{has_reply}
@@ -12,4 +12,4 @@ use Rattle.step_rules.specs.Requests.{has_reply}
 pub record IsAnsweredUpTo (script : Script) (bound : ℕ) (account : Account) : Type 0 where
   pub replied : (r : ℕ) (request : Request) → r < bound → request_at script r ≡ Some request
       → IsTrue (has_reply account r request)
-  pub unbegun : (begun : Begun) → Contains (all_begun account) begun → begun.request < bound
+  pub unbegun : (begun : BegunRequest) → Contains (all_begun account) begun → begun.request < bound

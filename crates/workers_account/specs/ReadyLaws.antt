@@ -3,7 +3,7 @@ use Rattle.std.specs.Prelude.{◌≡◌, ◌≢◌, ℕ, [], Contains, Some}
 use Rattle.vector_stamp.specs.declared.clock.Stamp.{Stamp}
 use Rattle.program_defs.specs.declared.script.Script.{Script}
 use Rattle.program_defs.specs.Limits.{IsWithinLimits}
-use Rattle.weave_entries.specs.GateReplay.{Begun, programs_of}
+use Rattle.weave_entries.specs.GateReplay.{BegunRequest, programs_of}
 use Rattle.weave_entries.specs.SessionReplay.{session_of}
 use Rattle.weave_entries.specs.ShardRules.{IsShardLog}
 use Rattle.weave_account.specs.declared.account.Account.{Account}
@@ -24,6 +24,6 @@ pub record ReadyLaws : Type 0 where
       → (number : ℕ) → IsSeenByHand script.shards number (without_sessions account) (without_sessions account)
   -- Reads
   pub unread : (shards : ℕ) (seen : Account) → ((shard : ℕ) → ShardRefersWithin shards seen shard) → (r : ℕ)
-      → ((home : ℕ) (begun : Begun) → Contains (programs_of (gate_log seen home)) begun → begun.request ≢ r)
+      → ((home : ℕ) (begun : BegunRequest) → Contains (programs_of (gate_log seen home)) begun → begun.request ≢ r)
       → reads_of seen r ≡ []
   pub own_unread : (hand : Hand) (r : ℕ) → reads_of (seen_by hand) r ≡ [] → own_reads hand r ≡ []

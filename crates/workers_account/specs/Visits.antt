@@ -16,7 +16,7 @@ use Rattle.weave_entries.specs.SessionReplay.{begins_in, replied_in}
 use Rattle.weave_entries.specs.StoreReplay.{Judgement, judgements_of}
 use Rattle.weave_account.specs.Programs.{ReadsInTurn}
 use Rattle.weave_account.specs.Report.{state_by_verdict}
-use Rattle.weaver_core.specs.Clients.{log_of}
+use Rattle.weaver_core.specs.Sessions.{log_of_client}
 use Rattle.weaver_core.specs.Walks.{IsLookAt}
 use Rattle.weaver_locks.specs.declared.hand.Hand.{Hand}
 use Rattle.weaver_locks.specs.Hands.{made_by}
@@ -26,10 +26,10 @@ use Rattle.weaver_workers.specs.ClientWork.{Stand}
 -- Each program that the session began since then has read, by the hand's visits, the first of its vertices in turn, and
 -- all of them if it has its reply.
 abbrev pub ReadInTurn : Script → Stand → Stand → Type 0
-ReadInTurn script from at = (gained : List SessionEntry) → log_of at.client ≡ log_of from.client ++ gained
+ReadInTurn script from at = (gained : List SessionEntry) → log_of_client at.client ≡ log_of_client from.client ++ gained
     → (r : ℕ) (stamp : Stamp) → Contains (begins_in gained) (r, stamp)
     → (program : Program) → IsLookAt script r program
-    → ReadsInTurn (own_reads at.hand r) program (Contains (replied_in (log_of at.client)) r)
+    → ReadsInTurn (own_reads at.hand r) program (Contains (replied_in (log_of_client at.client)) r)
 
 -- the reply is of a transaction, by a judgement of the hand
 pub record IsReplyByJudgement (script : Script) (hand : Hand) (reply : Reply) : Type 0 where
@@ -46,7 +46,7 @@ pub record IsReplyByJudgement (script : Script) (hand : Hand) (reply : Reply) : 
 pub record IsReplyByReads (script : Script) (at : Stand) (reply : Reply) : Type 0 where
   pub program : Program
   pub look : IsLookAt script reply.request program
-  pub replied : Contains (replied_in (log_of at.client)) reply.request
+  pub replied : Contains (replied_in (log_of_client at.client)) reply.request
   pub answer : Answer
   pub state_is : reply.state ≡ Finished answer
   pub plain : IsPlainAnswer (graph_read (own_reads at.hand reply.request)) program answer
@@ -55,7 +55,7 @@ pub record IsReplyByReads (script : Script) (at : Stand) (reply : Reply) : Type 
 pub record IsReplyByHand (script : Script) (at : Stand) (reply : Reply) : Type 0 where
   pub stamp : Stamp
   pub stamp_is : reply.stamp ≡ Some stamp
-  pub begun : Contains (begins_in (log_of at.client)) (reply.request, stamp)
+  pub begun : Contains (begins_in (log_of_client at.client)) (reply.request, stamp)
   pub state : IsReplyByJudgement script at.hand reply ⊎ IsReplyByReads script at reply
 
 abbrev pub AreRepliesByHand : Script → Stand → Stand → Type 0

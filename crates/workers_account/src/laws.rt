@@ -16,7 +16,7 @@ ghost use Rattle.weave_account.specs.Account.{shard_log};
 ghost use Rattle.weave_account.specs.IsAccount.{IsAccount};
 ghost use Rattle.seen_logs.specs.Seen.{VisitsOwnPrograms, without_sessions};
 ghost use Rattle.weaver_core.specs.declared.client.Client.{Client};
-ghost use Rattle.weaver_core.specs.Clients.{log_of};
+ghost use Rattle.weaver_core.specs.Sessions.{log_of_client};
 ghost use Rattle.weaver_locks.specs.declared.hand.Hand.{Hand};
 ghost use Rattle.weaver_locks.specs.declared.shared.Shared.{Shared};
 ghost use Rattle.weaver_locks.specs.Closing.{logs_of, seen_by_number, AreInOrder, MayStart};
@@ -54,7 +54,7 @@ pub fn begun_requests_are_of_the_phase()
     ensures { (shared : Shared) (script : Script) (number start upto : ℕ) (from at : Stand) (path : List Stand)
         (gained : List SessionEntry) → KeepsClient shared script number from.hand from.client
         → HasReplies start from.client → Goes shared script number upto from path at
-        → log_of at.client ≡ log_of from.client ++ gained → (r : ℕ) (stamp : Stamp)
+        → log_of_client at.client ≡ log_of_client from.client ++ gained → (r : ℕ) (stamp : Stamp)
         → Contains (begins_in gained) (r, stamp) → (start ≤ r) × (r < upto) }
 {
     begun_and_replied_are_decided();
@@ -102,8 +102,8 @@ pub fn split_clients_are_ready()
     ensures ready { (script : Script) (start : Account) (shared : Shared) (clients : List Client) (hand : Hand)
         (session : ℕ) (client : Client) → IsPhaseStart script start shared clients → IsHand shared hand
         → seen_by hand ≡ start_of shared → slice_get clients session ≡ Some client
-        → ((r : ℕ) (stamp : Stamp) → Contains (begins_in (log_of client)) (r, stamp)
-        → IsTrue (has_reply_in r (log_of client))) → KeepsClient shared script session hand client }
+        → ((r : ℕ) (stamp : Stamp) → Contains (begins_in (log_of_client client)) (r, stamp)
+        → IsTrue (has_reply_in r (log_of_client client))) → KeepsClient shared script session hand client }
 {
     phases_keep_their_laws();
     phases_start_by_their_laws();

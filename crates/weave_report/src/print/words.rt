@@ -2,7 +2,8 @@
 ghost use Rattle.std.specs.Prelude.{◌≡◌, ◌++◌, OnOk};
 ghost use Rattle.std.specs.List.{AllByRecursion};
 ghost use Rattle.weave_text.specs.Lines.{spaced_words};
-ghost use Rattle.weave_report.specs.ReportText.{answer_words, begun_text, is_program, kind_text, name_at, reason_text};
+ghost use Rattle.weave_report.specs.ReportText.{answer_words, begun_text, kind_text, name_at, reason_text};
+ghost use Rattle.report_rules.specs.Lookups.{is_program};
 ghost use Rattle.weave_report.specs.TextOf.{IsName, IsTypedAnswer};
 
 use crate::print::state::print_state;

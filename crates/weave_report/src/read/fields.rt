@@ -1,7 +1,7 @@
 //! Fields of lines.
 ghost use Rattle.std.specs.Prelude.{◌≡◌, []};
 ghost use Rattle.weave_report.specs.ReadAnswers.{Gives};
-ghost use Rattle.weave_report.specs.ReadingFields.{name_in, names_in, names_from, number_in, reason_in, small_number_in, this_number_in};
+ghost use Rattle.weave_report.specs.ReadingFields.{name_in, read_names, names_from, read_number, reason_in, small_number_in, this_number_in};
 
 use crate::fault::{LineFault, ReportCause};
 use graph_ops::{Name, Reason};
@@ -21,7 +21,7 @@ pub(crate) fn name_in(word: &[u8]) -> Result<Name, LineFault>
 
 /// Names.
 pub(crate) fn names_in(alloc: Global, words: Pieces) -> Result<Items<Name>, LineFault>
-    ensures { Gives result (names_in words.entry) }
+    ensures { Gives result (read_names words.entry) }
 {
     let mut names = Items::new(alloc);
     for word in words {
@@ -32,7 +32,7 @@ pub(crate) fn names_in(alloc: Global, words: Pieces) -> Result<Items<Name>, Line
 
 /// A number of 64 bits.
 pub(crate) fn number_in(word: &[u8]) -> Result<u64, LineFault>
-    ensures { Gives result (number_in word.now) }
+    ensures { Gives result (read_number word.now) }
 {
     match number(word) {
         Some(number) => Ok(number),

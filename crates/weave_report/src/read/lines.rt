@@ -1,7 +1,7 @@
 //! Lines at their places.
 ghost use Rattle.std.specs.Prelude.{◌≡◌, [], ◌∷◌, Ok, IfOk};
 ghost use Rattle.weave_report.specs.ReadAnswers.{Gives};
-ghost use Rattle.weave_report.specs.Reading.{after_answers, after_first, after_got, after_line, after_pairs, after_replies, behind_commit, behind_reply, next_get, order_in, pair_in, reading, with_answer, with_order, with_pair, with_reply};
+ghost use Rattle.weave_report.specs.Reading.{after_answers, after_first, after_got, after_report_line, after_pairs, after_replies, behind_commit, behind_reply, next_get, order_in, pair_in, reading, with_answer, with_order, with_pair, with_reply_read};
 ghost use Rattle.weave_report.specs.ReadingLists.{with_named};
 
 use crate::fault::{LineFault, ReportCause};
@@ -23,7 +23,7 @@ pub(crate) fn after_line(
     reading: Reading,
     words: Pieces,
 ) -> Result<Reading, LineFault>
-    ensures { Gives result (after_line script.now reading words.entry) }
+    ensures { Gives result (after_report_line script.now reading words.entry) }
 {
     let Reading { report, place } = reading;
     match place {
@@ -90,7 +90,7 @@ fn behind_reply(alloc: Global, report: Report, line: ReplyLine) -> Result<Readin
 
 // The report with one more reply, after which the next may follow.
 fn with_reply(mut report: Report, reply: Reply) -> Result<Reading, LineFault>
-    ensures { Gives result (Ok (reading (with_reply report reply) Place.Replies)) }
+    ensures { Gives result (Ok (reading (with_reply_read report reply) Place.Replies)) }
 {
     let replies = &mut report.replies;
     replies.push(reply)?;

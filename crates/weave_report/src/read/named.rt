@@ -4,11 +4,10 @@ ghost use Rattle.weave_data.specs.Pairs.{at_key};
 ghost use Rattle.std.specs.List.{AllByRecursion};
 ghost use Rattle.program_defs.specs.Works.{ops_of};
 ghost use Rattle.weave_report.specs.ReadAnswers.{Gives};
-ghost use Rattle.weave_report.specs.ReadingReplies.{any_named, gets_of, kind_named, ops_at, program_named, program_of, request_from, request_named};
+ghost use Rattle.weave_report.specs.ReadingReplies.{any_named, get_numbers, kind_named, ops_of_request, program_named, look_of_work, request_from, request_named};
 ghost use Rattle.report_rules.specs.ReportOf.{numbers_of_gets};
-ghost use Rattle.weave_report.specs.ReportText.{is_program};
-ghost use Rattle.weave_report.specs.TextOf.{IsName, IsTypedScript, HasDistinctNames, names_of};
-ghost use Rattle.report_rules.specs.Lookups.{request_at};
+ghost use Rattle.weave_report.specs.TextOf.{IsName, IsTypedScript, HasDistinctNames, request_names};
+ghost use Rattle.report_rules.specs.Lookups.{is_program, request_at};
 
 use crate::fault::{LineFault, ReportCause};
 use graph_ops::{Name, Op};
@@ -75,7 +74,7 @@ impl<'a> Named<'a> {
 
     /// The operations of a transaction; a program and a request that isn't there have none.
     pub(crate) fn ops(&self, place: u32) -> &[Op]
-        ensures ops { result.now ≡ ops_at self.now place }
+        ensures ops { result.now ≡ ops_of_request self.now place }
         ensures few { length result.now < 2 ^ 32 }
     {
         let _ = &self.script;
@@ -83,7 +82,7 @@ impl<'a> Named<'a> {
     }
 
     fn found_ops(&self, place: u32) -> &[Op]
-        ensures { result.now ≡ ops_at self.now place }
+        ensures { result.now ≡ ops_of_request self.now place }
     {
         match self.request(place) {
             Some(request) => ops_of(&request.work),
@@ -114,7 +113,7 @@ fn places(alloc: Global, requests: &[Request]) -> Result<HashMap<Name, u32>, All
     requires { length requests.now < 2 ^ 32 }
     ensures places { IfOk result (λ places. (name : List ℕ)
         → at_key name places.entries ≡ request_from 0 name requests.now) }
-    ensures names { OnOk result (AllByRecursion IsName (names_of requests.now)) }
+    ensures names { OnOk result (AllByRecursion IsName (request_names requests.now)) }
 {
     let mut places = HashMap::new(alloc);
     let mut place = requests.len();
@@ -136,7 +135,7 @@ fn ops_of(work: &Work) -> &[Op]
 }
 
 fn program_of(work: &Work) -> Option<Program>
-    ensures { result ≡ program_of work.now }
+    ensures { result ≡ look_of_work work.now }
 {
     match work {
         Work::Change(_) => None,
@@ -166,7 +165,7 @@ pub(crate) fn kind_named(program: bool, script: &Named, name: Name) -> Result<u3
 
 /// The numbers of a transaction's `get`s.
 pub(crate) fn gets_of(alloc: Global, script: &Named, place: u32) -> Result<Items<u32>, AllocError>
-    ensures { IfOk result (λ gets. gets ≡ gets_of script.now place) }
+    ensures { IfOk result (λ gets. gets ≡ get_numbers script.now place) }
 {
     numbers_of_gets(alloc, script.ops(place))
 }

@@ -1,7 +1,7 @@
 //! Records.
 ghost use Rattle.std.specs.Prelude.{◌≡◌, [], map, option_map, position, Some};
 ghost use Rattle.weave_report.specs.ReadAnswers.{Changes, Gives};
-ghost use Rattle.weave_report.specs.ReadingStates.{cut_first, edge_of, empty_record, is_equals, is_item_mark, item_in, item_of, items_in, pair_in, tag_in, tags_in, with_item, with_last, with_property, goes_last};
+ghost use Rattle.weave_report.specs.ReadingStates.{cut_first, edge_of, empty_record, is_equals, is_item_mark, item_in, item_of, items_in, key_and_value, tag_in, tags_in, with_item_read, with_last, with_property, goes_last};
 
 use crate::fault::{LineFault, ReportCause};
 use crate::read::fields::name_in;
@@ -28,7 +28,7 @@ pub(crate) fn items_in(alloc: Global, words: Pieces) -> Result<Record, LineFault
 
 // Puts an item into a record: no property after an edge, and each in the order of keys.
 fn with_item(held: &mut Record, item: Item) -> Result<(), LineFault>
-    ensures { Changes result held.new (with_item held.old item) }
+    ensures { Changes result held.new (with_item_read held.old item) }
 {
     match item {
         Item::Property { key, value } => with_property(held, key, value),
@@ -162,7 +162,7 @@ fn equals_sign(word: &[u8]) -> Option<usize>
 
 // A key and its value.
 fn pair_in(key: &[u8], value: &[u8]) -> Result<(Name, Name), LineFault>
-    ensures { Gives result (pair_in key.now value.now) }
+    ensures { Gives result (key_and_value key.now value.now) }
 {
     let key = name_in(key)?;
     let value = name_in(value)?;

@@ -3,7 +3,7 @@ ghost use Rattle.std.specs.Prelude.{◌≡◌, ◌&&◌, [], ◌∷◌, Some, co
 ghost use Rattle.std.specs.Str.{bytes_eq};
 ghost use Rattle.weave_report.specs.ReadAnswers.{Gives};
 ghost use Rattle.weave_report.specs.declared.fault.ReportCause.TheVariants.{Line};
-ghost use Rattle.weave_report.specs.ReadingReplies.{begun_in, committed_in, conflict_in, finished_by, finished_in, got_in, program_in, refused_in, transaction_in, unbegun_in, verdict_in};
+ghost use Rattle.weave_report.specs.ReadingReplies.{read_begun, committed_in, conflict_in, finished_by, finished_in, got_in, program_in, refused_in, transaction_in, unbegun_in, read_verdict};
 
 use crate::fault::{LineFault, ReportCause};
 use crate::read::fields::{name_in, number_in, reason_in, small_number_in, this_number_in};
@@ -46,7 +46,7 @@ fn verdict_in(
     state: &[u8],
     mut more: Pieces,
 ) -> Result<ReplyLine, LineFault>
-    ensures { Gives result (verdict_in script.now name.now stamp.now state.now more.entry) }
+    ensures { Gives result (read_verdict script.now name.now stamp.now state.now more.entry) }
 {
     let Some(first) = more.next() else {
         return begun_told(alloc, script, name, stamp, state);
@@ -92,7 +92,7 @@ fn begun_told(
     stamp: &[u8],
     state: &[u8],
 ) -> Result<ReplyLine, LineFault>
-    ensures { Gives result (verdict_in script.now name.now stamp.now state.now []) }
+    ensures { Gives result (read_verdict script.now name.now stamp.now state.now []) }
 {
     if !is(state, b"begun") {
         return Err(LineFault::Refused(ReportCause::Line));
@@ -108,7 +108,7 @@ fn commit_told(
     state: &[u8],
     number: &[u8],
 ) -> Result<ReplyLine, LineFault>
-    ensures { Gives result (verdict_in script.now name.now stamp.now state.now (number.now ∷ [])) }
+    ensures { Gives result (read_verdict script.now name.now stamp.now state.now (number.now ∷ [])) }
 {
     if !is(state, b"committed") {
         return Err(LineFault::Refused(ReportCause::Line));
@@ -125,7 +125,7 @@ fn conflict_told(
     vertex: &[u8],
     newer: &[u8],
 ) -> Result<ReplyLine, LineFault>
-    ensures { Gives result (verdict_in script.now name.now stamp.now state.now (vertex.now ∷ newer.now ∷ [])) }
+    ensures { Gives result (read_verdict script.now name.now stamp.now state.now (vertex.now ∷ newer.now ∷ [])) }
 {
     if !is(state, b"conflict") {
         return Err(LineFault::Refused(ReportCause::Line));
@@ -185,7 +185,7 @@ fn begun_in(
     name: &[u8],
     stamp: &[u8],
 ) -> Result<ReplyLine, LineFault>
-    ensures { Gives result (begun_in program script.now name.now stamp.now) }
+    ensures { Gives result (read_begun program script.now name.now stamp.now) }
 {
     let name = name_in(name)?;
     let stamp = stamp_in(alloc, script.gates(), stamp)?;

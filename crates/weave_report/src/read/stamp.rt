@@ -2,20 +2,17 @@
 ghost use Rattle.std.specs.Prelude.{◌≡◌, []};
 ghost use Rattle.weave_report.specs.ReadAnswers.{Gives};
 ghost use Rattle.weave_report.specs.ReadingLists.{counted_stamp, few_counts};
-ghost use Rattle.weave_report.specs.ReadingFields.{count_in, stamp_in, stamp_of, stamp_parts};
+ghost use Rattle.weave_report.specs.ReadingFields.{count_in, read_stamp, stamp_with_counts, stamp_parts};
 
 use crate::fault::{LineFault, ReportCause};
 use std::alloc::Global;
-use vector_stamp::{Clock, Stamp};
+use vector_stamp::{COUNTS, Clock, Stamp};
 use weave_data::Items;
 use weave_text::{Pieces, number};
 
-/// The most counts of a stamp.
-const MOST_COUNTS: usize = 8;
-
 /// A stamp, in a script of `gates` gatekeepers.
 pub(crate) fn stamp_in(alloc: Global, gates: u32, word: &[u8]) -> Result<Stamp, LineFault>
-    ensures { Gives result (stamp_in gates word.now) }
+    ensures { Gives result (read_stamp gates word.now) }
 {
     stamp_parts(alloc, gates, Pieces::new(b':', word))
 }
@@ -70,7 +67,7 @@ fn counts_in(alloc: Global, words: Pieces) -> Result<Items<u64>, LineFault>
 {
     let mut counts = Items::new(alloc);
     for word in words {
-        if counts.as_slice().len() == MOST_COUNTS {
+        if counts.as_slice().len() == COUNTS {
             return Err(LineFault::Refused(ReportCause::Stamp));
         }
         counts.push(count_in(word)?)?;
@@ -79,12 +76,12 @@ fn counts_in(alloc: Global, words: Pieces) -> Result<Items<u64>, LineFault>
 }
 
 fn stamp_of(gates: u32, epoch: u64, home: u64, counts: &[u64]) -> Result<Stamp, LineFault>
-    ensures { Gives result (stamp_of gates epoch home counts.now) }
+    ensures { Gives result (stamp_with_counts gates epoch home counts.now) }
 {
-    if home >= u64::from(gates) || counts.len() != (gates as usize).min(8) {
+    if home >= u64::from(gates) || counts.len() != (gates as usize).min(COUNTS) {
         return Err(LineFault::Refused(ReportCause::Stamp));
     }
-    let mut eight = [0; 8];
+    let mut eight = [0; COUNTS];
     eight[..counts.len()].copy_from_slice(counts);
     Ok(Stamp {
         home: home as u32,

@@ -1,7 +1,7 @@
 //! States and answers.
 ghost use Rattle.std.specs.Prelude.{◌≡◌, ◌∷◌};
 ghost use Rattle.weave_report.specs.ReadAnswers.{Gives};
-ghost use Rattle.weave_report.specs.ReadingStates.{answer_in, is_answer_form, is_state_form, state_in, walk_in};
+ghost use Rattle.weave_report.specs.ReadingStates.{answer_in, is_answer_form, is_state_form, read_state, walk_in};
 
 use crate::fault::LineFault;
 use crate::read::fields::names_in;
@@ -24,7 +24,7 @@ pub(crate) fn state_in(
     form: &[u8],
     items: Pieces,
 ) -> Result<Option<Record>, LineFault>
-    ensures { Gives result (state_in (form.now ∷ items.entry)) }
+    ensures { Gives result (read_state (form.now ∷ items.entry)) }
 {
     if !is(form, b"record") {
         return Ok(None);

@@ -4,7 +4,7 @@ ghost use Rattle.std.specs.List.{prefix_len};
 ghost use Rattle.weave_text.specs.Lines.{lines_text};
 ghost use Rattle.weave_script.specs.ScriptLines.{due_phases, item_lines, later_phases, phase_lines};
 
-use crate::print::request::print_request;
+use crate::print::requests::print_request;
 use program_defs::Request;
 use std::alloc::AllocError;
 use weave_text::Text;

@@ -1,6 +1,6 @@
 //! Fields of lines.
 ghost use Rattle.std.specs.Prelude.{◌≡◌};
-ghost use Rattle.weave_script.specs.Fields.{name_of, number_in, at_least};
+ghost use Rattle.weave_script.specs.Fields.{name_word, number_in, at_least};
 
 use crate::fault::Cause;
 use weave_data::Name;
@@ -8,7 +8,7 @@ use weave_text::{Numeral, number_up_to};
 
 /// The name that a word is.
 pub(crate) fn name_of(word: &[u8]) -> Result<Name, Cause>
-    ensures { result ≡ name_of word.now }
+    ensures { result ≡ name_word word.now }
 {
     Name::parse(word).ok_or(Cause::Name)
 }

@@ -1,7 +1,7 @@
 //! Reads a script that a report follows.
 ghost use Rattle.std.specs.Prelude.{◌≤◌, ◌+◌, length, IfOk};
 ghost use Rattle.weave_script.specs.Parts.{GivesHead};
-ghost use Rattle.weave_script.specs.ReadText.{head_of};
+ghost use Rattle.weave_script.specs.ReadText.{head_of_text};
 
 use crate::fault::{Cause, ScriptFault};
 use crate::read::part::{Part, read_part};
@@ -20,7 +20,7 @@ pub(crate) struct Head<'a> {
 
 /// The script before a report, or the first fault of the text up to there.
 pub(crate) fn read_head(alloc: Global, bytes: &[u8]) -> Result<Head<'_>, ScriptFault>
-    ensures head { GivesHead result (head_of bytes.now) }
+    ensures head { GivesHead result (head_of_text bytes.now) }
     ensures from_one { IfOk result (λ head. 1 ≤ head.line) }
     ensures room { IfOk result (λ head. head.line + length head.left.now ≤ 4194305) }
 {

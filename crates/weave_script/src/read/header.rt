@@ -5,6 +5,7 @@ ghost use Rattle.weave_text.specs.Numbers.{is_number};
 
 use crate::fault::Cause;
 use crate::read::fields::number_in;
+use weave_data::{MOST_GATES, MOST_SHARDS};
 use weave_text::{Numeral, is, number_up_to};
 
 /// The numbers of gatekeepers and of shards that the words of a header give.
@@ -22,8 +23,8 @@ pub(crate) fn header_of(words: &[&[u8]]) -> Result<(u32, u32), Cause>
 fn sizes_of(gates: &[u8], shards: &[u8]) -> Result<(u32, u32), Cause>
     ensures { result ≡ sizes_of gates.now shards.now }
 {
-    let gates = number_in(1, 8, Cause::Gatekeepers, gates)?;
-    let shards = number_in(1, 16, Cause::Shards, shards)?;
+    let gates = number_in(1, MOST_GATES, Cause::Gatekeepers, gates)?;
+    let shards = number_in(1, MOST_SHARDS, Cause::Shards, shards)?;
     Ok((gates, shards))
 }
 

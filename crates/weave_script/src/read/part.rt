@@ -7,10 +7,10 @@ ghost use Rattle.weave_script.specs.ReadText.{is_open, is_report, read_on, read_
 ghost use Rattle.weave_script.specs.Reading.{start};
 
 use crate::fault::{Cause, LineFault, ScriptFault};
-use crate::limits::MOST_BYTES;
-use crate::read::reader::{Reader, after_line, start};
+use crate::read::lines::{Reader, after_line, start};
 use crate::read::reading::Place;
 use std::alloc::{AllocError, Global};
+use weave_data::MOST_BYTES;
 use weave_text::{Pieces, first_line, is, is_skipped};
 
 /// No line of the grammar has this many words, so the words after them aren't looked at.

@@ -1,12 +1,16 @@
 //! The lines that begin a transaction, and those that are a program.
 ghost use Rattle.std.specs.Prelude.{◌≡◌, map};
-ghost use Rattle.weave_script.specs.RequestLines.{opening_of, tx_of, filter_of, tag_of, bound_of, show_program, reach_program, around_program, path_program, show_of, reach_of, around_of, path_of, program_of, prog_of};
+ghost use Rattle.weave_script.specs.RequestLines.{opening_of, tx_of, filter_of, tag_of, bound_word, show_program, reach_program, around_program, path_program, show_of, reach_of, around_of, path_of, program_of, prog_of};
 
 use crate::fault::Cause;
 use crate::read::fields::{name_of, number_in};
 use crate::read::reading::Opening;
 use program_defs::{Filter, Program};
+use weave_data::MOST_SESSIONS;
 use weave_text::is;
+
+// The greatest number of a session.
+const LAST_SESSION: u32 = MOST_SESSIONS - 1;
 
 /// The beginning of a transaction, from the words after `tx`.
 pub(crate) fn tx_of(gates: u32, words: &[&[u8]]) -> Result<Opening, Cause>
@@ -37,7 +41,7 @@ fn opening_of(gates: u32, name: &[u8], session: &[u8], gate: &[u8]) -> Result<Op
 {
     Ok(Opening {
         name: name_of(name)?,
-        session: number_in(0, 63, Cause::Session, session)?,
+        session: number_in(0, LAST_SESSION, Cause::Session, session)?,
         gate: number_in(0, gates.saturating_sub(1), Cause::Gatekeeper, gate)?,
     })
 }
@@ -147,7 +151,7 @@ fn path_program(
 }
 
 fn bound_of(word: &[u8]) -> Result<u32, Cause>
-    ensures { result ≡ bound_of word.now }
+    ensures { result ≡ bound_word word.now }
 {
     number_in(0, 1_000, Cause::Bound, word)
 }

@@ -1,7 +1,7 @@
 //! The lines of steps.
 ghost use Rattle.std.specs.Prelude.{◌≡◌, map};
 ghost use Rattle.weave_data.specs.Pairs.{at_key};
-ghost use Rattle.weave_script.specs.StepLines.{named_request, gate_of, shard_of, notice_of, epoch_of, step_of, step_of_one, step_of_two, step_of_three, hear_of, nop_of, apply_of, epoch_step_of, deliver_of, of_gate, of_shard, of_request};
+ghost use Rattle.weave_script.specs.StepLines.{named_request, gate_word, shard_word, notice_word, epoch_word, step_of, step_of_one, step_of_two, step_of_three, hear_of, nop_of, apply_of, epoch_step_of, deliver_of, of_gate, of_shard, of_request};
 
 use crate::fault::Cause;
 use crate::read::fields::{name_of, number_in};
@@ -131,26 +131,26 @@ fn named_request(places: &HashMap<Name, u32>, word: &[u8]) -> Result<u32, Cause>
 }
 
 fn gate_of(sizes: Sizes, word: &[u8]) -> Result<u32, Cause>
-    ensures { result ≡ gate_of sizes.gates word.now }
+    ensures { result ≡ gate_word sizes.gates word.now }
 {
     number_in(0, sizes.gates.saturating_sub(1), Cause::Gatekeeper, word)
 }
 
 fn shard_of(sizes: Sizes, word: &[u8]) -> Result<u32, Cause>
-    ensures { result ≡ shard_of sizes.shards word.now }
+    ensures { result ≡ shard_word sizes.shards word.now }
 {
     number_in(0, sizes.shards.saturating_sub(1), Cause::Shard, word)
 }
 
 // The number of a notice or a message.
 fn notice_of(word: &[u8]) -> Result<u64, Cause>
-    ensures { result ≡ notice_of word.now }
+    ensures { result ≡ notice_word word.now }
 {
     Ok(u64::from(number_in(1, 100_000, Cause::Number, word)?))
 }
 
 fn epoch_of(word: &[u8]) -> Result<u64, Cause>
-    ensures { result ≡ epoch_of word.now }
+    ensures { result ≡ epoch_word word.now }
 {
     Ok(u64::from(number_in(1, 1_000_000, Cause::Number, word)?))
 }

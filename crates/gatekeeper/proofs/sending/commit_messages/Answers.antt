@@ -1,7 +1,7 @@
 use Rattle.std.proofs.Common.{◌≡◌, ◌+◌, ◌<◌, ℕ, List, length, map, filter, drop, refl, sym, ap, ◌∙◌, Some, arith}
 use Rattle.std.specs.List.{list_any, range_with_len}
 use Rattle.graph_ops.specs.declared.part.Part.{Part}
-use Rattle.weave_entries.specs.Sending.{keeps, part_for, parts_for}
+use Rattle.weave_entries.specs.Sending.{is_kept_at, part_for, parts_for}
 use Rattle.weave_entries.specs.declared.message.Addressed.{Addressed}
 use Rattle.gatekeeper.specs.Messages.{made_for, with_parted, sent_at}
 use Rattle.gatekeeper.specs.Parts.{parts_by_shard}
@@ -35,9 +35,9 @@ loop-shard-preserved c =
     let make = made_for channels shards c.args.flight.now c.args.low ops counts in
     let one_is : made ≡ make place = λ i. one (steps.1 i) (number i) (next.1 i) in
     let added = c.in_ok-add_message.ensures ∙ ap (λ (ps : List Part). with_parted made ps c.loop-shard.messages.items) next.1 in
-    let more = made_more make (λ n. list_any (keeps shards n) counts) place (keeps shards place) (part_for ops) counts made c.loop-shard.messages.items c.add_message.new.messages.items c.loop-shard.invariant.made refl one_is added in
+    let more = made_more make (λ n. list_any (is_kept_at shards n) counts) place (is_kept_at shards place) (part_for ops) counts made c.loop-shard.messages.items c.add_message.new.messages.items c.loop-shard.invariant.made refl one_is added in
     record {
-      made = more ∙ ap (λ n. map make (filter (λ shard. list_any (keeps shards shard) counts) (range_with_len 0 n))) (sym steps.2);
+      made = more ∙ ap (λ n. map make (filter (λ shard. list_any (is_kept_at shards shard) counts) (range_with_len 0 n))) (sym steps.2);
       left = next.2 ∙ ap (λ n. drop n (parts_by_shard shards ops counts)) (sym steps.2);
       long =
           let was = c.loop-shard.invariant.long in
@@ -55,4 +55,4 @@ returns c =
     let none = c.in-None.ensures.steps in
     let over = all_gone (λ shard. parts_for shards shard ops counts) shards _ _ c.loop-shard.invariant.left (sym c.loop-shard.invariant.long ∙ none.0.0) in
     let end : c.loop-shard.shard-iterator.count ≡ shards = omega (arith, c.loop-shard.invariant.within, over) in
-    c.loop-shard.invariant.made ∙ ap (λ n. map (made_for c.args.channels.now shards c.args.flight.now c.args.low ops counts) (filter (λ shard. list_any (keeps shards shard) counts) (range_with_len 0 n))) end
+    c.loop-shard.invariant.made ∙ ap (λ n. map (made_for c.args.channels.now shards c.args.flight.now c.args.low ops counts) (filter (λ shard. list_any (is_kept_at shards shard) counts) (range_with_len 0 n))) end

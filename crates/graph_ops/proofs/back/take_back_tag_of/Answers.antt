@@ -1,5 +1,5 @@
 use Rattle.std.proofs.Common.{is_some, option_map, sym, ap, ◌∙◌}
-use Rattle.weave_data.specs.Changes.{undone}
+use Rattle.weave_data.specs.Changes.{undone_pairs}
 use Rattle.weave_data.specs.Pairs.{has, put}
 use Rattle.graph_ops.specs.TakingBack.{with_edge}
 use Rattle.graph_ops.specs.declared.record.Edge.{Edge}
@@ -17,4 +17,4 @@ returns c =
     ∙ ap (put c.args.name (record edge { tags = c.take_back.new.self })) c.swap-edge.ensures.after
     ∙ put_over c.args.name (record edge { tags = c.take_back.new.self }) c.bare.result c.args.edges.now
     ∙ ap (λ tags. put c.args.name (record edge { tags = tags }) c.args.edges.now) c.take_back.ensures
-    ∙ sym (ap (λ x. with_edge c.args.name (option_map {T = Edge} (λ found. record found { tags = undone c.args.undo found.tags }) x) c.args.edges.now) c.swap-edge.ensures.before)
+    ∙ sym (ap (λ x. with_edge c.args.name (option_map {T = Edge} (λ found. record found { tags = undone_pairs c.args.undo found.tags }) x) c.args.edges.now) c.swap-edge.ensures.before)

@@ -1,7 +1,7 @@
 use Rattle.std.proofs.Common.{◌≡◌, ◌++◌, [], ◌∷◌, sym, ap, ◌∙◌, subst}
 use Rattle.graph_ops.specs.Slots.{states_of}
 use Rattle.graph_ops.specs.Journals.{CanRewindIn, Keeps}
-use Rattle.graph_ops.specs.TakingBack.{rewound}
+use Rattle.graph_ops.specs.TakingBack.{graph_rewound}
 use Rattle.graph_ops.proofs.Rewinding.{still_can, noted_can, noted_same}
 use Rattle.graph_ops.proofs.journal.note.Goals as goal
 
@@ -21,8 +21,8 @@ returns-in-Ok-clause-kept c =
 pub returns-in-Ok-clause-same : goal.returns-in-Ok-clause-same
 returns-in-Ok-clause-same c =
     let keeps = subst (λ v. Keeps (record { v = v; back = c.in-Ok.field-0.back }) c.perform.new.slots.entries c.make_place.new.slots.entries) (sym c.vertex-v.ensures) c.in-Ok.ensures.back in
-    ap (λ steps. rewound steps (states_of c.perform.new.slots.entries)) (c.push_reserved.ensures.items ∙ ap (λ steps. steps ++ record { v = c.vertex-v.result; back = c.in-Ok.field-0.back } ∷ []) c.reserve.ensures.items)
-    ∙ noted_same c.args.journal.now.items _ _ _ keeps ∙ ap (rewound c.args.journal.now.items) c.make_place.ensures.same
+    ap (λ steps. graph_rewound steps (states_of c.perform.new.slots.entries)) (c.push_reserved.ensures.items ∙ ap (λ steps. steps ++ record { v = c.vertex-v.result; back = c.in-Ok.field-0.back } ∷ []) c.reserve.ensures.items)
+    ∙ noted_same c.args.journal.now.items _ _ _ keeps ∙ ap (graph_rewound c.args.journal.now.items) c.make_place.ensures.same
 
 pub returns-in-Err-clause-kept : goal.returns-in-Err-clause-kept
 returns-in-Err-clause-kept c =

@@ -1,6 +1,6 @@
 use Rattle.std.proofs.Common.{sym, ap, ◌∙◌, subst}
 use Rattle.graph_ops.specs.Slots.{states_of}
-use Rattle.graph_ops.specs.TakingBack.{rewound, CanRewind}
+use Rattle.graph_ops.specs.TakingBack.{graph_rewound, CanRewind}
 use Rattle.graph_ops.specs.Journals.{CanRewindIn}
 use Rattle.graph_ops.proofs.Rewinding.{rewound_last, last_can, others_can, places_stay, other_places}
 use Rattle.graph_ops.proofs.journal.rewind.Goals as goal
@@ -19,5 +19,5 @@ loop-step-preserved c =
         subst (CanRewind steps) (sym c.undo_step.ensures.after) (others_can steps c.in-Some.step (states_of before) can.0),
         places_stay steps _ _ c.undo_step.ensures.others (other_places steps c.in-Some.step before can.1),
       );
-      back = ap (rewound steps) c.undo_step.ensures.after ∙ sym (rewound_last steps c.in-Some.step (states_of before)) ∙ ap (λ all. rewound all (states_of before)) (sym c.in-Some.ensures.items) ∙ c.loop-step.invariant.back;
+      back = ap (graph_rewound steps) c.undo_step.ensures.after ∙ sym (rewound_last steps c.in-Some.step (states_of before)) ∙ ap (λ all. graph_rewound all (states_of before)) (sym c.in-Some.ensures.items) ∙ c.loop-step.invariant.back;
     }

@@ -1,6 +1,6 @@
 use Rattle.std.proofs.Common.{◌∙◌, subst, sym}
 use Rattle.weaver_locks.specs.Locks.{shard_count}
-use Rattle.hands_rows.specs.Workers.{IsWorker}
+use Rattle.hands_rows.specs.Workers.{IsWorkerOf}
 use Rattle.hands_rows.proofs.Going.{ends-on}
 use Rattle.hands_rows.proofs.Quiet.{finish-quiet}
 use Rattle.hands_rows.proofs.walked.finish.Goals as goal
@@ -16,7 +16,7 @@ returns-clause-worker g c =
     let new = c.finish.new.hand in
     let running = c.in-Some.running in
     let did = c.finish.ensures.done in
-    subst (IsWorker shared new me.next me.last) (sym c.replace.ensures.after)
+    subst (IsWorkerOf shared new me.next me.last) (sym c.replace.ensures.after)
     (ends-on laws shared me.hand new me.next me.last me.walk
     (finish-quiet laws shared me.hand new (shard_count shared) running c.finish.result did) c.finish.ensures.hand c.requires.worker
     (c.calls_leave_others_alone.ensures.finish_visits (shard_count shared) me.hand new running c.finish.result did))

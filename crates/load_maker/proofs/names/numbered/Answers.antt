@@ -1,7 +1,7 @@
 use Rattle.std.proofs.Common.{[], ◌∷◌, ap, Option, ◌∙◌, sym}
 use Rattle.std.specs.Option.{is_some, unwrap_or}
 use Rattle.weave_data.specs.declared.name.Name.{Name}
-use Rattle.load_maker.specs.Generated.{numbered}
+use Rattle.load_maker.specs.Generated.{numbered_name}
 use Rattle.load_maker.proofs.NumberedNames.{parsed}
 use Rattle.load_maker.proofs.names.numbered.Goals as goal
 
@@ -12,4 +12,4 @@ unwrap-requires c =
 pub returns : goal.returns
 returns c =
     let parse = parsed c.args.letter c.args.number c.as_bytes-digits.result.now c.copy_from_slice.new.self _ c.parse.result c.requires c.ranges.number.fits (c.as_bytes-digits.ensures.value ∙ c.format.ensures.text) c.copy_from_slice.ensures.after c.parse.ensures in
-    ap (λ (o : Option Name). unwrap_or o (numbered (c.args.letter ∷ []) c.args.number)) (sym c.unwrap.ensures ∙ parse)
+    ap (λ (o : Option Name). unwrap_or o (numbered_name (c.args.letter ∷ []) c.args.number)) (sym c.unwrap.ensures ∙ parse)

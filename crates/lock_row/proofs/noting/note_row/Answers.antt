@@ -4,7 +4,7 @@ use Rattle.chronicle.specs.declared.chronicle.Chronicle.{Chronicle}
 use Rattle.chronicle.specs.declared.pass.Pass.{Pass}
 use Rattle.chronicle.specs.declared.note.Note.{Note}
 use Rattle.chronicle.specs.Locks.{lock_of}
-use Rattle.chronicle.specs.Passes.{IsReady, IsNote, number_of, seen}
+use Rattle.chronicle.specs.Passes.{IsReady, IsNote, number_of, seen_by_pass}
 use Rattle.lock_row.proofs.Notings.{NotedSoFar, noted_more, stay_on, names_noted}
 use Rattle.lock_row.proofs.noting.note_row.Goals as goal
 
@@ -38,12 +38,12 @@ loop-place-preserved g c =
       notes = subst (λ (ns : List (Note E)). NotedSoFar locks before ns (k + 1)) (sym c.push_reserved.ensures.items)
           (noted_more locks before c.loop-place.notes.items c.note.result k (search rules) was.notes (λ d p. record {
             note = subst (λ l. IsNote (lock_of l) c.note.result) (lock d) told.note;
-            seen_is = told.noted ∙ (ap seen (pass p) ∙ (was.stay k d p low).seen_is);
+            seen_is = told.noted ∙ (ap seen_by_pass (pass p) ∙ (was.stay k d p low).seen_is);
           }));
       stay = stay_on locks before passes k c.note.new.pass low_pass was.stay (λ d p. record {
         ready = subst (λ l. IsReady (lock_of l) c.note.new.pass) (lock d) told.ready;
         number = told.number ∙ ap number_of (pass p);
-        seen_is = told.seen ∙ ap seen (pass p);
+        seen_is = told.seen ∙ ap seen_by_pass (pass p);
       });
     }
 

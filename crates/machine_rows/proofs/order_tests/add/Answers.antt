@@ -1,5 +1,5 @@
 use Rattle.std.proofs.Common.{rules, ◌≡◌, IfOk, OnOk, subst, true, false, sym, ◌∙◌, List, Contains, ◌++◌, ◌∷◌, []}
-use Rattle.vector_stamp.specs.Precedence.{Given, precedes}
+use Rattle.vector_stamp.specs.Precedence.{GivenPair, precedes}
 use Rattle.order_graph.specs.Building.{ends_of}
 use Rattle.order_graph.proofs.Stamps.{two_and_ends, ends_among-push}
 use Rattle.machine_rows.proofs.order_tests.add.Goals as goal
@@ -29,4 +29,4 @@ pub returns : goal.returns
 returns g c =
     let added : c.add.new.self.pairs ≡ c.args.graph.now.pairs ++ (c.args.earlier.now, c.args.later.now) ∷ [] =
     subst (λ r. OnOk r (c.add.new.self.pairs ≡ c.args.graph.now.pairs ++ (c.args.earlier.now, c.args.later.now) ∷ [])) c.expect.ensures c.add.ensures.added in
-    λ stamp h. ends_among-push c.args.earlier.now c.args.later.now c.args.graph.now.pairs c.args.events.now c.requires.earlier c.requires.later c.requires.known stamp (subst (λ (ps : List Given). Contains (ends_of ps) stamp) added h)
+    λ stamp h. ends_among-push c.args.earlier.now c.args.later.now c.args.graph.now.pairs c.args.events.now c.requires.earlier c.requires.later c.requires.known stamp (subst (λ (ps : List GivenPair). Contains (ends_of ps) stamp) added h)

@@ -2,7 +2,7 @@ use Rattle.std.proofs.Common.{◌≡◌, ◌<◌, [], length, true, slice_index_
 use Rattle.std.proofs.lemmas.List.{get_or_default}
 use Rattle.std.proofs.lemmas.List.Edits.{map_over_more}
 use Rattle.order_graph.specs.declared.chain.Event.{Event}
-use Rattle.order_graph.specs.Chains.{leads_to, joined_event, raised}
+use Rattle.order_graph.specs.Chains.{leads_to, joined_event, raised_event}
 use Rattle.order_graph.proofs.Raising.{raised_first, raised_last, raised_led, raised_so_far}
 use Rattle.order_graph.proofs.chain.raise_events.Goals as goal
 
@@ -34,9 +34,9 @@ loop-place-preserved c =
     let led : leads_to later event ≡ true = subst (λ (x : Event). leads_to later x ≡ true) (sym same) ((c.first_led-from.ensures.first c.requires.later).1 place nothing c.loop-place.auto.place c.loop-place-test.true) in
     let next : Event = record { stamp = event.stamp; frontier = c.join.new.self } in
     let joined_now : next ≡ joined_event latest event = λ i. record { stamp = event.stamp; frontier = record { latest = c.join.ensures i } } in
-    let is : next ≡ raised earlier later latest event = joined_now ∙ sym (raised_led earlier later latest event led (sym c.if-is_led_by.ensures)) in
+    let is : next ≡ raised_event earlier later latest event = joined_now ∙ sym (raised_led earlier later latest event led (sym c.if-is_led_by.ensures)) in
     let within : place < length now = omega (arith, c.loop-place.auto.events, c.loop-place-test.true) in
-    ap (λ (x : Event). slice_set now place x) is ∙ map_over_more (raised earlier later latest) events now place event c.loop-place-test.true c.loop-place.invariant (get_or_default now place nothing event within)
+    ap (λ (x : Event). slice_set now place x) is ∙ map_over_more (raised_event earlier later latest) events now place event c.loop-place-test.true c.loop-place.invariant (get_or_default now place nothing event within)
 
 pub returns : goal.returns
 returns c =

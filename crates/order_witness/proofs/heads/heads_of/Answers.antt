@@ -16,7 +16,7 @@ of_test x false = refl
 more : (line : List ℕ) (runs : List Run) (i : ℕ) (d : Run) → i < length runs → heads.heads_of line (take (i + 1) runs) ≡ heads.heads_of line (take i runs) ++ cond (nat_lt (get_or runs i d).next (get_or runs i d).end) (heads.item line (get_or runs i d).next ∷ []) []
 more line runs i d lt =
     ap (heads.heads_of line) (take_more runs i d lt)
-    ∙ filter_map-append (heads.head_of line) (take i runs) (get_or runs i d ∷ [])
+    ∙ filter_map-append (heads.head_of_run line) (take i runs) (get_or runs i d ∷ [])
     ∙ ap (λ (rs : List ℕ). heads.heads_of line (take i runs) ++ rs) (of_test (heads.item line (get_or runs i d).next) (nat_lt (get_or runs i d).next (get_or runs i d).end))
 
 pub loop-run-preserved : goal.loop-run-preserved

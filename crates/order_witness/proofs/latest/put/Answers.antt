@@ -1,13 +1,13 @@
 use Rattle.std.proofs.Common.{◌≡◌, ◌<◌, ℕ, IsTrue, Option, None, length, refl, sym, ap, ◌∙◌, subst, arith}
 use Rattle.std.proofs.lemmas.Bool.{not-true}
 use Rattle.std.proofs.lemmas.List.{get_or_default}
-use Rattle.order_witness.specs.Latest.{latest_of, is_after_last, precedes_one}
+use Rattle.order_witness.specs.Latest.{latest_request, is_after_last, precedes_one}
 use Rattle.order_witness.proofs.latest.put.Goals as goal
 
 pub returns : goal.returns
 returns c holds =
     let home : c.in-Some.stamp.home < length c.args.latest.now.items = omega arith in
-    let last : c.index.result.now ≡ latest_of c.args.latest.now.items c.in-Some.stamp.home = c.index.ensures ∙ get_or_default c.args.latest.now.items c.in-Some.stamp.home c.index.result.now None home in
+    let last : c.index.result.now ≡ latest_request c.args.latest.now.items c.in-Some.stamp.home = c.index.ensures ∙ get_or_default c.args.latest.now.items c.in-Some.stamp.home c.index.result.now None home in
     record {
       stamp = c.in-Some.stamp;
       stamp_is = sym c.in-Some.ensures;

@@ -1,11 +1,11 @@
 use Rattle.std.proofs.Common.{◌≡◌, ℕ, ◌+◌, ◌/◌, ◌++◌, ◌∷◌, [], List, false, length, refl, sym, subst, arith}
 use Rattle.std.proofs.lemmas.List.{length-append}
-use Rattle.order_witness.specs.Bits.{leads, HaveWords}
+use Rattle.order_witness.specs.Bits.{rows_lead, HaveWords}
 use Rattle.order_witness.proofs.Rows.{no_rows, words_more, empty_more}
 use Rattle.order_witness.proofs.relation.empty_rows.Goals as goal
 
 abbrev IsSoFar : ℕ → ℕ → List (List ℕ) → Type 0
-IsSoFar bound so_many rows = record { count : length rows ≡ so_many; wide : HaveWords (bound / 64 + 1) rows; empty : (a b : ℕ) → leads rows a b ≡ false }
+IsSoFar bound so_many rows = record { count : length rows ≡ so_many; wide : HaveWords (bound / 64 + 1) rows; empty : (a b : ℕ) → rows_lead rows a b ≡ false }
 
 none : (size : ℕ) → IsSoFar size 0 []
 none size = record { count = refl; wide = λ a below. absurd (omega (arith, below)); empty = no_rows }

@@ -1,5 +1,5 @@
 use Rattle.std.proofs.Common.{Result, Ok, Err, IsOk, OnOk, arith, ◌∙◌, ap}
-use Rattle.program_defs.specs.Walking.{mark_in}
+use Rattle.program_defs.specs.LeastWalks.{mark_in}
 use Rattle.program_defs.proofs.Noting.{first-mark}
 use Rattle.program_defs.proofs.path_search.first_mark.Goals as goal
 

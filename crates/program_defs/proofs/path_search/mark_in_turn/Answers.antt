@@ -1,6 +1,6 @@
 use Rattle.std.proofs.Common.{◌≡◌, ◌+◌, ◌∷◌, arith, sym, ap, length, ◌∙◌, drop}
 use Rattle.std.proofs.lemmas.List.{drop_more}
-use Rattle.program_defs.specs.Walking.{mark_in, marked}
+use Rattle.program_defs.specs.LeastWalks.{mark_in, marks_after}
 use Rattle.program_defs.proofs.Noting.{marked-step}
 use Rattle.program_defs.proofs.path_search.mark_in_turn.Goals as goal
 
@@ -17,6 +17,6 @@ loop-hop-preserved c =
       room = omega (arith, long, room, spare);
       marks = λ v.
           marked-step c.loop-hop.marks.entries c.mark_target.new.marks.entries one (drop (place + 1) hops) c.mark_target.ensures.marks c.mark_target.ensures.count v
-          ∙ ap (λ xs. marked (mark_in c.loop-hop.marks.entries) (length c.loop-hop.marks.entries) xs v) (sym rest_is)
+          ∙ ap (λ xs. marks_after (mark_in c.loop-hop.marks.entries) (length c.loop-hop.marks.entries) xs v) (sym rest_is)
           ∙ c.loop-hop.invariant.marks v;
     }

@@ -1,5 +1,5 @@
 use Rattle.std.proofs.Common.{Result, Ok, Err, IsOk, OnOk, arith, ◌≡◌, ◌∙◌, sym, ap, Some, is_some, length}
-use Rattle.program_defs.specs.Walking.{mark_in, with_mark}
+use Rattle.program_defs.specs.LeastWalks.{mark_in, with_mark}
 use Rattle.std.specs.Prelude.{if◌then◌else◌, false}
 use Rattle.weave_data.specs.Names.{same_name}
 use Rattle.program_defs.proofs.path_search.mark_target.Goals as goal

@@ -1,6 +1,6 @@
 use Rattle.std.proofs.Common.{append-nil, arith, sym, ap, length, drop, ◌≡◌, ◌∷◌, [], ◌+◌, ◌++◌, ◌∙◌}
 use Rattle.std.proofs.Math.ListN.{drop_of_length-le}
-use Rattle.program_defs.specs.Walking.{hops_from}
+use Rattle.program_defs.specs.LeastWalks.{hops_from}
 use Rattle.program_defs.proofs.NewNames.{targets-skipped, targets_in, next-edge}
 use Rattle.program_defs.proofs.Noting.{hop-more}
 use Rattle.program_defs.proofs.path_search.note_all.Goals as goal

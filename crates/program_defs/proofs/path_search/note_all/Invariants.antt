@@ -1,5 +1,5 @@
 use Rattle.std.proofs.Common.{◌≡◌, ◌≤◌, ◌+◌, ◌++◌, length, drop, vec_len, vec_capacity}
-use Rattle.program_defs.specs.Walking.{hops_from}
+use Rattle.program_defs.specs.LeastWalks.{hops_from}
 use Rattle.program_defs.proofs.NewNames.{targets_in}
 use Rattle.program_defs.proofs.path_search.note_all.Given as goal
 

@@ -4,10 +4,10 @@ use Rattle.weave_entries.specs.declared.oracle_log.OracleEntry.{OracleEntry}
 use Rattle.weave_entries.specs.OracleReplay.{pairs_of_log}
 use Rattle.weave_account.specs.Account.{IsBegunStamp}
 use Rattle.chronicle.specs.Frames.{Frame}
-use Rattle.chronicle.specs.Passes.{lock_noted, number_of, own, seen}
+use Rattle.chronicle.specs.Passes.{lock_noted, number_of, own_entries, seen_by_pass}
 use Rattle.chronicle.specs.Holds.{log_at_entry, machine_of}
 use Rattle.lock_row.specs.Rows.{names_of}
-use Rattle.oracle_lock.specs.Entries.{oracle_pairs}
+use Rattle.seen_logs.specs.Entries.{oracle_pairs}
 use Rattle.oracle_lock.specs.Seen.{gates_seen, of_gates, OracleView}
 use Rattle.oracle_lock.proofs.Notes.{as_many}
 use Rattle.shard_lock.proofs.Lending.{follows, visited-over}
@@ -41,8 +41,8 @@ returns-clause-answer g c =
     let did = c.visit_with-read.ensures in (
       before,
       visited-over (number_of c.args.pass.now) c.number-author.result c.args.request c.args.stamp c.args.vertex c.args.shard.now
-          c.visit_with-read.new.shard (seen c.args.pass.now) (own c.args.pass.now) (oracle_pairs (machine_of c.enter-held.result).oracle)
-          (seen c.leave.new.pass) before c.visit_with-read.new.oracle.oracle c.visit_with-read.result c.number-author.ensures entered
+          c.visit_with-read.new.shard (seen_by_pass c.args.pass.now) (own_entries c.args.pass.now) (oracle_pairs (machine_of c.enter-held.result).oracle)
+          (seen_by_pass c.leave.new.pass) before c.visit_with-read.new.oracle.oracle c.visit_with-read.result c.number-author.ensures entered
           c.leave.ensures.seen c.enter-held.ensures.log c.enter-held.ensures.own (record {
             ready = did.ready;
             state = did.state;

@@ -3,12 +3,12 @@ use Rattle.std.specs.Prelude.{IfOk, OnErr, OnOk}
 use Rattle.std.proofs.lemmas.List.{length-map}
 use Rattle.weave_entries.specs.declared.oracle_log.OracleEntry.{OracleEntry}
 use Rattle.weave_entries.specs.declared.gate_log.GateDeed.{GateDeed}
-use Rattle.weave_entries.specs.OracleReplay.{oracle_entry, pairs_of_log}
+use Rattle.weave_entries.specs.OracleReplay.{oracle_entry_of, pairs_of_log}
 use Rattle.weave_entries.specs.ShardReplay.{state_of_updates, updates_of}
 use Rattle.weave_entries.specs.ShardRules.{entries_of_visit, kept_stamps, pairs_after_visit, updates_read}
 use Rattle.chronicle.specs.declared.note.Note.{Note}
-use Rattle.chronicle.specs.Passes.{noted}
-use Rattle.oracle_lock.specs.Entries.{gate_entries}
+use Rattle.chronicle.specs.Passes.{seen_by_note}
+use Rattle.seen_logs.specs.Entries.{gate_entries}
 use Rattle.oracle_lock.specs.Seen.{gates_noted, OracleIsKept}
 use Rattle.shard_lock.proofs.Lending.{logged, not-logged, visited-keeps}
 use Rattle.shard_lock.proofs.visiting.visit_with.Goals as goal
@@ -17,7 +17,7 @@ pub visit-read-requires-clause-coherent : goal.visit-read-requires-clause-cohere
 visit-read-requires-clause-coherent c =
     let notes = c.args.oracle.now.gates in
     let few = c.requires.gates in
-    let long = length-map notes (λ (note : Note GateDeed). gate_entries (noted note)) in
+    let long = length-map notes (λ (note : Note GateDeed). gate_entries (seen_by_note note)) in
     c.known_events_are_begun.ensures.coherent c.args.oracle.now.shards (gates_noted notes) c.lend-judge.result
     (c.args.stamp ∷ kept_stamps c.args.vertex c.args.shard.now.log) c.lend-judge.ensures.kept (omega (arith, long, few)) c.requires.begun
 
@@ -49,7 +49,7 @@ returns-clause-logged c =
     let is = logged (pairs_of_log before) c.args.author c.args.stamp c.args.vertex log before after
     (λ entries. c.settling_keeps.ensures.log before after entries) c.visit-read.result c.visit-read.ensures.logged in
     subst (λ (z : List OracleEntry × List OracleEntry). OnOk c.visit-read.result (z.0
-    ≡ z.1 ++ map oracle_entry (entries_of_visit (pairs_of_log z.1) c.args.author c.args.stamp c.args.vertex log)))
+    ≡ z.1 ++ map oracle_entry_of (entries_of_visit (pairs_of_log z.1) c.args.author c.args.stamp c.args.vertex log)))
     (λ i. (sym c.give_back.ensures.oracle i, c.lend-judge.ensures.oracle i)) is
 
 pub returns-clause-pairs : goal.returns-clause-pairs

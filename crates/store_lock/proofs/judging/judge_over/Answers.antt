@@ -8,7 +8,7 @@ use Rattle.chronicle.specs.Frames.{Frame}
 use Rattle.chronicle.specs.Passes.{lock_noted, number_of}
 use Rattle.lock_row.specs.Rows.{names_of}
 use Rattle.chronicle.specs.Holds.{log_at_entry}
-use Rattle.oracle_lock.specs.Entries.{oracle_pairs}
+use Rattle.seen_logs.specs.Entries.{oracle_pairs}
 use Rattle.oracle_lock.specs.Seen.{gates_seen, of_gates, OracleView}
 use Rattle.oracle_lock.proofs.Notes.{as_many}
 use Rattle.store_lock.proofs.Begun.{stamp-stays}

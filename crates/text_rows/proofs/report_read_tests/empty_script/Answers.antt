@@ -3,10 +3,10 @@ use Rattle.std.specs.List.{AllByRecursion, IsDistinct}
 use Rattle.weave_data.specs.Names.{same_name}
 use Rattle.program_defs.specs.declared.script.Request.{Request}
 use Rattle.program_defs.specs.Works.{ops_of}
-use Rattle.weave_report.specs.TextOf.{names_of}
+use Rattle.weave_report.specs.TextOf.{request_names}
 use Rattle.text_rows.proofs.report_read_tests.empty_script.Goals as goal
 
-none_differ : IsDistinct same_name (names_of [])
+none_differ : IsDistinct same_name (request_names [])
 unfolding IsDistinct
 none_differ = tt
 
@@ -17,7 +17,7 @@ pub returns : goal.returns
 returns c =
     let none : [] ≡ c.new.result = sym c.new.ensures in
     record {
-      distinct = subst (λ (requests : List Request). IsDistinct same_name (names_of requests)) none none_differ;
+      distinct = subst (λ (requests : List Request). IsDistinct same_name (request_names requests)) none none_differ;
       few_requests = subst (λ (requests : List Request). length requests < 2 ^ 32) none none_is_small;
       few_ops = subst (λ (requests : List Request). AllByRecursion (λ (request : Request). length (ops_of request.work) < 2 ^ 32) requests) none tt;
     }

@@ -6,7 +6,7 @@ use Rattle.weave_data.specs.Names.{same_name}
 use Rattle.program_defs.specs.declared.script.Request.{Request}
 use Rattle.program_defs.specs.declared.script.Work.{Work}
 use Rattle.program_defs.specs.Works.{ops_of}
-use Rattle.weave_report.specs.TextOf.{names_of}
+use Rattle.weave_report.specs.TextOf.{request_names}
 use Rattle.text_rows.proofs.report_read_tests.script.Goals as goal
 
 six_differ : IsDistinct same_name (codes "t" ∷ codes "u" ∷ codes "p" ∷ codes "q" ∷ codes "r" ∷ codes "s" ∷ [])
@@ -22,8 +22,8 @@ small n k e h = omega arith
 pub returns : goal.returns
 returns g c =
     let requests = c.from_vec.ensures ∙ IfOk-at_ok _ c.expect-requests.ensures c.from_array.ensures.items in
-    let names : names_of c.from_vec.result ≡ codes "t" ∷ codes "u" ∷ codes "p" ∷ codes "q" ∷ codes "r" ∷ codes "s" ∷ [] =
-    ap names_of requests ∙ (λ i. c.request-t.ensures.name i ∷ c.request-u.ensures.name i ∷ c.request-p.ensures.name i ∷ c.request-q.ensures.name i ∷ c.request-r.ensures.name i ∷ c.request-s.ensures.name i ∷ []) in
+    let names : request_names c.from_vec.result ≡ codes "t" ∷ codes "u" ∷ codes "p" ∷ codes "q" ∷ codes "r" ∷ codes "s" ∷ [] =
+    ap request_names requests ∙ (λ i. c.request-t.ensures.name i ∷ c.request-u.ensures.name i ∷ c.request-p.ensures.name i ∷ c.request-q.ensures.name i ∷ c.request-r.ensures.name i ∷ c.request-s.ensures.name i ∷ []) in
     record {
       distinct = subst (IsDistinct same_name) (sym names) six_differ;
       few_requests = small (length c.from_vec.result) 6 (ap length requests) (lit< tt);

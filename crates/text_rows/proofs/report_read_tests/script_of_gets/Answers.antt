@@ -6,7 +6,7 @@ use Rattle.weave_data.specs.Names.{same_name}
 use Rattle.program_defs.specs.declared.script.Request.{Request}
 use Rattle.program_defs.specs.declared.script.Work.{Work}
 use Rattle.program_defs.specs.Works.{ops_of}
-use Rattle.weave_report.specs.TextOf.{names_of}
+use Rattle.weave_report.specs.TextOf.{request_names}
 use Rattle.text_rows.proofs.report_read_tests.script_of_gets.Goals as goal
 
 one_name : IsDistinct same_name (codes "t" ∷ [])
@@ -22,7 +22,7 @@ small n k e h = omega arith
 pub returns : goal.returns
 returns g c =
     let requests = c.from_vec.ensures ∙ IfOk-at_ok _ c.expect-requests.ensures c.from_array.ensures.items in
-    let names : names_of c.from_vec.result ≡ codes "t" ∷ [] = ap names_of requests ∙ (λ i. c.request-t.ensures.name i ∷ []) in
+    let names : request_names c.from_vec.result ≡ codes "t" ∷ [] = ap request_names requests ∙ (λ i. c.request-t.ensures.name i ∷ []) in
     record {
       distinct = subst (IsDistinct same_name) (sym names) one_name;
       few_requests = small (length c.from_vec.result) 1 (ap length requests) (lit< tt);

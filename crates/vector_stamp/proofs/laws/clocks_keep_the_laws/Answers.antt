@@ -8,7 +8,7 @@ use Rattle.vector_stamp.proofs.Counts.{none-counted, at_most-at}
 use Rattle.vector_stamp.proofs.Orders.{at_most_clock-refl, clock_at_most-trans, before-at_most, at_most-before, before_write, at_most_read}
 use Rattle.vector_stamp.proofs.Ticks.{tick-before, own-set}
 use Rattle.vector_stamp.proofs.Hearing.{hearing-lower, hearing-own, hearing-higher, hearing-eight, own_at_most-hearing, own_count-hearing, own_count-higher, own_before-stamp, heard_before-stamp}
-use Rattle.vector_stamp.proofs.Meets.{meet_with-eight, meet_with-below}
+use Rattle.vector_stamp.proofs.MeetsOfLists.{meet_with-eight, meet_with-below}
 use Rattle.vector_stamp.proofs.NonePast.{tick-none, hearing-none, meet_with-none}
 use Rattle.vector_stamp.proofs.laws.clocks_keep_the_laws.Goals as goal
 

@@ -1,4 +1,4 @@
-use Rattle.vector_stamp.proofs.Meets.{meet_with-eight, meet_with-below, meet_with-greatest, meet_with-same}
+use Rattle.vector_stamp.proofs.MeetsOfLists.{meet_with-eight, meet_with-below, meet_with-greatest, meet_with-same}
 use Rattle.vector_stamp.proofs.laws.meet_of_a_list_is_greatest_below.Goals as goal
 
 pub returns : goal.returns

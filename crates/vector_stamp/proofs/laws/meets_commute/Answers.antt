@@ -1,4 +1,4 @@
-use Rattle.vector_stamp.proofs.Meets.{meet-comm, meet-assoc}
+use Rattle.vector_stamp.proofs.MeetsOfLists.{meet-comm, meet-assoc}
 use Rattle.vector_stamp.proofs.laws.meets_commute.Goals as goal
 
 pub returns : goal.returns

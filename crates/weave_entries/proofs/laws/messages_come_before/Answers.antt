@@ -1,7 +1,7 @@
 use Rattle.std.proofs.Common.{Option, Contains, subst}
 use Rattle.weave_data.proofs.Members.{has_map}
 use Rattle.weave_entries.specs.declared.message.Message.{Message}
-use Rattle.weave_entries.specs.GateReplay.{Begun, next_stamp, clock_of, stamps_of, channel_of}
+use Rattle.weave_entries.specs.GateReplay.{BegunRequest, next_stamp, clock_of, stamps_of, channel_of}
 use Rattle.weave_entries.proofs.Channels.{StandsBefore, channels_rise}
 use Rattle.weave_entries.proofs.OwnStamps.{sent-stamp, channel-sent}
 use Rattle.weave_entries.proofs.Rising.{rises}
@@ -13,7 +13,7 @@ returns c =
     record {
       flight = λ home shards shard log below right flight flies message has.
           let stands = (channels_rise laws home shards shard below log right).under message.stamp (has_map (λ (one : Message). one.stamp) (channel_of shard log) message has) in
-          subst (λ (f : Option Begun). StandsBefore laws (clock_of home log) f message.stamp) flies stands;
+          subst (λ (f : Option BegunRequest). StandsBefore laws (clock_of home log) f message.stamp) flies stands;
       next = λ home shards shard log below right message has.
           let at = channel-sent shard log message has in
           let facts = rises laws home shards below log right in

@@ -8,7 +8,7 @@ use Rattle.weaver_locks.specs.Hands.{hand_number, IsHand}
 use Rattle.weaver_workers.specs.Phases.{phase_end}
 use Rattle.workers_account.specs.Phase.{IsPhaseRun}
 use Rattle.weave_phase.specs.declared.seats.Seat.{Seat}
-use Rattle.weave_phase.specs.Ran.{AreOpened}
+use Rattle.weave_phase.specs.Ran.{PartsAreOpened}
 use Rattle.weave_phase.specs.Seats.{hand_in, ArePutBack, AreTaken, HaveRun}
 use Rattle.weave_phase.proofs.JoinedParts.{parts-go-on}
 use Rattle.weave_phase.proofs.Opened.{clients-in-slots, written}
@@ -34,7 +34,7 @@ run_all-requires-clause-ready g c κs within = λ k seat at.
     let hands = c.in_ok-shared.hands.items in
     let sessions = c.args.sessions.now in
     let made = c.in_ok-shared.ensures in
-    let opened : AreOpened split shared hands sessions = record {
+    let opened : PartsAreOpened split shared hands sessions = record {
       rising = c.requires.rising;
       few = c.requires.few;
       gates = (let e = made.gates in let k = split.gates.ok.0 in omega (arith, e, k));
@@ -58,7 +58,7 @@ unseat_all-requires-clause-clients g c = λ k seat at low.
     let hands = c.in_ok-shared.hands.items in
     let sessions = c.args.sessions.now in
     let made = c.in_ok-shared.ensures in
-    let opened : AreOpened split shared hands sessions = record {
+    let opened : PartsAreOpened split shared hands sessions = record {
       rising = c.requires.rising;
       few = c.requires.few;
       gates = (let e = made.gates in let k = split.gates.ok.0 in omega (arith, e, k));
@@ -86,7 +86,7 @@ unseat_all-requires-clause-others g c = λ k seat at high.
     let hands = c.in_ok-shared.hands.items in
     let sessions = c.args.sessions.now in
     let made = c.in_ok-shared.ensures in
-    let opened : AreOpened split shared hands sessions = record {
+    let opened : PartsAreOpened split shared hands sessions = record {
       rising = c.requires.rising;
       few = c.requires.few;
       gates = (let e = made.gates in let k = split.gates.ok.0 in omega (arith, e, k));
@@ -114,7 +114,7 @@ unseat_all-requires-clause-enough g c =
     let hands = c.in_ok-shared.hands.items in
     let sessions = c.args.sessions.now in
     let made = c.in_ok-shared.ensures in
-    let opened : AreOpened split shared hands sessions = record {
+    let opened : PartsAreOpened split shared hands sessions = record {
       rising = c.requires.rising;
       few = c.requires.few;
       gates = (let e = made.gates in let k = split.gates.ok.0 in omega (arith, e, k));
@@ -155,7 +155,7 @@ from_slots-requires g c = λ place slot at.
     let hands = c.in_ok-shared.hands.items in
     let sessions = c.args.sessions.now in
     let made = c.in_ok-shared.ensures in
-    let opened : AreOpened split shared hands sessions = record {
+    let opened : PartsAreOpened split shared hands sessions = record {
       rising = c.requires.rising;
       few = c.requires.few;
       gates = (let e = made.gates in let k = split.gates.ok.0 in omega (arith, e, k));
@@ -187,7 +187,7 @@ close-gates-requires-clause-each g c =
     let hands = c.in_ok-shared.hands.items in
     let sessions = c.args.sessions.now in
     let made = c.in_ok-shared.ensures in
-    let opened : AreOpened split shared hands sessions = record {
+    let opened : PartsAreOpened split shared hands sessions = record {
       rising = c.requires.rising;
       few = c.requires.few;
       gates = (let e = made.gates in let k = split.gates.ok.0 in omega (arith, e, k));
@@ -225,7 +225,7 @@ close-gates-requires-clause-all g c = λ number low.
     let hands = c.in_ok-shared.hands.items in
     let sessions = c.args.sessions.now in
     let made = c.in_ok-shared.ensures in
-    let opened : AreOpened split shared hands sessions = record {
+    let opened : PartsAreOpened split shared hands sessions = record {
       rising = c.requires.rising;
       few = c.requires.few;
       gates = (let e = made.gates in let k = split.gates.ok.0 in omega (arith, e, k));
@@ -264,7 +264,7 @@ close-gates-requires-clause-count g c =
     let hands = c.in_ok-shared.hands.items in
     let sessions = c.args.sessions.now in
     let made = c.in_ok-shared.ensures in
-    let opened : AreOpened split shared hands sessions = record {
+    let opened : PartsAreOpened split shared hands sessions = record {
       rising = c.requires.rising;
       few = c.requires.few;
       gates = (let e = made.gates in let k = split.gates.ok.0 in omega (arith, e, k));
@@ -304,7 +304,7 @@ returns g c =
     let hands = c.in_ok-shared.hands.items in
     let sessions = c.args.sessions.now in
     let made = c.in_ok-shared.ensures in
-    let opened : AreOpened split shared hands sessions = record {
+    let opened : PartsAreOpened split shared hands sessions = record {
       rising = c.requires.rising;
       few = c.requires.few;
       gates = (let e = made.gates in let k = split.gates.ok.0 in omega (arith, e, k));

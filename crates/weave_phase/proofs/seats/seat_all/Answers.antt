@@ -1,7 +1,7 @@
 use Rattle.std.proofs.Common.{◌≡◌, ℕ, List, drop, length, slice_get, sym, ap, subst, ◌∙◌, arith}
 use Rattle.std.proofs.lemmas.Option.{slice_get_within}
 use Rattle.weave_phase.specs.declared.seats.Seat.{Seat}
-use Rattle.weave_phase.specs.Seating.{IsSeated}
+use Rattle.weave_phase.specs.OneSeat.{IsSeated}
 use Rattle.weave_phase.proofs.Placed.{all_gone, next_at}
 use Rattle.weave_phase.proofs.SoFar.{SeatedSoFar, all_dealt, all_taken, seated_more, still_there}
 use Rattle.weave_phase.proofs.seats.seat_all.Goals as goal

@@ -3,7 +3,7 @@ use Rattle.std.proofs.Common.{ℕ, ◌<◌, List, ◌++◌, Contains, drop, leng
 use Rattle.std.proofs.lemmas.Option.{get_or_from_slice_get, slice_get_within}
 use Rattle.weaver_locks.specs.declared.hand.Hand.{Hand}
 use Rattle.weave_phase.specs.declared.seats.Seat.{Seat}
-use Rattle.weave_phase.specs.Seating.{IsUnseated}
+use Rattle.weave_phase.specs.OneSeat.{IsUnseated}
 use Rattle.weave_phase.specs.Seats.{hand_in}
 use Rattle.weave_phase.proofs.Placed.{all_gone, map_more, next_at}
 use Rattle.weave_phase.proofs.SoFar.{UnseatedSoFar, all_back, unseated_more}

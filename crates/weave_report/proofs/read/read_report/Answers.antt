@@ -2,7 +2,7 @@ use Rattle.std.proofs.Common.{subst, ap, ◌∙◌}
 use Rattle.program_defs.specs.declared.script.Script.{Script}
 use Rattle.weave_report.specs.ReadAnswers.{Answers}
 use Rattle.weave_report.specs.FirstRefusal.{IsFirstRefusal}
-use Rattle.weave_report.specs.Reading.{report_in, start}
+use Rattle.weave_report.specs.Reading.{report_in, report_start}
 use Rattle.weave_text.specs.Cutting.{lines_of}
 use Rattle.weave_report.proofs.ReadAnswersLaws.{text_of_read, read_of_text, no_text_of_refused, told_of_refused, read_of_given}
 use Rattle.weave_report.proofs.read.read_report.Goals as goal
@@ -28,7 +28,7 @@ returns-clause-refused c =
 
 pub returns-clause-first : goal.returns-clause-first
 returns-clause-first c =
-    told_of_refused (report_in c.args.script.now c.args.first_line c.args.bytes.now) (IsFirstRefusal c.args.script.now c.args.first_line start (lines_of c.args.bytes.now)) c.read_named.result
+    told_of_refused (report_in c.args.script.now c.args.first_line c.args.bytes.now) (IsFirstRefusal c.args.script.now c.args.first_line report_start (lines_of c.args.bytes.now)) c.read_named.result
     (λ refusal e. c.refusals_are_first.ensures.text c.args.script.now c.args.first_line c.args.bytes.now refusal e) (returns-clause-exact c)
 
 pub returns-clause-printed : goal.returns-clause-printed

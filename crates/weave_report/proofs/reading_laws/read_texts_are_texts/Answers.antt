@@ -1,5 +1,5 @@
 use Rattle.weave_text.specs.Cutting.{kept_lines, lines_of}
-use Rattle.weave_report.specs.Reading.{report_in, start}
+use Rattle.weave_report.specs.Reading.{report_in, report_start}
 use Rattle.weave_report.proofs.ReportRead.{all_read_is_told, kept_of_lines}
 use Rattle.weave_report.proofs.ReportComesBack.{comes_back, refused_is_no_text}
 use Rattle.weave_report.proofs.reading_laws.read_texts_are_texts.Goals as goal
@@ -7,7 +7,7 @@ use Rattle.weave_report.proofs.reading_laws.read_texts_are_texts.Goals as goal
 pub returns-clause-read : goal.returns-clause-read
 unfolding report_in
 returns-clause-read c script first_line bytes report tells typed e =
-    let told = all_read_is_told c.texts_keep_the_laws.ensures script (kept_lines (lines_of bytes)) report tells (kept_of_lines c.texts_keep_the_laws.ensures script first_line start (lines_of bytes) report e) in
+    let told = all_read_is_told c.texts_keep_the_laws.ensures script (kept_lines (lines_of bytes)) report tells (kept_of_lines c.texts_keep_the_laws.ensures script first_line report_start (lines_of bytes) report e) in
     record { lines = told.0; of_script = told.1; typed = told.2 }
 
 pub returns-clause-complete : goal.returns-clause-complete

@@ -12,8 +12,8 @@ use Rattle.weave_entries.specs.declared.session_log.SessionEntry.{SessionEntry}
 use Rattle.weave_entries.specs.declared.session_log.SessionDeed.TheVariants.{Begun}
 use Rattle.weave_entries.specs.GateReplay.{begun_stamp, clock_of, flight_of}
 use Rattle.weave_entries.specs.SessionReplay.{FitsSession, SessionState}
-use Rattle.weaver_core.specs.Clients.{session_at}
-use Rattle.weaver_core.specs.GateTable.{log_at}
+use Rattle.weaver_core.specs.Sessions.{session_at}
+use Rattle.weaver_core.specs.GateTable.{gate_log_at}
 use Rattle.weaver_core.proofs.AtClients.{after-room, same-session}
 use Rattle.weaver_core.proofs.beginning.begin_next.Goals as goal
 
@@ -27,7 +27,7 @@ begun-requires-clause-turn c =
     let was = c.args.clients.now in
     let s = c.args.asked.now.session in
     let g = c.args.asked.now.gate in
-    let clock = clock_of g (log_at c.args.gates.now g) in
+    let clock = clock_of g (gate_log_at c.args.gates.now g) in
     let session = same-session was c.reserve.new.self s c.reserve.ensures.same in
     let stamp = c.in-Ok.stamp in
     let last : c.last-last.result ≡ (session_at was s).last = c.last-last.ensures ∙ ap (λ (state : SessionState). state.last) session in
@@ -44,7 +44,7 @@ returns-in-Ok-clause-begins c =
     let was = c.args.clients.now in
     let s = c.args.asked.now.session in
     let g = c.args.asked.now.gate in
-    let clock = clock_of g (log_at c.args.gates.now g) in
+    let clock = clock_of g (gate_log_at c.args.gates.now g) in
     let session = same-session was c.reserve.new.self s c.reserve.ensures.same in
     let last : c.last-last.result ≡ (session_at was s).last = c.last-last.ensures ∙ ap (λ (state : SessionState). state.last) session in
     record {
@@ -64,7 +64,7 @@ refused-with fault = Err fault
 pub returns-in-Err-Busy-clause-begins : goal.returns-in-Err-Busy-clause-begins
 returns-in-Err-Busy-clause-begins c =
     let g = c.args.asked.now.gate in
-    let busy = subst (λ (fault : GateFault). IsRefusedWhere Busy (is_change c.args.asked.now.work && is_some (flight_of (log_at c.args.gates.now g))) (refused-with fault)) c.in-Err-Busy.field-0-is c.in-Err-Busy.ensures.busy in
+    let busy = subst (λ (fault : GateFault). IsRefusedWhere Busy (is_change c.args.asked.now.work && is_some (flight_of (gate_log_at c.args.gates.now g))) (refused-with fault)) c.in-Err-Busy.field-0-is c.in-Err-Busy.ensures.busy in
     record { next = c.requires.next; flies = busy.1; gates_are = c.in-Err-Busy.ensures.refused; clients_are = c.reserve.ensures.same }
 
 pub last-last-requires : goal.last-last-requires

@@ -2,7 +2,7 @@ use Rattle.std.proofs.Common.{ℕ, Bool, Option, sym, ap, ◌∙◌}
 use Rattle.std.specs.Prelude.{nat_le, option_copied}
 use Rattle.report_rules.specs.Lookups.{is_some_and}
 use Rattle.weave_entries.specs.declared.session_log.SessionEntry.{SessionEntry}
-use Rattle.weaver_core.specs.Clients.{request_by}
+use Rattle.weaver_core.specs.Sessions.{request_by}
 use Rattle.weaver_core.proofs.client.has_begun.Goals as goal
 
 abbrev at-most : ℕ → Option SessionEntry → Bool

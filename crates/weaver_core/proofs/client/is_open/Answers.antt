@@ -2,7 +2,7 @@ use Rattle.std.proofs.Common.{ℕ, Bool, Option, sym, ap, ◌∙◌}
 use Rattle.std.specs.Prelude.{option_copied}
 use Rattle.report_rules.specs.Lookups.{is_some_and}
 use Rattle.weave_entries.specs.declared.session_log.SessionEntry.{SessionEntry}
-use Rattle.weaver_core.specs.Clients.{is_begin_of}
+use Rattle.weaver_core.specs.Sessions.{is_begin_of}
 use Rattle.weaver_core.proofs.client.is_open.Goals as goal
 
 abbrev begins-it : ℕ → Option SessionEntry → Bool

@@ -2,7 +2,7 @@ use Rattle.std.proofs.Common.{ℕ, Option, Some, sym, ap, ◌∙◌}
 use Rattle.std.specs.Prelude.{option_copied}
 use Rattle.std.specs.Option.{option_map}
 use Rattle.weave_entries.specs.declared.session_log.SessionEntry.{SessionEntry}
-use Rattle.weaver_core.specs.Clients.{request_by}
+use Rattle.weaver_core.specs.Sessions.{request_by}
 use Rattle.weaver_core.proofs.client.last_request.Goals as goal
 
 abbrev named : Option SessionEntry → Option ℕ

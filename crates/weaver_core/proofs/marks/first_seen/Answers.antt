@@ -2,7 +2,7 @@ use Rattle.std.proofs.Common.{◌≡◌, ◌+◌, ◌∷◌, suc, cond, drop, fa
 use Rattle.std.specs.List.{find}
 use Rattle.std.specs.Option.{option_map}
 use Rattle.weave_entries.specs.declared.verdict.Counted.{Counted}
-use Rattle.weaver_core.specs.Marks.{first_seen, is_in}
+use Rattle.weaver_core.specs.Marks.{first_seen, has_mark}
 use Rattle.weaver_core.proofs.marks.first_seen.Goals as goal
 
 -- the next one was not seen
@@ -15,7 +15,7 @@ loop-counted-preserved c =
     let r = c.args.request in
     let step : suc i ≡ i + 1 = omega arith in
     let next : drop i counts ≡ one ∷ drop (i + 1) counts = drop-cons counts i one c.loop-counted-test.true ∙ (λ k. sym c.counted-item.is k ∷ drop (step k) counts) in
-    let fails : is_in entries (r, one.vertex, one.before) ≡ false = sym c.contains_key.ensures ∙ c.if-contains_key.false in
-    ap (λ b. option_map (λ (counted : Counted). counted.vertex) (cond b (Some one) (find (λ (counted : Counted). is_in entries (r, counted.vertex, counted.before)) (drop (i + 1) counts)))) (sym fails)
-    ∙ ap (first_seen (is_in entries) r) (sym next)
+    let fails : has_mark entries (r, one.vertex, one.before) ≡ false = sym c.contains_key.ensures ∙ c.if-contains_key.false in
+    ap (λ b. option_map (λ (counted : Counted). counted.vertex) (cond b (Some one) (find (λ (counted : Counted). has_mark entries (r, counted.vertex, counted.before)) (drop (i + 1) counts)))) (sym fails)
+    ∙ ap (first_seen (has_mark entries) r) (sym next)
     ∙ c.loop-counted.invariant

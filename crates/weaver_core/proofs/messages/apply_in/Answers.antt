@@ -3,13 +3,13 @@ use Rattle.shard_node.specs.Shards.{IsRightlyUnapplied}
 use Rattle.shard_node.specs.declared.fault.ApplyFault.{ApplyFault}
 use Rattle.shard_node.specs.declared.fault.ApplyFault.TheVariants as fault
 use Rattle.report_rules.specs.declared.report.StepAnswer.{StepAnswer}
-use Rattle.weaver_core.specs.Messages.{AppliesAtShard, IsAnswerTo}
-use Rattle.weaver_core.specs.ShardTable.{ShardTable, log_at}
+use Rattle.weaver_core.specs.Messages.{AppliesAtShard, IsAnswerToFault}
+use Rattle.weaver_core.specs.ShardTable.{ShardTable, shard_log_at}
 use Rattle.weaver_core.proofs.Results.{if_ok_map, on_err_known}
 use Rattle.weaver_core.proofs.messages.apply_in.Goals as goal
 
 -- what is answered to a fault that is right
-answers-fault : (old new : ShardTable) (s g : ℕ) (why : ApplyFault) → IsRightlyUnapplied g (log_at old s) why → new ≡ old → (answer : StepAnswer) → IsAnswerTo why answer → AppliesAtShard old new s g answer
+answers-fault : (old new : ShardTable) (s g : ℕ) (why : ApplyFault) → IsRightlyUnapplied g (shard_log_at old s) why → new ≡ old → (answer : StepAnswer) → IsAnswerToFault why answer → AppliesAtShard old new s g answer
 answers-fault old new s g fault.Empty right same answer is = subst (AppliesAtShard old new s g) (sym is) (same, right)
 answers-fault old new s g (fault.Waits v) right same answer is = subst (AppliesAtShard old new s g) (sym is) (same, record { head = right.0; is = right.1; waits = right.2 })
 answers-fault old new s g fault.Memory right same answer is = absurd is

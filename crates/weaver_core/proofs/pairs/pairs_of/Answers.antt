@@ -5,7 +5,7 @@ use Rattle.std.proofs.lemmas.List.Elements.{Contains-get_or}
 use Rattle.report_rules.specs.declared.report.Pair.{Pair}
 use Rattle.weave_entries.specs.OracleReplay.{settled_entry}
 use Rattle.weave_entries.specs.declared.oracle_log.OracleEntry.{OracleEntry}
-use Rattle.weaver_core.specs.Marks.{is_in, mark_of}
+use Rattle.weaver_core.specs.Marks.{has_mark, mark_of}
 use Rattle.weaver_core.specs.Reporting.{all_pairs_found, found_in, pairs_found}
 use Rattle.weaver_core.proofs.Events.{all-found}
 use Rattle.weaver_core.proofs.pairs.pairs_of.Goals as goal
@@ -26,7 +26,7 @@ loop-place-preserved c =
     let pairs = c.loop-place.pairs in
     let entries = c.in_ok-requests.requests.entries in
     let store = c.args.store.now in
-    let mark = mark_of (found_in entries) (is_in c.in_ok-visits.visits.entries) store in
+    let mark = mark_of (found_in entries) (has_mark c.in_ok-visits.visits.entries) store in
     let one = settled_entry entry in
     let step : suc place ≡ place + 1 = omega arith in
     let next : drop place log ≡ entry ∷ drop (place + 1) log = drop-cons log place entry c.loop-place-test.true ∙ (λ k. sym c.index-log-place.is k ∷ drop (step k) log) in
@@ -42,7 +42,7 @@ returns c =
     let visits = c.in_ok-visits.visits.entries in
     let store = c.args.store.now in
     sym (append-nil pairs)
-    ∙ ap (λ (left : List OracleEntry). pairs ++ all_pairs_found (found_in entries) store (mark_of (found_in entries) (is_in visits) store) left) (sym (drop_of_length-le c.log-log.result.now c.loop-place-test.false))
+    ∙ ap (λ (left : List OracleEntry). pairs ++ all_pairs_found (found_in entries) store (mark_of (found_in entries) (has_mark visits) store) left) (sym (drop_of_length-le c.log-log.result.now c.loop-place-test.false))
     ∙ c.loop-place.invariant
-    ∙ ap (all_pairs_found (found_in entries) store (mark_of (found_in entries) (is_in visits) store)) c.log-log.ensures.entries
+    ∙ ap (all_pairs_found (found_in entries) store (mark_of (found_in entries) (has_mark visits) store)) c.log-log.ensures.entries
     ∙ all-found entries c.args.stamps.now c.in_ok-requests.ensures visits c.args.shards.now.logs c.in_ok-visits.ensures store c.args.oracle.now

@@ -4,7 +4,7 @@ use Rattle.std.specs.Prelude.{IsSome, option_copied}
 use Rattle.std.proofs.lemmas.Option.{same_Some}
 use Rattle.weave_data.proofs.Members.{find_has}
 use Rattle.gatekeeper.specs.Opened.{as_begun}
-use Rattle.weave_entries.specs.GateReplay.{Begun}
+use Rattle.weave_entries.specs.GateReplay.{BegunRequest}
 use Rattle.weave_entries.specs.StoreReplay.{judged_by, judgement_of, judgements_of}
 use Rattle.weaver_core.proofs.Settled.{as-judged}
 use Rattle.weaver_core.proofs.sending.send_in.Goals as goal
@@ -25,10 +25,10 @@ returns-in_default-judged-clause-sends c = (
 )
 
 pub send-requires-clause-flies : goal.send-requires-clause-flies
-send-requires-clause-flies c = subst (λ (o : Option Begun). IsSome o) (sym (sym c.flight.ensures ∙ ap (option_map as_begun) c.in-Some.is)) refl
+send-requires-clause-flies c = subst (λ (o : Option BegunRequest). IsSome o) (sym (sym c.flight.ensures ∙ ap (option_map as_begun) c.in-Some.is)) refl
 
 pub send-requires-clause-author : goal.send-requires-clause-author
-send-requires-clause-author c x is = ap (λ (b : Begun). b.author) (same_Some x (as_begun c.in-Some.flight) (sym is ∙ sym c.flight.ensures ∙ ap (option_map as_begun) c.in-Some.is))
+send-requires-clause-author c x is = ap (λ (b : BegunRequest). b.author) (same_Some x (as_begun c.in-Some.flight) (sym is ∙ sym c.flight.ensures ∙ ap (option_map as_begun) c.in-Some.is))
 
 pub send-requires-clause-counts : goal.send-requires-clause-counts
 send-requires-clause-counts c =

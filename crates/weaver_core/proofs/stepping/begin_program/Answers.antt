@@ -7,7 +7,7 @@ use Rattle.weave_account.specs.IsAccount.{IsAccount}
 use Rattle.step_rules.specs.CoreState.{CoreState}
 use Rattle.step_rules.specs.Entries.{stamp_to_begin}
 use Rattle.step_rules.specs.Requests.{last_begun}
-use Rattle.weaver_core.specs.Clients.{with_running}
+use Rattle.weaver_core.specs.Sessions.{with_running}
 use Rattle.weaver_core.specs.Cores.{MachinesView}
 use Rattle.weaver_core.specs.Splitting.{AreAllByLog}
 use Rattle.weaver_core.specs.Walks.{IsRunningIn, begun_with}

@@ -1,6 +1,6 @@
 use Rattle.std.proofs.Common.{◌≡◌, List, subst, sym}
 use Rattle.report_rules.specs.declared.report.StepAnswer.{StepAnswer}
-use Rattle.weaver_core.specs.Clients.{SessionValues}
+use Rattle.weaver_core.specs.Sessions.{SessionValues}
 use Rattle.weaver_core.specs.Cores.{MachinesDo, MachinesView}
 use Rattle.weaver_core.specs.Splitting.{AreAllByLog}
 use Rattle.weaver_core.proofs.OtherSteps.{other-stay}

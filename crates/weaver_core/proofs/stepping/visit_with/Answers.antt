@@ -5,7 +5,7 @@ use Rattle.step_rules.specs.Answers.{answer_of}
 use Rattle.step_rules.specs.CoreState.{CoreState}
 use Rattle.step_rules.specs.IsCore.{IsCore}
 use Rattle.weaver_core.specs.Walks.{IsRunningIn}
-use Rattle.weaver_core.specs.Clients.{SessionValues, values_at, with_running}
+use Rattle.weaver_core.specs.Sessions.{SessionValues, values_at, with_running}
 use Rattle.weaver_core.specs.Cores.{AreSameMachines, MachinesDo, MachinesView}
 use Rattle.weaver_core.specs.Splitting.{AreAllByLog}
 use Rattle.weaver_core.proofs.Idle.{closed-done}

@@ -5,16 +5,16 @@ use Rattle.weave_data.specs.Names.{shard_of}
 use Rattle.weave_data.specs.declared.name.Name.{Name}
 use Rattle.weave_entries.specs.ShardReplay.{updates_of}
 use Rattle.path_program.specs.AnyPrograms.{HasRead}
-use Rattle.weaver_core.specs.ShardTable.{log_at}
+use Rattle.weaver_core.specs.ShardTable.{shard_log_at}
 use Rattle.weaver_core.specs.Visiting.{Reads, state_seen, updates_seen}
 use Rattle.weaver_core.proofs.FewEdges.{few-edges}
 use Rattle.weaver_core.proofs.visiting.visit_vertex.Goals as goal
 
 pub see-requires-clause-edges : goal.see-requires-clause-edges
 see-requires-clause-edges c =
-    let log = log_at c.args.shards.now (shard_of c.args.vertex c.args.count) in
+    let log = shard_log_at c.args.shards.now (shard_of c.args.vertex c.args.count) in
     let oracle = c.args.oracle.now in
-    let is : c.in-Ok.state ≡ state_seen oracle log c.args.running.now.stamp c.args.vertex = c.in-Ok.ensures.reads.state_is ∙ ap (λ s. state_seen oracle (log_at c.args.shards.now s) c.args.running.now.stamp c.args.vertex) c.shard-shard.ensures in
+    let is : c.in-Ok.state ≡ state_seen oracle log c.args.running.now.stamp c.args.vertex = c.in-Ok.ensures.reads.state_is ∙ ap (λ s. state_seen oracle (shard_log_at c.args.shards.now s) c.args.running.now.stamp c.args.vertex) c.shard-shard.ensures in
     subst (λ (state : State). IfSome state (λ (found : Record). length found.edges ≤ 1000)) (sym is) (few-edges (take (updates_seen oracle log c.args.running.now.stamp c.args.vertex) (updates_of c.args.vertex log)))
 
 pub returns-in-Ok-clause-visits : goal.returns-in-Ok-clause-visits

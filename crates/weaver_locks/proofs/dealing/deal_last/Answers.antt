@@ -5,8 +5,8 @@ use Rattle.chronicle.specs.declared.chronicle.Chronicle.{Chronicle}
 use Rattle.chronicle.specs.Locks.{lock_of}
 use Rattle.lock_row.specs.Hands.{AreDealt, HavePasses}
 use Rattle.lock_row.proofs.Hands.{first_popped}
-use Rattle.gate_lock.specs.declared.noted.NotedGate.{NotedGate}
-use Rattle.shard_lock.specs.declared.noted.NotedShard.{NotedShard}
+use Rattle.gate_lock.specs.declared.noted_gate.NotedGate.{NotedGate}
+use Rattle.shard_lock.specs.declared.noted_shard.NotedShard.{NotedShard}
 use Rattle.weaver_locks.proofs.dealing.deal_last.Goals as goal
 
 pub deal_hand-requires-clause-left : goal.deal_hand-requires-clause-left

@@ -2,7 +2,7 @@ use Rattle.std.proofs.Common.{sym, subst, ◌∙◌, arith}
 use Rattle.std.specs.Prelude.{Option, ◌<◌, ℕ}
 use Rattle.vector_stamp.specs.declared.clock.Stamp.{Stamp}
 use Rattle.weave_entries.specs.SessionReplay.{SessionState}
-use Rattle.weaver_core.specs.Clients.{IsInTurn}
+use Rattle.weaver_core.specs.Sessions.{IsInTurn}
 use Rattle.weaver_locks.specs.Locks.{shard_count}
 use Rattle.weaver_hands.specs.Transactions.{Transacts}
 use Rattle.weaver_workers.proofs.Deeds.{asked-there, changed, few-ops, refused}

@@ -3,7 +3,7 @@ use Rattle.std.specs.Prelude.{Option, ◌+◌, ◌<◌, ℕ}
 use Rattle.vector_stamp.specs.declared.clock.Stamp.{Stamp}
 use Rattle.weave_entries.specs.SessionReplay.{SessionState}
 use Rattle.weave_entries.specs.declared.session_log.SessionDeed.TheVariants.{Begun}
-use Rattle.weaver_core.specs.Clients.{IsClientOf, IsInTurn, SessionValues}
+use Rattle.weaver_core.specs.Sessions.{IsClientOf, IsInTurn, SessionValues}
 use Rattle.weaver_locks.specs.Locks.{shard_count}
 use Rattle.weaver_hands.specs.Transactions.{Starts}
 use Rattle.weaver_workers.proofs.Deeds.{asked-there, deed-done, started}

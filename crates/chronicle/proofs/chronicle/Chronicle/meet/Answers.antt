@@ -1,7 +1,7 @@
 use Rattle.std.proofs.Common.{rules, ap, ◌∙◌}
-use Rattle.chronicle.specs.Logs.{entries_of, longer}
+use Rattle.chronicle.specs.Logs.{entries_of, longer_of_logs}
 use Rattle.chronicle.specs.Locks.{lock_of}
-use Rattle.chronicle.specs.Passes.{seen, noted}
+use Rattle.chronicle.specs.Passes.{seen_by_pass, seen_by_note}
 use Rattle.chronicle.proofs.Frames.{same_table}
 use Rattle.chronicle.proofs.Logs.{one_of_two}
 use Rattle.chronicle.proofs.Joining.{copies, gathers, compares}
@@ -34,7 +34,7 @@ split_seat-requires g c =
 pub returns-clause-ready : goal.returns-clause-ready
 returns-clause-ready g c =
     let met = meets _ c.args.pass.now c.args.note.now _ _ c.into_seat-seat.result.me _ _ c.into_seat-other.result.me.0 c.requires.pass (search rules) (search rules) (search rules) c.join_seat.ensures.2 c.load.ensures.2 in
-    ready_from (lock_of c.args.self.now) _ (longer (seen c.args.pass.now) (noted c.args.note.now)) (search rules) (search rules) c.requires.pass.low
+    ready_from (lock_of c.args.self.now) _ (longer_of_logs (seen_by_pass c.args.pass.now) (seen_by_note c.args.note.now)) (search rules) (search rules) c.requires.pass.low
 
 pub returns-clause-own : goal.returns-clause-own
 returns-clause-own g c =
@@ -42,4 +42,4 @@ returns-clause-own g c =
     ap (entries_of c.args.pass.now.number) (search rules) ∙ met.own
 
 pub returns-clause-either : goal.returns-clause-either
-returns-clause-either g c = one_of_two (seen c.args.pass.now) (noted c.args.note.now) _ (search rules)
+returns-clause-either g c = one_of_two (seen_by_pass c.args.pass.now) (seen_by_note c.args.note.now) _ (search rules)

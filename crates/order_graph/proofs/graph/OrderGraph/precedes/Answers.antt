@@ -2,10 +2,10 @@ use Rattle.std.proofs.Common.{◌≡◌, Bool, true, false, IsTrue, ◌∷◌, L
 use Rattle.std.proofs.lemmas.Bool.{or_cases, both_ways}
 use Rattle.vector_stamp.specs.Order.{stamp_before}
 use Rattle.vector_stamp.specs.Coherence.{AreCoherent}
-use Rattle.vector_stamp.specs.Precedence.{Given, precedes}
+use Rattle.vector_stamp.specs.Precedence.{GivenPair, precedes}
 use Rattle.order_graph.specs.Kept.{PairsView}
 use Rattle.order_graph.specs.Building.{ends_of}
-use Rattle.order_graph.specs.Frontiers.{covers, IsFrontier}
+use Rattle.order_graph.specs.Frontiers.{is_up_to_frontier, IsFrontier}
 use Rattle.order_graph.specs.Chains.{AreChains}
 use Rattle.weave_data.proofs.Members.{has_tail}
 use Rattle.order_graph.proofs.Joining.{CoveredBy, covered}
@@ -30,10 +30,10 @@ returns-else-is_before-clause-exact c =
     let latest = c.frontier_of.result.latest in
     let closed = c.precedence_is_decided.ensures.closed pairs in
     let kept : c.self.inside.pairs.items ≡ pairs = ap (λ (k : PairsView). k.pairs) c.self.view_is in
-    let are : AreChains pairs (ends_of pairs) c.self.inside.chains = subst (λ (ps : List Given). AreChains ps (ends_of ps) c.self.inside.chains) kept c.self.invariant.1 in
+    let are : AreChains pairs (ends_of pairs) c.self.inside.chains = subst (λ (ps : List GivenPair). AreChains ps (ends_of ps) c.self.inside.chains) kept c.self.invariant.1 in
     let coherent : AreCoherent (b ∷ ends_of pairs) = c.parts_and_unions_are_coherent.ensures.part (b ∷ ends_of pairs) (a ∷ b ∷ ends_of pairs) c.requires (λ stamp h. has_tail a (b ∷ ends_of pairs) stamp h) in
     let exact : IsFrontier pairs b latest = c.frontier_of.ensures pairs are coherent in
-    c.covers.ensures ∙ same_test (covers latest a) (precedes pairs a b)
+    c.covers.ensures ∙ same_test (is_up_to_frontier latest a) (precedes pairs a b)
     (λ by.
     let some : CoveredBy latest a = covered latest a by in
     at_precedes c.stamps_keep_the_laws.ensures pairs closed a some.1 b some.3 (exact.precede some.0 some.1 some.2).2)

@@ -1,5 +1,5 @@
 use Rattle.std.proofs.Common.{sym, subst}
-use Rattle.program_defs.specs.Walking.{HasWalked}
+use Rattle.program_defs.specs.LeastWalks.{HasWalked}
 use Rattle.program_defs.specs.declared.program.Program.TheVariants.{Path}
 use Rattle.path_program.specs.Pathing.{HasPathed}
 use Rattle.path_program.proofs.path.PathProgramNodeProgram.ready.Goals as goal

@@ -1,6 +1,6 @@
 use Rattle.std.proofs.Common.{◌+◌, arith, sym, ap, subst, ◌∙◌, ◌++◌, ◌∷◌, []}
 use Rattle.weave_data.specs.Names.{same_name}
-use Rattle.program_defs.specs.Walking.{WalkState, mark_in, parents, ranks}
+use Rattle.program_defs.specs.LeastWalks.{WalkState, mark_in, parents, ranks}
 use Rattle.program_defs.proofs.Backs.{HasLedBack, led-on, led-ends, led-through}
 use Rattle.program_defs.proofs.path_search.PathSearch.lead_back.Goals as goal
 

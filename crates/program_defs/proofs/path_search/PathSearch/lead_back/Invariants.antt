@@ -3,7 +3,7 @@ use Rattle.graph_ops.specs.Mentions.{is_among}
 use Rattle.graph_ops.specs.PlainGraph.{PlainGraph}
 use Rattle.program_defs.specs.declared.program.Filter.{Filter}
 use Rattle.program_defs.specs.Visits.{levels_to}
-use Rattle.program_defs.specs.Walking.{IsRankedTo, mark_in, parents, ranks}
+use Rattle.program_defs.specs.LeastWalks.{IsRankedTo, mark_in, parents, ranks}
 use Rattle.program_defs.proofs.Backs.{HasLedBack}
 use Rattle.program_defs.proofs.path_search.PathSearch.lead_back.Given as goal
 

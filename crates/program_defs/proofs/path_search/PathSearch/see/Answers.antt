@@ -1,6 +1,6 @@
 use Rattle.std.proofs.Common.{◌≡◌, ◌++◌, sym, ap, subst, ◌∙◌, Some, option_copied}
 use Rattle.weave_data.specs.declared.name.Name.{Name}
-use Rattle.program_defs.specs.Walking.{WalkState, HasWalked, mark_in, ranks, hops_from}
+use Rattle.program_defs.specs.LeastWalks.{WalkState, HasWalked, mark_in, ranks, hops_from}
 use Rattle.program_defs.specs.Searching.{next_of}
 use Rattle.program_defs.specs.Walks.{targets}
 use Rattle.program_defs.proofs.Pathing.{see-on, see-down}

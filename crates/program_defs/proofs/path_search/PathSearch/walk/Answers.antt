@@ -5,7 +5,7 @@ use Rattle.graph_ops.specs.PlainGraph.{PlainGraph}
 use Rattle.program_defs.specs.declared.program.Filter.{Filter}
 use Rattle.program_defs.specs.Ranks.{trace}
 use Rattle.program_defs.specs.Visits.{levels_to}
-use Rattle.program_defs.specs.Walking.{WalkState, IsRankedTo, mark_in, parents}
+use Rattle.program_defs.specs.LeastWalks.{WalkState, IsRankedTo, mark_in, parents}
 use Rattle.program_defs.proofs.Pathing.{target-is, bound-is, walk-answer, no-walk-answer}
 use Rattle.program_defs.proofs.path_search.PathSearch.walk.Goals as goal
 

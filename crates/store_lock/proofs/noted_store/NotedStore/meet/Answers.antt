@@ -3,8 +3,8 @@ use Rattle.weave_entries.specs.declared.gate_log.GateDeed.{GateDeed}
 use Rattle.seen_logs.specs.Seen.{GatesGoOn}
 use Rattle.chronicle.specs.declared.note.Note.{Note}
 use Rattle.lock_row.specs.Meetings.{AllMet}
-use Rattle.chronicle.specs.Passes.{noted}
-use Rattle.oracle_lock.specs.Entries.{oracle_entries}
+use Rattle.chronicle.specs.Passes.{seen_by_note}
+use Rattle.seen_logs.specs.Entries.{oracle_entries}
 use Rattle.oracle_lock.specs.Seen.{gates_noted, gates_seen, of_gates}
 use Rattle.store_lock.specs.Seen.{StoreView}
 use Rattle.store_lock.proofs.Keeping.{meeting-keeps}
@@ -14,7 +14,7 @@ pub invariant_of-self : goal.invariant_of-self
 invariant_of-self g c =
     let met = c.meet_gates.ensures in
     meeting-keeps c.references_go_on.ensures.store c.self.inside.shards c.args.self.now.shards c.self.inside.gates.items c.meet_gates.new.notes.items
-    (gates_seen c.args.passes.now) (gates_seen c.meet_gates.new.passes) (oracle_entries (noted c.self.inside.oracle)) c.self.inside.store c.self.invariant
+    (gates_seen c.args.passes.now) (gates_seen c.meet_gates.new.passes) (oracle_entries (seen_by_note c.self.inside.oracle)) c.self.inside.store c.self.invariant
     (ap (λ (v : StoreView). v.shards) c.self.view_is) (record {
       names = met.names;
       notes_on = met.notes_on;

@@ -4,7 +4,7 @@ use Rattle.vector_stamp.specs.declared.clock.Stamp.{Stamp}
 use Rattle.vector_stamp.specs.Order.{is_before}
 use Rattle.vector_stamp.specs.Seeing.{last_place}
 use Rattle.version_chain.specs.Chains.{ChainView}
-use Rattle.version_chain.specs.Collection.{collected}
+use Rattle.version_chain.specs.Collection.{collected_chain}
 use Rattle.version_chain.specs.Keeping.{kept_from, IsKept}
 use Rattle.version_chain.proofs.Changed.{older_inside, none_dropped, some_dropped, collected_kept, collected_versions}
 use Rattle.version_chain.proofs.chain.Chain.drop_older.Goals as goal
@@ -12,7 +12,7 @@ use Rattle.version_chain.proofs.chain.Chain.drop_older.Goals as goal
 pub returns-then-older-eq0 : goal.returns-then-older-eq0
 returns-then-older-eq0 c =
     let is : c.older_versions-older.result ≡ pred (last_place (λ (stamp : Stamp). is_before stamp.clock c.args.bound.now) c.self.inside.stamps.items) = c.older_versions-older.ensures ∙ ap (λ (stamps : List Stamp). pred (last_place (λ (stamp : Stamp). is_before stamp.clock c.args.bound.now) stamps)) c.as_slice.ensures.value in
-    subst (λ (chain : ChainView). chain ≡ collected c.args.bound.now chain) c.self.view_is (none_dropped c.args.bound.now c.self.inside.dropped c.older_versions-older.result c.self.inside.parts c.self.inside.stamps.items c.self.invariant is c.if-older-eq0.true)
+    subst (λ (chain : ChainView). chain ≡ collected_chain c.args.bound.now chain) c.self.view_is (none_dropped c.args.bound.now c.self.inside.dropped c.older_versions-older.result c.self.inside.parts c.self.inside.stamps.items c.self.invariant is c.if-older-eq0.true)
 
 pub drain-requires-clause-in_bounds : goal.drain-requires-clause-in_bounds
 drain-requires-clause-in_bounds c =
@@ -50,4 +50,4 @@ returns c =
     ap (λ (stamps : List Stamp). record { dropped = c.self.inside.dropped + c.older_versions-older.result; kept = kept_from (c.self.inside.dropped + c.older_versions-older.result) c.collect.new.self stamps }) after
     ∙ some_dropped c.args.bound.now c.self.inside.dropped c.older_versions-older.result c.self.inside.parts c.self.inside.stamps.items c.self.invariant is c.collect.new.self
     (collected_versions c.self.inside.dropped c.older_versions-older.result c.self.inside.parts c.collect.new.self c.self.inside.stamps.items c.self.invariant some inside c.collect.ensures.states)
-    ∙ ap (collected c.args.bound.now) c.self.view_is
+    ∙ ap (collected_chain c.args.bound.now) c.self.view_is

@@ -2,7 +2,7 @@ use Rattle.std.proofs.Common.{◌≡◌, ◌∷◌, List, Contains, ◌⊎◌, a
 use Rattle.std.specs.Prelude.{IfOk}
 use Rattle.vector_stamp.specs.declared.clock.Stamp.{Stamp}
 use Rattle.version_chain.specs.declared.version.Version.{Version}
-use Rattle.version_chain.specs.Chains.{ChainView, stamps_of}
+use Rattle.version_chain.specs.Chains.{ChainView, stamps_of_versions}
 use Rattle.version_chain.specs.Keeping.{kept_from}
 use Rattle.version_chain.specs.Views.{has_unordered, view_of}
 use Rattle.version_chain.proofs.LookBack.{base_seen}
@@ -18,9 +18,9 @@ returns-clause-base g c =
 
 pub returns-clause-known : goal.returns-clause-known
 returns-clause-known g c = λ event has.
-    subst (λ (versions : List Version). Contains (g.J.Judge.known c.args.judge.now) event ⊎ Contains (c.args.stamp ∷ stamps_of versions) event)
+    subst (λ (versions : List Version). Contains (g.J.Judge.known c.args.judge.now) event ⊎ Contains (c.args.stamp ∷ stamps_of_versions versions) event)
     (ap (kept_from c.self.inside.dropped c.self.inside.parts) c.as_slice.ensures.value ∙ ap (λ (chain : ChainView). chain.kept) c.self.view_is) (c.look_back.ensures.known event has)
 
 pub returns-clause-not_asked : goal.returns-clause-not_asked
 returns-clause-not_asked g c = λ none.
-    c.look_back.ensures.not_asked (ap (λ (versions : List Version). has_unordered c.args.stamp (stamps_of versions)) (ap (kept_from c.self.inside.dropped c.self.inside.parts) c.as_slice.ensures.value ∙ ap (λ (chain : ChainView). chain.kept) c.self.view_is) ∙ none)
+    c.look_back.ensures.not_asked (ap (λ (versions : List Version). has_unordered c.args.stamp (stamps_of_versions versions)) (ap (kept_from c.self.inside.dropped c.self.inside.parts) c.as_slice.ensures.value ∙ ap (λ (chain : ChainView). chain.kept) c.self.view_is) ∙ none)

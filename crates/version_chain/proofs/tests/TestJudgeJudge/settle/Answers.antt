@@ -1,6 +1,6 @@
 use Rattle.std.proofs.Common.{rules, ◌≡◌, ◌∷◌, ◌++◌, [], List, length, refl, sym, ap, ◌∙◌, arith}
 use Rattle.vector_stamp.specs.declared.clock.Stamp.{Stamp}
-use Rattle.vector_stamp.specs.Precedence.{Given}
+use Rattle.vector_stamp.specs.Precedence.{GivenPair}
 use Rattle.version_chain.specs.TestJudge.{ends_more, ends_stay}
 use Rattle.version_chain.proofs.tests.TestJudgeJudge.settle.Goals as goal
 
@@ -11,10 +11,10 @@ none_left (x ∷ xs) is = absurd (omega (arith, is))
 pub returns-clause-known : goal.returns-clause-known
 returns-clause-known c =
     let alone : c.args.earlier.now ≡ c.in-Some.event.now ∷ [] = c.in-Some.ensures.cases.0 ∙ ap (λ (others : List Stamp). c.in-Some.event.now ∷ others) (none_left c.in-Some.others.now (search rules)) in
-    let added : c.push_reserved.new.self.items ≡ c.args.self.now ++ (c.in-Some.event.now, c.args.later) ∷ [] = c.push_reserved.ensures.items ∙ ap (λ (pairs : List Given). pairs ++ (c.in-Some.event.now, c.args.later) ∷ []) (c.in_ok-reserve.ensures.items ∙ c.self.view_is) in
+    let added : c.push_reserved.new.self.items ≡ c.args.self.now ++ (c.in-Some.event.now, c.args.later) ∷ [] = c.push_reserved.ensures.items ∙ ap (λ (pairs : List GivenPair). pairs ++ (c.in-Some.event.now, c.args.later) ∷ []) (c.in_ok-reserve.ensures.items ∙ c.self.view_is) in
     ends_more c.args.self.now c.push_reserved.new.self.items c.args.earlier.now c.in-Some.event.now c.args.later alone added
 
 pub returns-clause-stay_known : goal.returns-clause-stay_known
 returns-clause-stay_known c =
-    let added : c.push_reserved.new.self.items ≡ c.args.self.now ++ (c.in-Some.event.now, c.args.later) ∷ [] = c.push_reserved.ensures.items ∙ ap (λ (pairs : List Given). pairs ++ (c.in-Some.event.now, c.args.later) ∷ []) (c.in_ok-reserve.ensures.items ∙ c.self.view_is) in
+    let added : c.push_reserved.new.self.items ≡ c.args.self.now ++ (c.in-Some.event.now, c.args.later) ∷ [] = c.push_reserved.ensures.items ∙ ap (λ (pairs : List GivenPair). pairs ++ (c.in-Some.event.now, c.args.later) ∷ []) (c.in_ok-reserve.ensures.items ∙ c.self.view_is) in
     ends_stay c.args.self.now c.push_reserved.new.self.items (c.in-Some.event.now, c.args.later) added

@@ -1,8 +1,8 @@
 use Rattle.std.proofs.Common.{◌≡◌, ◌≤◌, ◌<◌, ◌+◌, true, IsTrue, sym, ap, subst, ◌∙◌, arith}
 use Rattle.graph_ops.specs.Operations.{State}
-use Rattle.graph_ops.specs.VertexOps.{state_after, none_refused}
+use Rattle.graph_ops.specs.VertexOps.{state_after_ops, none_refused}
 use Rattle.version_parts.specs.declared.time.Time.{Time}
-use Rattle.version_parts.specs.Counts.{count_updates, count_of}
+use Rattle.version_parts.specs.Counts.{count_updates, count_in_lists}
 use Rattle.version_parts.specs.Placed.{AreUpTo}
 use Rattle.version_parts.specs.States.{state_at}
 use Rattle.version_parts.proofs.Placing.{lists_weaker, state_past, until_within}
@@ -20,12 +20,12 @@ add_ops-requires-clause-passes c =
 
 pub invariant_of-self-in-Err : goal.invariant_of-self-in-Err
 invariant_of-self-in-Err c =
-    c.self.invariant ∙ sym (ap count_of c.cut.ensures ∙ undone_counts c.args.before c.self.inside.lists c.add_ops.new.lists (subst (AreUpTo c.args.before) (sym c.self.view_is) c.requires.within) c.add_ops.ensures.others (λ update. true))
+    c.self.invariant ∙ sym (ap count_in_lists c.cut.ensures ∙ undone_counts c.args.before c.self.inside.lists c.add_ops.new.lists (subst (AreUpTo c.args.before) (sym c.self.view_is) c.requires.within) c.add_ops.ensures.others (λ update. true))
 
 pub returns-in-Ok-clause-state : goal.returns-in-Ok-clause-state
 returns-in-Ok-clause-state c =
     let same : state_at (c.args.before + 1) c.self.inside.lists ≡ state_at c.args.before c.args.self.now = state_past c.args.before (c.args.before + 1) (omega arith) c.self.inside.lists (subst (AreUpTo c.args.before) (sym c.self.view_is) c.requires.within) ∙ ap (state_at c.args.before) c.self.view_is in
-    c.in-Ok.ensures.state ∙ ap (state_after c.args.ops.now) same
+    c.in-Ok.ensures.state ∙ ap (state_after_ops c.args.ops.now) same
 
 pub returns-in-Err-clause-earlier : goal.returns-in-Err-clause-earlier
 returns-in-Err-clause-earlier c = λ update old.

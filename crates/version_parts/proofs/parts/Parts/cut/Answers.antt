@@ -1,10 +1,10 @@
 use Rattle.std.proofs.Common.{◌≤◌, true, sym, subst, arith}
 use Rattle.version_parts.specs.declared.lists.Lists.{Lists}
-use Rattle.version_parts.specs.Counts.{count_of}
+use Rattle.version_parts.specs.Counts.{count_in_lists}
 use Rattle.version_parts.proofs.Counting.{cut_count}
 use Rattle.version_parts.proofs.parts.Parts.cut.Goals as goal
 
 pub count_of-self-inside-requires : goal.count_of-self-inside-requires
 count_of-self-inside-requires c =
-    let less : count_of c.cut.new.self ≤ count_of c.self.inside.lists = subst (λ (lists : Lists). count_of lists ≤ count_of c.self.inside.lists) (sym c.cut.ensures) (cut_count c.args.cut (λ update. true) c.self.inside.lists) in
+    let less : count_in_lists c.cut.new.self ≤ count_in_lists c.self.inside.lists = subst (λ (lists : Lists). count_in_lists lists ≤ count_in_lists c.self.inside.lists) (sym c.cut.ensures) (cut_count c.args.cut (λ update. true) c.self.inside.lists) in
     omega (arith, less, c.self.invariant)

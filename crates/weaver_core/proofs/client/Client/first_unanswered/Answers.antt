@@ -1,6 +1,6 @@
 use Rattle.std.proofs.Common.{sym, ap, ◌∙◌}
 use Rattle.weave_entries.specs.SessionReplay.{SessionState, next_request}
-use Rattle.weaver_core.specs.Clients.{last_request}
+use Rattle.weaver_core.specs.Sessions.{last_request}
 use Rattle.weaver_core.proofs.Unanswered.{unanswered-last, unanswered-next}
 use Rattle.weaver_core.proofs.client.Client.first_unanswered.Goals as goal
 

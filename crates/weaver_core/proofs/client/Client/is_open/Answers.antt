@@ -1,5 +1,5 @@
 use Rattle.std.proofs.Common.{sym, ap, ◌∙◌}
-use Rattle.weaver_core.specs.Clients.{open_by_last}
+use Rattle.weaver_core.specs.Sessions.{open_by_last}
 use Rattle.weaver_core.proofs.Turns.{SessionLaws, open-by-last, open-is-last, place-of}
 use Rattle.weaver_core.proofs.client.Client.is_open.Goals as goal
 

@@ -1,6 +1,6 @@
 use Rattle.std.proofs.Common.{List, [], sym, subst}
 use Rattle.weave_entries.specs.SessionReplay.{SessionState}
-use Rattle.weaver_core.specs.Clients.{IsClientOf}
+use Rattle.weaver_core.specs.Sessions.{IsClientOf}
 use Rattle.weave_entries.specs.declared.session_log.SessionEntry.{SessionEntry}
 use Rattle.weaver_core.proofs.client.Client.new.Goals as goal
 

@@ -1,6 +1,6 @@
 use Rattle.std.proofs.Common.{sym, ap, subst, ◌∙◌}
 use Rattle.weave_entries.specs.SessionReplay.{SessionState}
-use Rattle.weaver_core.specs.Clients.{IsInTurn, begun_by_last}
+use Rattle.weaver_core.specs.Sessions.{IsInTurn, begun_by_last}
 use Rattle.weaver_core.proofs.Turns.{SessionLaws, begun-by-last, place-of, stands-early, stands-next, stands-twice}
 use Rattle.weaver_core.proofs.client.Client.standing.Goals as goal
 

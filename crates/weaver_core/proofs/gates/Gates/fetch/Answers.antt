@@ -1,7 +1,7 @@
 use Rattle.std.proofs.Common.{◌≡◌, ◌<◌, [], length, get_or, sym, ap, subst, ◌∙◌}
 use Rattle.shard_queue.specs.Sent.{sent_as}
 use Rattle.weave_entries.specs.GateReplay.{channel_of}
-use Rattle.weaver_core.specs.GateTable.{GateTable, log_at, log_of}
+use Rattle.weaver_core.specs.GateTable.{GateTable, gate_log_at, log_of_gate}
 use Rattle.weaver_core.proofs.Tables.{image-at, read-at, within-image}
 use Rattle.weaver_core.proofs.gates.Gates.fetch.Goals as goal
 
@@ -10,7 +10,7 @@ returns c =
     let gates = c.self.inside.gates.items in
     let g = c.args.gate in
     let gate = c.index.result.now in
-    let within = within-image log_of gates g (subst (λ (v : GateTable). g < length v.logs) (sym c.self.view_is) c.requires) in
+    let within = within-image log_of_gate gates g (subst (λ (v : GateTable). g < length v.logs) (sym c.self.view_is) c.requires) in
     let value : gate ≡ get_or gates g gate = c.index.ensures in
     let at = read-at gates g gate within value in
-    c.fetch.ensures ∙ ap (λ log. sent_as c.args.number (channel_of c.args.shard log)) (sym (image-at log_of gates g gate at [])) ∙ ap (λ (v : GateTable). sent_as c.args.number (channel_of c.args.shard (log_at v g))) c.self.view_is
+    c.fetch.ensures ∙ ap (λ log. sent_as c.args.number (channel_of c.args.shard log)) (sym (image-at log_of_gate gates g gate at [])) ∙ ap (λ (v : GateTable). sent_as c.args.number (channel_of c.args.shard (gate_log_at v g))) c.self.view_is

@@ -1,6 +1,6 @@
 use Rattle.std.proofs.Common.{◌≡◌, ◌<◌, [], length, get_or, sym, ap, subst, ◌∙◌}
 use Rattle.weave_entries.specs.GateReplay.{flight_of}
-use Rattle.weaver_core.specs.GateTable.{GateTable, log_at, log_of}
+use Rattle.weaver_core.specs.GateTable.{GateTable, gate_log_at, log_of_gate}
 use Rattle.weaver_core.proofs.Tables.{image-at, read-at, within-image}
 use Rattle.weaver_core.proofs.gates.Gates.flight.Goals as goal
 
@@ -9,7 +9,7 @@ returns c =
     let gates = c.self.inside.gates.items in
     let g = c.args.gate in
     let gate = c.index.result.now in
-    let within = within-image log_of gates g (subst (λ (v : GateTable). g < length v.logs) (sym c.self.view_is) c.requires) in
+    let within = within-image log_of_gate gates g (subst (λ (v : GateTable). g < length v.logs) (sym c.self.view_is) c.requires) in
     let value : gate ≡ get_or gates g gate = c.index.ensures in
     let at = read-at gates g gate within value in
-    c.flight.ensures ∙ ap flight_of (sym (image-at log_of gates g gate at [])) ∙ ap (λ (v : GateTable). flight_of (log_at v g)) c.self.view_is
+    c.flight.ensures ∙ ap flight_of (sym (image-at log_of_gate gates g gate at [])) ∙ ap (λ (v : GateTable). flight_of (gate_log_at v g)) c.self.view_is

@@ -2,7 +2,7 @@ use Rattle.std.proofs.Common.{◌≡◌, ◌<◌, length, sym, ap, subst, ◌∙
 use Rattle.std.specs.Prelude.{slice_set}
 use Rattle.gatekeeper.specs.Gates.{Adds, GateView}
 use Rattle.weave_entries.specs.declared.gate_log.GateDeed.TheVariants.{Heard}
-use Rattle.weaver_core.specs.GateTable.{AddsToGate, GateTable, log_of}
+use Rattle.weaver_core.specs.GateTable.{AddsToGate, GateTable, log_of_gate}
 use Rattle.weaver_core.proofs.AtGates.{adds-at, in-order-after, in-order-still, table-rests, table_of, unchanged}
 use Rattle.weaver_core.proofs.Results.{on_either, on_err_map, on_ok_map}
 use Rattle.weaver_core.proofs.Tables.{read-at, within-image}
@@ -14,7 +14,7 @@ invariant_of-self c =
     let g = c.args.gate in
     let before = c.index_mut-gate.result.now in
     let after = c.hear_at.new.gate in
-    let within = within-image log_of gates g (subst (λ (v : GateTable). g < length v.logs) (sym c.self.view_is) c.requires) in
+    let within = within-image log_of_gate gates g (subst (λ (v : GateTable). g < length v.logs) (sym c.self.view_is) c.requires) in
     let at = read-at gates g before within c.index_mut-gate.ensures.value in
     on_either c.hear_at.result (Adds before after 0 (Heard c.args.clock.now)) (after ≡ before) _
     (λ adds. in-order-after c.self.inside.shards gates g before after within at 0 (Heard c.args.clock.now) c.self.invariant adds)
@@ -28,7 +28,7 @@ returns-clause-heard c =
     let g = c.args.gate in
     let before = c.index_mut-gate.result.now in
     let after = c.hear_at.new.gate in
-    let within = within-image log_of gates g (subst (λ (v : GateTable). g < length v.logs) (sym c.self.view_is) c.requires) in
+    let within = within-image log_of_gate gates g (subst (λ (v : GateTable). g < length v.logs) (sym c.self.view_is) c.requires) in
     let at = read-at gates g before within c.index_mut-gate.ensures.value in
     on_ok_map c.hear_at.result (Adds before after 0 (Heard c.args.clock.now)) _
     (λ adds. subst (λ (v : GateTable). AddsToGate v (table_of shards (slice_set gates g after)) g 0 (Heard c.args.clock.now)) c.self.view_is (adds-at shards gates g before after within at 0 (Heard c.args.clock.now) adds))
@@ -40,6 +40,6 @@ returns-clause-refused c =
     let g = c.args.gate in
     let before = c.index_mut-gate.result.now in
     let after = c.hear_at.new.gate in
-    let within = within-image log_of gates g (subst (λ (v : GateTable). g < length v.logs) (sym c.self.view_is) c.requires) in
+    let within = within-image log_of_gate gates g (subst (λ (v : GateTable). g < length v.logs) (sym c.self.view_is) c.requires) in
     let at = read-at gates g before within c.index_mut-gate.ensures.value in
     on_err_map c.hear_at.result (after ≡ before) _ (λ is. table-rests c.self.inside.shards gates g before after within at (ap (λ (x : GateView). x.log) is) ∙ c.self.view_is) c.hear_at.ensures.refused

@@ -5,7 +5,7 @@ use Rattle.gatekeeper.specs.Gates.{Adds, GateView}
 use Rattle.gatekeeper.specs.declared.fault.GateFault.TheVariants.{Busy}
 use Rattle.weave_entries.specs.declared.gate_log.GateDeed.{GateDeed}
 use Rattle.weave_entries.specs.GateReplay.{flight_of}
-use Rattle.weaver_core.specs.GateTable.{AddsToGate, GateTable, log_at, log_of}
+use Rattle.weaver_core.specs.GateTable.{AddsToGate, GateTable, gate_log_at, log_of_gate}
 use Rattle.weaver_core.specs.Messages.{nop_deed}
 use Rattle.weaver_core.proofs.AtGates.{adds-at, in-order-after, in-order-still, table-rests, table_of, unchanged}
 use Rattle.weaver_core.proofs.Results.{on_either, on_err_map, on_ok_map}
@@ -18,7 +18,7 @@ nop_at-requires c =
     let gates = c.self.inside.gates.items in
     let g = c.args.gate in
     let before = c.index_mut-gate.result.now in
-    let within = within-image log_of gates g (subst (λ (v : GateTable). g < length v.logs) (sym c.self.view_is) c.requires.there) in
+    let within = within-image log_of_gate gates g (subst (λ (v : GateTable). g < length v.logs) (sym c.self.view_is) c.requires.there) in
     let at = read-at gates g before within c.index_mut-gate.ensures.value in
     subst (λ n. c.args.shard < n) (sym (ap (λ (v : GateTable). v.shards) c.self.view_is) ∙ sym (c.self.invariant.each_shards g before at)) c.requires.shard
 
@@ -28,7 +28,7 @@ invariant_of-self c =
     let g = c.args.gate in
     let before = c.index_mut-gate.result.now in
     let after = c.nop_at.new.gate in
-    let within = within-image log_of gates g (subst (λ (v : GateTable). g < length v.logs) (sym c.self.view_is) c.requires.there) in
+    let within = within-image log_of_gate gates g (subst (λ (v : GateTable). g < length v.logs) (sym c.self.view_is) c.requires.there) in
     let at = read-at gates g before within c.index_mut-gate.ensures.value in
     let deed = nop_deed before.home c.args.shard before.log in
     on_either c.nop_at.result (Adds before after 0 deed) (after ≡ before) _
@@ -43,13 +43,13 @@ returns-clause-entry c =
     let g = c.args.gate in
     let before = c.index_mut-gate.result.now in
     let after = c.nop_at.new.gate in
-    let within = within-image log_of gates g (subst (λ (v : GateTable). g < length v.logs) (sym c.self.view_is) c.requires.there) in
+    let within = within-image log_of_gate gates g (subst (λ (v : GateTable). g < length v.logs) (sym c.self.view_is) c.requires.there) in
     let at = read-at gates g before within c.index_mut-gate.ensures.value in
     let home = c.self.invariant.homes g before at in
-    let log : before.log ≡ log_at (table_of shards gates) g = sym (image-at log_of gates g before at []) in
-    let deed : nop_deed before.home c.args.shard before.log ≡ nop_deed g c.args.shard (log_at (table_of shards gates) g) = λ i. nop_deed (home i) c.args.shard (log i) in
+    let log : before.log ≡ gate_log_at (table_of shards gates) g = sym (image-at log_of_gate gates g before at []) in
+    let deed : nop_deed before.home c.args.shard before.log ≡ nop_deed g c.args.shard (gate_log_at (table_of shards gates) g) = λ i. nop_deed (home i) c.args.shard (log i) in
     on_ok_map c.nop_at.result (Adds before after 0 (nop_deed before.home c.args.shard before.log)) _
-    (λ adds. subst (λ (v : GateTable). AddsToGate v (table_of shards (slice_set gates g after)) g 0 (nop_deed g c.args.shard (log_at v g))) c.self.view_is
+    (λ adds. subst (λ (v : GateTable). AddsToGate v (table_of shards (slice_set gates g after)) g 0 (nop_deed g c.args.shard (gate_log_at v g))) c.self.view_is
     (adds-at shards gates g before after within at 0 _ (subst (λ (d : GateDeed). Adds before after 0 d) deed adds)))
     c.nop_at.ensures.entry
 
@@ -58,9 +58,9 @@ returns-clause-busy c =
     let gates = c.self.inside.gates.items in
     let g = c.args.gate in
     let before = c.index_mut-gate.result.now in
-    let within = within-image log_of gates g (subst (λ (v : GateTable). g < length v.logs) (sym c.self.view_is) c.requires.there) in
+    let within = within-image log_of_gate gates g (subst (λ (v : GateTable). g < length v.logs) (sym c.self.view_is) c.requires.there) in
     let at = read-at gates g before within c.index_mut-gate.ensures.value in
-    let log : before.log ≡ log_at c.args.self.now g = sym (image-at log_of gates g before at []) ∙ ap (λ (v : GateTable). log_at v g) c.self.view_is in
+    let log : before.log ≡ gate_log_at c.args.self.now g = sym (image-at log_of_gate gates g before at []) ∙ ap (λ (v : GateTable). gate_log_at v g) c.self.view_is in
     subst (λ l. IsRefusedWhere Busy (is_some (flight_of l)) c.nop_at.result) log c.nop_at.ensures.busy
 
 pub returns-clause-refused : goal.returns-clause-refused
@@ -69,6 +69,6 @@ returns-clause-refused c =
     let g = c.args.gate in
     let before = c.index_mut-gate.result.now in
     let after = c.nop_at.new.gate in
-    let within = within-image log_of gates g (subst (λ (v : GateTable). g < length v.logs) (sym c.self.view_is) c.requires.there) in
+    let within = within-image log_of_gate gates g (subst (λ (v : GateTable). g < length v.logs) (sym c.self.view_is) c.requires.there) in
     let at = read-at gates g before within c.index_mut-gate.ensures.value in
     on_err_map c.nop_at.result (after ≡ before) _ (λ is. table-rests c.self.inside.shards gates g before after within at (ap (λ (x : GateView). x.log) is) ∙ c.self.view_is) c.nop_at.ensures.refused

@@ -5,7 +5,7 @@ use Rattle.gatekeeper.specs.Gates.{Adds}
 use Rattle.gatekeeper.specs.declared.fault.GateFault.TheVariants.{Old}
 use Rattle.weave_entries.specs.declared.gate_log.GateDeed.TheVariants.{Raised}
 use Rattle.weave_entries.specs.GateReplay.{clock_of}
-use Rattle.weaver_core.specs.GateTable.{AddsToGate, GateTable, IsSameGate, log_at, log_of}
+use Rattle.weaver_core.specs.GateTable.{AddsToGate, GateTable, IsSameGate, gate_log_at, log_of_gate}
 use Rattle.weaver_core.proofs.AtGates.{adds-at, in-order-after, in-order-still, table-rests, table_of}
 use Rattle.weaver_core.proofs.Results.{on_either, on_err_map, on_ok_map}
 use Rattle.weaver_core.proofs.Tables.{image-at, read-at, within-image}
@@ -17,7 +17,7 @@ invariant_of-self c =
     let g = c.args.gate in
     let before = c.index_mut-gate.result.now in
     let after = c.raise_at.new.gate in
-    let within = within-image log_of gates g (subst (λ (v : GateTable). g < length v.logs) (sym c.self.view_is) c.requires) in
+    let within = within-image log_of_gate gates g (subst (λ (v : GateTable). g < length v.logs) (sym c.self.view_is) c.requires) in
     let at = read-at gates g before within c.index_mut-gate.ensures.value in
     on_either c.raise_at.result (Adds before after 0 (Raised c.args.epoch)) (IsSameGate before after) _
     (λ adds. in-order-after c.self.inside.shards gates g before after within at 0 (Raised c.args.epoch) c.self.invariant adds)
@@ -31,7 +31,7 @@ returns-clause-raised c =
     let g = c.args.gate in
     let before = c.index_mut-gate.result.now in
     let after = c.raise_at.new.gate in
-    let within = within-image log_of gates g (subst (λ (v : GateTable). g < length v.logs) (sym c.self.view_is) c.requires) in
+    let within = within-image log_of_gate gates g (subst (λ (v : GateTable). g < length v.logs) (sym c.self.view_is) c.requires) in
     let at = read-at gates g before within c.index_mut-gate.ensures.value in
     on_ok_map c.raise_at.result (Adds before after 0 (Raised c.args.epoch)) _
     (λ adds. subst (λ (v : GateTable). AddsToGate v (table_of shards (slice_set gates g after)) g 0 (Raised c.args.epoch)) c.self.view_is (adds-at shards gates g before after within at 0 (Raised c.args.epoch) adds))
@@ -43,7 +43,7 @@ returns-clause-refused c =
     let g = c.args.gate in
     let before = c.index_mut-gate.result.now in
     let after = c.raise_at.new.gate in
-    let within = within-image log_of gates g (subst (λ (v : GateTable). g < length v.logs) (sym c.self.view_is) c.requires) in
+    let within = within-image log_of_gate gates g (subst (λ (v : GateTable). g < length v.logs) (sym c.self.view_is) c.requires) in
     let at = read-at gates g before within c.index_mut-gate.ensures.value in
     on_err_map c.raise_at.result (IsSameGate before after) _ (λ is. table-rests c.self.inside.shards gates g before after within at is.log ∙ c.self.view_is) c.raise_at.ensures.refused
 
@@ -52,9 +52,9 @@ returns-clause-old c =
     let gates = c.self.inside.gates.items in
     let g = c.args.gate in
     let before = c.index_mut-gate.result.now in
-    let within = within-image log_of gates g (subst (λ (v : GateTable). g < length v.logs) (sym c.self.view_is) c.requires) in
+    let within = within-image log_of_gate gates g (subst (λ (v : GateTable). g < length v.logs) (sym c.self.view_is) c.requires) in
     let at = read-at gates g before within c.index_mut-gate.ensures.value in
     let home = c.self.invariant.homes g before at in
-    let log : before.log ≡ log_at c.args.self.now g = sym (image-at log_of gates g before at []) ∙ ap (λ (v : GateTable). log_at v g) c.self.view_is in
-    let same : (clock_of before.home before.log).epoch ≡ (clock_of g (log_at c.args.self.now g)).epoch = λ i. (clock_of (home i) (log i)).epoch in
+    let log : before.log ≡ gate_log_at c.args.self.now g = sym (image-at log_of_gate gates g before at []) ∙ ap (λ (v : GateTable). gate_log_at v g) c.self.view_is in
+    let same : (clock_of before.home before.log).epoch ≡ (clock_of g (gate_log_at c.args.self.now g)).epoch = λ i. (clock_of (home i) (log i)).epoch in
     subst (λ (now : ℕ). IsRefusedWhere Old (not (nat_lt now c.args.epoch)) c.raise_at.result) same c.raise_at.ensures.old

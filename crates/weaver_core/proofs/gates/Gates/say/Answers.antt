@@ -1,6 +1,6 @@
 use Rattle.std.proofs.Common.{◌≡◌, ◌<◌, [], length, get_or, sym, ap, subst, ◌∙◌}
 use Rattle.weave_entries.specs.GateReplay.{clock_of}
-use Rattle.weaver_core.specs.GateTable.{GateTable, log_at, log_of}
+use Rattle.weaver_core.specs.GateTable.{GateTable, gate_log_at, log_of_gate}
 use Rattle.weaver_core.proofs.Tables.{image-at, read-at, within-image}
 use Rattle.weaver_core.proofs.gates.Gates.say.Goals as goal
 
@@ -9,9 +9,9 @@ returns c =
     let gates = c.self.inside.gates.items in
     let g = c.args.gate in
     let gate = c.index.result.now in
-    let within = within-image log_of gates g (subst (λ (v : GateTable). g < length v.logs) (sym c.self.view_is) c.requires) in
+    let within = within-image log_of_gate gates g (subst (λ (v : GateTable). g < length v.logs) (sym c.self.view_is) c.requires) in
     let value : gate ≡ get_or gates g gate = c.index.ensures in
     let at = read-at gates g gate within value in
     let home = c.self.invariant.homes g gate at in
-    let log = sym (image-at log_of gates g gate at []) in
-    c.say.ensures ∙ (λ i. clock_of (home i) (log i)) ∙ ap (λ (v : GateTable). clock_of g (log_at v g)) c.self.view_is
+    let log = sym (image-at log_of_gate gates g gate at []) in
+    c.say.ensures ∙ (λ i. clock_of (home i) (log i)) ∙ ap (λ (v : GateTable). clock_of g (gate_log_at v g)) c.self.view_is

@@ -2,7 +2,7 @@ use Rattle.std.proofs.Common.{◌≡◌, ◌∙◌, sym, ap, subst}
 use Rattle.program_defs.specs.declared.script.Step.TheVariants.{Begin}
 use Rattle.report_rules.specs.declared.report.StepAnswer.{StepAnswer}
 use Rattle.weaver_core.specs.Beginning.{Begins}
-use Rattle.weaver_core.specs.Clients.{AreSameClients}
+use Rattle.weaver_core.specs.Sessions.{AreSameClients}
 use Rattle.weaver_core.specs.Cores.{MachinesDo, MachinesView, CanBeGiven, machines_of}
 use Rattle.weaver_core.proofs.BeginDone.{BeginLaws, begin-done, begin-values, ready}
 use Rattle.weaver_core.proofs.Resting.{some-request}

@@ -2,7 +2,7 @@ use Rattle.std.proofs.Common.{◌≡◌, ℕ, ◌<◌, ◌≤◌, IsTrue, List, 
 use Rattle.program_defs.specs.declared.script.Request.{Request}
 use Rattle.report_rules.specs.Lookups.{request_at}
 use Rattle.step_rules.specs.Requests.{has_reply}
-use Rattle.weaver_core.specs.Clients.{IsFirstUnanswered}
+use Rattle.weaver_core.specs.Sessions.{IsFirstUnanswered}
 use Rattle.weaver_core.specs.Cores.{AreOf, MachinesView}
 use Rattle.weaver_core.proofs.FirstUnanswered.{none-replied, replied-before}
 use Rattle.weaver_core.proofs.CitedLaws.{RequestLaws}

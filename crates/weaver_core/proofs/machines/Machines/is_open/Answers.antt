@@ -1,7 +1,7 @@
 use Rattle.std.proofs.Common.{List, Contains, get_or, sym, ap, subst, ◌∙◌, arith}
 use Rattle.program_defs.specs.declared.script.Request.{Request}
 use Rattle.weave_account.specs.Account.{session_log}
-use Rattle.weaver_core.specs.Clients.{is_open_in}
+use Rattle.weaver_core.specs.Sessions.{is_open_in}
 use Rattle.weaver_core.specs.Cores.{AreOf, MachinesView}
 use Rattle.weaver_core.proofs.BeginDone.{requests-are}
 use Rattle.weaver_core.proofs.Resting.{found, some-request}

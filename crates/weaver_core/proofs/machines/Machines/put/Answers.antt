@@ -1,5 +1,5 @@
 use Rattle.std.proofs.Common.{ap, ◌∙◌}
-use Rattle.weaver_core.specs.Clients.{ClientTable, with_running}
+use Rattle.weaver_core.specs.Sessions.{ClientTable, with_running}
 use Rattle.weaver_core.specs.Cores.{MachinesView, machines_of}
 use Rattle.weaver_core.proofs.machines.Machines.put.Goals as goal
 

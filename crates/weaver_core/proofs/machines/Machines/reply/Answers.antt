@@ -1,9 +1,9 @@
 use Rattle.std.proofs.Common.{◌∙◌, sym, subst}
 use Rattle.program_defs.specs.declared.script.Step.TheVariants.{Reply}
 use Rattle.report_rules.specs.declared.report.StepAnswer.{StepAnswer}
-use Rattle.weaver_core.specs.Clients.{AreSameClients}
+use Rattle.weaver_core.specs.Sessions.{AreSameClients}
 use Rattle.weaver_core.specs.Cores.{MachinesDo, MachinesView, CanBeGiven, RepliesToChange, machines_of}
-use Rattle.weaver_core.specs.Replying.{Replies}
+use Rattle.weaver_core.specs.GivingReplies.{Replies}
 use Rattle.weaver_core.proofs.ReplyDone.{ReplyLaws, reply-done, reply-values, there}
 use Rattle.weaver_core.proofs.Resting.{same-sessions, some-request}
 use Rattle.weaver_core.proofs.Results.{if_ok_map, on_err_map}

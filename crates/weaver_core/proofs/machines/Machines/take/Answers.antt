@@ -1,5 +1,5 @@
 use Rattle.std.proofs.Common.{None, ap, ◌∙◌}
-use Rattle.weaver_core.specs.Clients.{ClientTable, values_at, with_running}
+use Rattle.weaver_core.specs.Sessions.{ClientTable, values_at, with_running}
 use Rattle.weaver_core.specs.Cores.{MachinesView, machines_of}
 use Rattle.weaver_core.proofs.machines.Machines.take.Goals as goal
 

@@ -8,7 +8,7 @@ use Rattle.weave_entries.specs.declared.shard_log.ShardEntry.{ShardEntry}
 use Rattle.weave_entries.specs.OracleReplay.{pairs_of_log, settled_entry}
 use Rattle.weave_entries.specs.ShardReplay.{first_unready, state_of_updates, updates_of}
 use Rattle.weave_entries.specs.ShardRules.{IsKeptFor, entries_of_visit, is_settled_by, updates_read}
-use Rattle.weaver_core.specs.ShardTable.{ShardTable, log_at, log_of}
+use Rattle.weaver_core.specs.ShardTable.{ShardTable, shard_log_at, log_of_shard}
 use Rattle.weaver_core.specs.Visiting.{Reads}
 use Rattle.weaver_core.proofs.AtShards.{alike-if-adds, alike-if-same, log-is, still-in-order, table_of}
 use Rattle.weaver_core.proofs.AtVisits.{VisitLaws, if_ok_on_three, oracle-same, reads-at}
@@ -22,7 +22,7 @@ invariant_of-self c =
     let s = c.args.shard in
     let before = c.index_mut-shard.result.now in
     let after = c.visit.new.self in
-    let within = within-image log_of shards s (subst (λ (v : ShardTable). s < length v.logs) (sym c.self.view_is) c.requires.there) in
+    let within = within-image log_of_shard shards s (subst (λ (v : ShardTable). s < length v.logs) (sym c.self.view_is) c.requires.there) in
     let at = read-at shards s before within c.index_mut-shard.ensures.value in
     let pairs = pairs_of_log c.args.oracle.now in
     still-in-order c.self.inside.gates shards s before after within at c.self.invariant
@@ -41,9 +41,9 @@ returns-clause-reads c =
     let then_oracle = c.visit.new.judge in
     let before = c.index_mut-shard.result.now in
     let after = c.visit.new.self in
-    let within = within-image log_of shards s (subst (λ (t : ShardTable). s < length t.logs) (sym c.self.view_is) c.requires.there) in
+    let within = within-image log_of_shard shards s (subst (λ (t : ShardTable). s < length t.logs) (sym c.self.view_is) c.requires.there) in
     let at = read-at shards s before within c.index_mut-shard.ensures.value in
-    let log : before.log ≡ log_at c.args.self.now s = log-is gates shards s before before within at ∙ ap (λ (t : ShardTable). log_at t s) c.self.view_is in
+    let log : before.log ≡ shard_log_at c.args.self.now s = log-is gates shards s before before within at ∙ ap (λ (t : ShardTable). shard_log_at t s) c.self.view_is in
     let base = subst (λ (l : List ShardEntry). IsKeptFor stamp v l) (sym log) c.requires.ready.base in
     let pairs = pairs_of_log oracle in
     let laws : VisitLaws = record {
@@ -66,11 +66,11 @@ returns-clause-unread c =
     let s = c.args.shard in
     let stamp = c.args.stamp in
     let before = c.index_mut-shard.result.now in
-    let within = within-image log_of shards s (subst (λ (t : ShardTable). s < length t.logs) (sym c.self.view_is) c.requires.there) in
+    let within = within-image log_of_shard shards s (subst (λ (t : ShardTable). s < length t.logs) (sym c.self.view_is) c.requires.there) in
     let at = read-at shards s before within c.index_mut-shard.ensures.value in
-    let log : before.log ≡ log_at c.args.self.now s = log-is c.self.inside.gates shards s before before within at ∙ ap (λ (t : ShardTable). log_at t s) c.self.view_is in
+    let log : before.log ≡ shard_log_at c.args.self.now s = log-is c.self.inside.gates shards s before before within at ∙ ap (λ (t : ShardTable). shard_log_at t s) c.self.view_is in
     let gates = c.self.invariant.each_gates s before at ∙ ap (λ (t : ShardTable). t.gates) c.self.view_is in
-    subst (λ n. IfErr c.visit.result (λ (fault : VisitFault). IsRightlyUnread n stamp (log_at c.args.self.now s) fault)) gates
+    subst (λ n. IfErr c.visit.result (λ (fault : VisitFault). IsRightlyUnread n stamp (shard_log_at c.args.self.now s) fault)) gates
     (subst (λ (l : List ShardEntry). IfErr c.visit.result (λ (fault : VisitFault). IsRightlyUnread before.gates stamp l fault)) log c.visit.ensures.refused)
 
 pub returns-clause-not_asked : goal.returns-clause-not_asked

@@ -7,15 +7,15 @@ use Rattle.weave_entries.specs.GateReplay.{begun_stamp, clock_of, flight_of}
 use Rattle.weave_account.specs.Clocks.{IsKnown}
 use Rattle.gatekeeper.specs.declared.fault.GateFault.TheVariants.{Busy}
 use Rattle.gatekeeper.specs.Answers.{IsRefusedWhere}
-use Rattle.gate_lock.specs.declared.noted.NotedGate.{NotedGate}
-use Rattle.gate_lock.specs.Notes.{seen_of}
+use Rattle.gate_lock.specs.declared.noted_gate.NotedGate.{NotedGate}
+use Rattle.gate_lock.specs.Notes.{seen_of_gate}
 use Rattle.weaver_locks.specs.GateHolds.{gate_entries_of}
 use Rattle.weaver_locks.proofs.Calling.{as_found, found_as, hears_no_more, known_after, known_there, one_more}
 use Rattle.weaver_locks.proofs.shared.Shared.begin_tx.Goals as goal
 
 pub begin_tx-begun-requires : goal.begin_tx-begun-requires
 begin_tx-begun-requires g c heard is =
-    subst (λ (n : NotedGate). IsKnown (seen_of n.gate n.notes) heard.clock) (sym c.state.ensures.value)
+    subst (λ (n : NotedGate). IsKnown (seen_of_gate n.gate n.notes) heard.clock) (sym c.state.ensures.value)
     (known_there c.gates_keep_their_laws.ensures c.args.self.now c.args.hand.now c.enter_gate-held.result.machine c.enter_gate-held.ensures.kept
     c.enter_gate-held.ensures.within heard.clock (c.requires.last heard is))
 

@@ -9,8 +9,8 @@ use Rattle.seen_logs.specs.Seen.{AreLegal, IsWithin}
 use Rattle.chronicle.specs.Locks.{lock_of}
 use Rattle.chronicle.specs.Passes.{IsReady, number_of}
 use Rattle.lock_row.specs.Rows.{AreReady}
-use Rattle.gate_lock.specs.declared.noted.NotedGate.{NotedGate}
-use Rattle.shard_lock.specs.declared.noted.NotedShard.{NotedShard}
+use Rattle.gate_lock.specs.declared.noted_gate.NotedGate.{NotedGate}
+use Rattle.shard_lock.specs.declared.noted_shard.NotedShard.{NotedShard}
 use Rattle.weaver_locks.specs.declared.hand.Hand.{Hand}
 use Rattle.weaver_locks.specs.Locks.{hands_of, start_of}
 use Rattle.weaver_locks.specs.Hands.{hand_number, seen_by, IsHand}

@@ -7,9 +7,9 @@ use Rattle.seen_logs.specs.Seen.{AreLegal}
 use Rattle.chronicle.specs.declared.chronicle.Chronicle.{Chronicle}
 use Rattle.chronicle.specs.declared.held.Held.{Held}
 use Rattle.chronicle.specs.declared.pass.Pass.{Pass}
-use Rattle.gate_lock.specs.declared.noted.NotedGate.{NotedGate}
-use Rattle.gate_lock.specs.Notes.{seen_by_passes}
-use Rattle.shard_lock.specs.declared.noted.NotedShard.{NotedShard}
+use Rattle.gate_lock.specs.declared.noted_gate.NotedGate.{NotedGate}
+use Rattle.gate_lock.specs.Notes.{seen_by_gate_passes}
+use Rattle.shard_lock.specs.declared.noted_shard.NotedShard.{NotedShard}
 use Rattle.weaver_locks.specs.declared.hand.Hand.{Hand}
 use Rattle.weaver_locks.proofs.Entering.{HasEntered, HasMet, entered_by, is_in_gate, legal_there, met_there, within_gate}
 use Rattle.weaver_locks.proofs.shared.Shared.enter_gate.Goals as goal
@@ -17,7 +17,7 @@ use Rattle.weaver_locks.proofs.shared.Shared.enter_gate.Goals as goal
 pub meet-requires-clause-legal : goal.meet-requires-clause-legal
 meet-requires-clause-legal g c =
     let P : List (Chronicle NotedGate GateDeed) × List (Pass GateDeed) × List (Chronicle NotedShard ShardDeed) × List (Pass ShardDeed) → Type 0 =
-    λ z. AreLegal (length z.0) (length z.2) (seen_by_passes c.args.gate [] (set z.1 c.args.gate c.enter-held.new.pass) c.args.hand.now.store z.3) in
+    λ z. AreLegal (length z.0) (length z.2) (seen_by_gate_passes c.args.gate [] (set z.1 c.args.gate c.enter-held.new.pass) c.args.hand.now.store z.3) in
     subst P (λ i. (
       sym c.as_slice-locks.ensures.value i,
       sym c.as_mut_slice-passes.ensures.value i,

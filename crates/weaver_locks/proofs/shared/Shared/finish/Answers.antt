@@ -7,15 +7,15 @@ use Rattle.weave_entries.specs.GateReplay.{is_begun, running_of}
 use Rattle.gatekeeper.specs.declared.fault.GateFault.TheVariants.{Idle}
 use Rattle.gatekeeper.specs.Answers.{IsRefusedWhere}
 use Rattle.seen_logs.specs.References.{EndsAsSeen}
-use Rattle.gate_lock.specs.declared.noted.NotedGate.{NotedGate}
-use Rattle.gate_lock.specs.Notes.{seen_of}
+use Rattle.gate_lock.specs.declared.noted_gate.NotedGate.{NotedGate}
+use Rattle.gate_lock.specs.Notes.{seen_of_gate}
 use Rattle.weaver_locks.specs.GateHolds.{gate_entries_of}
 use Rattle.weaver_locks.proofs.Calling.{as_found, ends_there, found_as, on_ok, one_more}
 use Rattle.weaver_locks.proofs.shared.Shared.finish.Goals as goal
 
 pub finish-finished-requires : goal.finish-finished-requires
 finish-finished-requires g c =
-    subst (λ (n : NotedGate). EndsAsSeen (seen_of n.gate n.notes) c.args.request) (sym c.state.ensures.value)
+    subst (λ (n : NotedGate). EndsAsSeen (seen_of_gate n.gate n.notes) c.args.request) (sym c.state.ensures.value)
     (ends_there c.gates_keep_their_laws.ensures c.args.hand.now c.enter_gate-held.result.machine c.enter_gate-held.ensures.kept
     c.enter_gate-held.ensures.within c.args.request c.requires.visits)
 

@@ -1,15 +1,15 @@
 use Rattle.std.proofs.Common.{refl, sym, subst}
 use Rattle.weave_entries.specs.declared.gate_log.GateDeed.TheVariants.{Heard}
 use Rattle.weave_account.specs.Clocks.{IsKnown}
-use Rattle.gate_lock.specs.declared.noted.NotedGate.{NotedGate}
-use Rattle.gate_lock.specs.Notes.{seen_of}
+use Rattle.gate_lock.specs.declared.noted_gate.NotedGate.{NotedGate}
+use Rattle.gate_lock.specs.Notes.{seen_of_gate}
 use Rattle.weaver_locks.specs.GateHolds.{gate_entries_of}
 use Rattle.weaver_locks.proofs.Calling.{known_there, on_ok, one_more}
 use Rattle.weaver_locks.proofs.shared.Shared.hear.Goals as goal
 
 pub hear-heard-requires : goal.hear-heard-requires
 hear-heard-requires g c =
-    subst (λ (n : NotedGate). IsKnown (seen_of n.gate n.notes) c.args.clock.now) (sym c.state.ensures.value)
+    subst (λ (n : NotedGate). IsKnown (seen_of_gate n.gate n.notes) c.args.clock.now) (sym c.state.ensures.value)
     (known_there c.gates_keep_their_laws.ensures c.args.self.now c.args.hand.now c.enter_gate-held.result.machine c.enter_gate-held.ensures.kept
     c.enter_gate-held.ensures.within c.args.clock.now c.requires.clock)
 

@@ -5,8 +5,8 @@ use Rattle.weave_entries.specs.declared.gate_log.GateDeed.{GateDeed}
 use Rattle.weave_entries.specs.declared.gate_log.GateEntry.{GateEntry}
 use Rattle.chronicle.specs.declared.pass.Pass.{Pass}
 use Rattle.chronicle.specs.Passes.{number_of}
-use Rattle.gate_lock.specs.declared.noted.NotedGate.{NotedGate}
-use Rattle.gate_lock.specs.Notes.{GateIsKept, frame_of}
+use Rattle.gate_lock.specs.declared.noted_gate.NotedGate.{NotedGate}
+use Rattle.gate_lock.specs.Notes.{GateIsKept, frame_of_gate}
 use Rattle.lock_row.proofs.Lists.{one_of, written}
 use Rattle.weaver_locks.specs.declared.hand.Hand.{Hand}
 use Rattle.weaver_locks.proofs.Leaving.{follows, hand_again, left_by, one_account, was_at_gate}
@@ -16,7 +16,7 @@ pub leave-requires-clause-frame : goal.leave-requires-clause-frame
 leave-requires-clause-frame c =
     let inside = c.requires.inside.4 in
     let a = one_of c.args.self.now.gates.items c.args.gate c.requires.gate in
-    ap (λ (n : NotedGate). frame_of n.gate n.notes) c.state.ensures.value
+    ap (λ (n : NotedGate). frame_of_gate n.gate n.notes) c.state.ensures.value
     ∙ (inside.machine.frame a ∙ ap (λ l. l.frame) (sym (inside.hold.lock a)))
 
 pub leave-requires-clause-log : goal.leave-requires-clause-log

@@ -8,7 +8,7 @@ use Rattle.chronicle.specs.Holds.{log_at_entry, machine_of}
 use Rattle.chronicle.specs.Locks.{Lock, lock_of}
 use Rattle.chronicle.specs.Logs.{Follows}
 use Rattle.chronicle.specs.Passes.{IsReady, number_of}
-use Rattle.shard_lock.specs.declared.noted.NotedShard.{NotedShard}
+use Rattle.shard_lock.specs.declared.noted_shard.NotedShard.{NotedShard}
 use Rattle.weaver_locks.proofs.Rows.{set_here, set_twice}
 use Rattle.weaver_locks.proofs.ShardLeft.{is_hand, was_there}
 use Rattle.weaver_locks.proofs.shared.Shared.leave_shard.Goals as goal

@@ -2,13 +2,13 @@ use Rattle.std.proofs.Common.{◌≡◌, refl, sym, ap, ◌∙◌, subst, length
 use Rattle.std.specs.Prelude.{OnErr, OnOk, is_none}
 use Rattle.std.specs.Option.{ForSome}
 use Rattle.weave_entries.specs.declared.gate_log.GateDeed.TheVariants.{Sent}
-use Rattle.weave_entries.specs.GateReplay.{Begun, flight_of}
+use Rattle.weave_entries.specs.GateReplay.{BegunRequest, flight_of}
 use Rattle.weave_entries.specs.Sending.{IsCountsOf, messages_of}
 use Rattle.gatekeeper.specs.declared.fault.GateFault.TheVariants.{Idle}
 use Rattle.gatekeeper.specs.Answers.{IsRefusedWhere}
 use Rattle.gatekeeper.specs.Gates.{SendsFlight}
-use Rattle.gate_lock.specs.declared.noted.NotedGate.{NotedGate}
-use Rattle.gate_lock.specs.Notes.{HasJudged, seen_of}
+use Rattle.gate_lock.specs.declared.noted_gate.NotedGate.{NotedGate}
+use Rattle.gate_lock.specs.Notes.{HasJudged, seen_of_gate}
 use Rattle.weaver_locks.proofs.Sending.{flies_there, never_idle, sends_counted, sends_judged, sends_own, sent_as_flown}
 use Rattle.weaver_locks.specs.GateHolds.{gate_entries_of}
 use Rattle.weaver_locks.proofs.Calling.{one_more}
@@ -18,7 +18,7 @@ pub send-sent-requires-clause-author : goal.send-sent-requires-clause-author
 send-sent-requires-clause-author g c =
     let held = c.enter_gate-held in
     let m = held.result.machine in
-    subst (λ (n : NotedGate). ForSome (flight_of n.gate.log) (λ (b : Begun). b.author ≡ c.number-author.result))
+    subst (λ (n : NotedGate). ForSome (flight_of n.gate.log) (λ (b : BegunRequest). b.author ≡ c.number-author.result))
     (sym c.state.ensures.value)
     (sends_own c.hands_keep_their_laws.ensures c.gates_keep_their_laws.ensures c.args.self.now c.args.hand.now c.args.gate c.requires.gate
     c.requires.hand m held.ensures.inside.machine.home held.ensures.inside.found held.ensures.kept held.ensures.within c.args.ops.now
@@ -28,7 +28,7 @@ pub send-sent-requires-clause-counts : goal.send-sent-requires-clause-counts
 send-sent-requires-clause-counts g c =
     let held = c.enter_gate-held in
     let m = held.result.machine in
-    subst (λ (n : NotedGate). ForSome (flight_of n.gate.log) (λ (b : Begun). IsCountsOf c.args.ops.now c.args.verdict.now))
+    subst (λ (n : NotedGate). ForSome (flight_of n.gate.log) (λ (b : BegunRequest). IsCountsOf c.args.ops.now c.args.verdict.now))
     (sym c.state.ensures.value)
     (sends_counted c.hands_keep_their_laws.ensures c.gates_keep_their_laws.ensures c.args.self.now c.args.hand.now c.args.gate c.requires.gate
     c.requires.hand m held.ensures.inside.machine.home held.ensures.inside.found held.ensures.kept held.ensures.within c.args.ops.now
@@ -38,7 +38,7 @@ pub send-sent-requires-clause-judged : goal.send-sent-requires-clause-judged
 send-sent-requires-clause-judged g c =
     let held = c.enter_gate-held in
     let m = held.result.machine in
-    subst (λ (n : NotedGate). ForSome (flight_of n.gate.log) (λ (b : Begun). HasJudged (seen_of n.gate n.notes) b c.args.ops.now c.args.verdict.now))
+    subst (λ (n : NotedGate). ForSome (flight_of n.gate.log) (λ (b : BegunRequest). HasJudged (seen_of_gate n.gate n.notes) b c.args.ops.now c.args.verdict.now))
     (sym c.state.ensures.value)
     (sends_judged c.hands_keep_their_laws.ensures c.gates_keep_their_laws.ensures c.args.self.now c.args.hand.now c.args.gate c.requires.gate
     c.requires.hand m held.ensures.inside.machine.home held.ensures.inside.found held.ensures.kept held.ensures.within c.args.ops.now

@@ -8,7 +8,7 @@ use Rattle.weave_entries.specs.ShardReplay.{first_unready}
 use Rattle.shard_node.specs.Shards.{IsRightlyUnread}
 use Rattle.chronicle.specs.declared.pass.Pass.{Pass}
 use Rattle.chronicle.specs.Holds.{machine_of}
-use Rattle.chronicle.specs.Passes.{seen}
+use Rattle.chronicle.specs.Passes.{seen_by_pass}
 use Rattle.shard_lock.specs.Notes.{NotedShardView}
 use Rattle.weaver_locks.proofs.Beside.{oracle_found}
 use Rattle.weaver_locks.proofs.FrameParts.{oracle_framed}
@@ -117,7 +117,7 @@ returns-clause-hold g c =
       oracle_found = oracle_found c.args.self.now c.args.hand.now
           (record { gates = c.enter_shard-held.new.hand.gates; store = c.enter_shard-held.new.hand.store; oracle = did.new.pass; shards = c.enter_shard-held.new.hand.shards })
           c.requires.hand e.answer.0 _ adds;
-      oracle_left = ap (λ (p : Pass OracleDeed). oracle_entries (seen p)) same ∙ (ap oracle_entries adds.left ∙ oracles_back _);
+      oracle_left = ap (λ (p : Pass OracleDeed). oracle_entries (seen_by_pass p)) same ∙ (ap oracle_entries adds.left ∙ oracles_back _);
       oracle_refers = oracle_refers_on c.the_crates_below_keep_their_laws.ensures (length c.args.self.now.shards.items) c.leave_shard.new.hand _ did.new.pass
           (ap (λ (v : Vec (Pass GateDeed) Global). v.items) c.leave_shard.ensures.gates) same (oracle_keeps c.args.self.now c.args.hand.now c.enter_shard-held.new.hand c.args.shard c.enter_shard-held.result c.requires.hand c.requires.shard
           c.enter_shard-held.ensures c.state-state.result.now did.new.self c.state-state.ensures.value c.args.request c.args.stamp c.args.vertex did.result did.new.pass

@@ -1,5 +1,0 @@
-use Rattle.weaver_core.specs.Clients.{AreFirstSessions}
-use Rattle.weaver_core.proofs.clients.first_clients.Given as goal
-
-abbrev pub invariant-loop-number : goal.invariant-loop-number
-invariant-loop-number l = AreFirstSessions l.script l.number l.clients.items

@@ -1,7 +1,0 @@
-use Rattle.std.proofs.Common.{◌≡◌, drop, map, replicate, None}
-use Rattle.weaver_core.specs.Clients.{log_of}
-use Rattle.weaver_core.specs.Noting.{all_noted}
-use Rattle.weaver_core.proofs.clients.stamps_of.Given as goal
-
-abbrev pub invariant-loop-client : goal.invariant-loop-client
-invariant-loop-client l = all_noted l.stamps.items (map log_of (drop l.client-index l.clients)) ≡ all_noted (replicate l.requests None) (map log_of l.clients)

@@ -1,0 +1,51 @@
+use Rattle.std.proofs.Common.{◌≡◌, ◌<◌, [], length, get_or, sym, ap, subst, ◌∙◌}
+use Rattle.std.specs.Prelude.{Contains}
+use Rattle.weave_entries.specs.SessionReplay.{session_of}
+use Rattle.weaver_core.specs.Sessions.{ClientTable, IsInTurn, log_of_client, requests_at, requests_in, session_at, standing_at, standing_of}
+use Rattle.weaver_core.proofs.Tables.{image-at, read-at, within-image}
+use Rattle.weaver_core.proofs.sessions.Clients.standing.Goals as goal
+
+pub standing-requires-clause-client : goal.standing-requires-clause-client
+standing-requires-clause-client c =
+    let clients = c.self.inside.clients.items in
+    let s = c.args.session in
+    let client = c.index.result.now in
+    let within = within-image log_of_client clients s (subst (λ (v : ClientTable). s < length v.logs) (sym c.self.view_is) c.requires.there) in
+    let value : client ≡ get_or clients s client = c.index.ensures in
+    (s, c.self.invariant s client (read-at clients s client within value))
+
+pub standing-requires-clause-among : goal.standing-requires-clause-among
+standing-requires-clause-among c =
+    let clients = c.self.inside.clients.items in
+    let s = c.args.session in
+    let client = c.index.result.now in
+    let within = within-image log_of_client clients s (subst (λ (v : ClientTable). s < length v.logs) (sym c.self.view_is) c.requires.there) in
+    let value : client ≡ get_or clients s client = c.index.ensures in
+    let at = read-at clients s client within value in
+    let requests = sym (ap (λ (v : ClientTable). requests_at v s) c.self.view_is) ∙ image-at requests_in clients s client at [] in
+    subst (λ rs. Contains rs c.args.request) requests c.requires.among
+
+pub returns-clause-standing : goal.returns-clause-standing
+returns-clause-standing c =
+    let clients = c.self.inside.clients.items in
+    let s = c.args.session in
+    let client = c.index.result.now in
+    let within = within-image log_of_client clients s (subst (λ (v : ClientTable). s < length v.logs) (sym c.self.view_is) c.requires.there) in
+    let value : client ≡ get_or clients s client = c.index.ensures in
+    let at = read-at clients s client within value in
+    let requests = image-at requests_in clients s client at [] in
+    let log = image-at log_of_client clients s client at [] in
+    c.standing.ensures.standing ∙ sym (λ i. standing_of c.args.request (requests i) (log i)) ∙ ap (λ (v : ClientTable). standing_at v s c.args.request) c.self.view_is
+
+pub returns-clause-next : goal.returns-clause-next
+returns-clause-next c next =
+    let clients = c.self.inside.clients.items in
+    let s = c.args.session in
+    let client = c.index.result.now in
+    let within = within-image log_of_client clients s (subst (λ (v : ClientTable). s < length v.logs) (sym c.self.view_is) c.requires.there) in
+    let value : client ≡ get_or clients s client = c.index.ensures in
+    let at = read-at clients s client within value in
+    let requests = image-at requests_in clients s client at [] in
+    let log = image-at log_of_client clients s client at [] in
+    let session = sym (λ i. session_of (requests i) (log i)) ∙ ap (λ (v : ClientTable). session_at v s) c.self.view_is in
+    subst (λ state. IsInTurn state c.args.request) session (c.standing.ensures.next next)

@@ -1,8 +1,0 @@
-use Rattle.weaver_core.proofs.CoreDone.{values-of-start}
-use Rattle.weaver_core.proofs.stepper.Core.start.Goals as goal
-
-pub invariant_of-result : goal.invariant_of-result
-invariant_of-result c = (c.in_ok-machines.ensures.are, values-of-start c.args.script c.in_ok-machines.machines c.in_ok-machines.ensures.start c.in_ok-machines.ensures.values)
-
-pub returns-clause-state : goal.returns-clause-state
-returns-clause-state c = c.in_ok-machines.ensures.start
