@@ -3,7 +3,7 @@
 
 Run it by hand at the top of the repository, or give the top as the argument. It reads declarations by their layout, so a
 line of its list is a place to look, not a verdict: two words of one name may mean two things, and a short lemma may be
-dearer to share than to repeat. Answers and invariants are left out. Names that a file gives to terms of its own
+dearer to share than to repeat. Of proofs, answers and invariants are left out. Names that a file gives to terms of its own
 parameters (`abbrev` inside a module) and fields of records are no lemmas: they are listed apart.
 """
 import collections
