@@ -7,4 +7,5 @@ pub mod OneSession
 pub mod TwoSessions
 pub mod ThreeGatekeepers
 pub mod WithPrograms
+pub mod OneThingWrong
 pub mod NoText
