@@ -1,5 +1,6 @@
 //! Scripts that are run whole, driven by `execute` and on threads by `weave`. `check` says of each report that it is
 //! right.
+use crate::threads_tests::has_line;
 use crate::top_tests::{HONEST, call, gives};
 use std::alloc::{AllocError, Global};
 use std::sync::Wait;
@@ -131,6 +132,31 @@ fn rows_run<R: Threads + Wait + Sync>(
 #[test]
 fn scripts_that_are_driven_and_run(rt: HostRuntime) -> Result<(), Fail> {
     assert!(rt; rows_run(&rt, rt.alloc(), RUNS.as_slice())? == 10);
+    Ok(())
+}
+
+// How the reply lines of `FOLLOWS` begin and end. The stamps between vary on threads, the rest doesn't.
+const FOLLOWED: [(&str, &str); 8] = [
+    ("tx join ", " committed 1"),
+    ("tx follow ", " committed 2"),
+    ("prog reach1 ", " done yes"),
+    ("prog near ", " done found ann bob"),
+    ("prog who ", " done path ann bob cyd"),
+    ("tx rename ", " committed 3"),
+    ("tx leave ", " committed 4"),
+    ("prog gone ", " done no"),
+];
+
+#[test]
+fn phases_on_threads_give_these_replies(rt: HostRuntime) -> Result<(), Fail> {
+    let (status, report) = call(&rt, rt.alloc(), &["run"], FOLLOWS.as_bytes(), HONEST)?;
+    assert!(rt; status == Status::Done);
+    for (start, end) in FOLLOWED {
+        assert!(rt;
+            has_line(report.as_slice(), start.as_bytes(), end.as_bytes()),
+            "{start}"
+        );
+    }
     Ok(())
 }
 

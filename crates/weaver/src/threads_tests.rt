@@ -103,7 +103,7 @@ fn clients_run_side_by_side(rt: HostRuntime) -> Result<(), Fail> {
 }
 
 // Whether a line of the report begins and ends so.
-fn has_line(report: &[u8], start: &[u8], end: &[u8]) -> bool {
+pub(crate) fn has_line(report: &[u8], start: &[u8], end: &[u8]) -> bool {
     for line in report.split(|byte| *byte == b'\n') {
         if line.starts_with(start) && line.ends_with(end) {
             return true;
