@@ -51,7 +51,7 @@ counts_le pairs commits stamp ops number answers counts is =
     (all_members (λ (v : Name). count_naming v commits ≤ length commits) (named_by ops) (λ v h. filter_le (names_vertex v) commits)))
 
 module _ (pairs : List GivenPair) (log : List StoreEntry) (stamp : Stamp) (ops : List Op) (verdict : Verdict) (is : verdict ≡ verdict_on pairs (commits_of log) stamp ops) where
-  -- no more are counted than named
+  -- if no more vertices are named than there is room for, neither are more counted
   pub counts_fit : (room : ℕ) → length (named_by ops) ≤ room → length (counts_in verdict) ≤ room
   counts_fit room fits =
       elim (counts_given pairs (commits_of log) stamp ops verdict is) [

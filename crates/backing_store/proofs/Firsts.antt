@@ -63,7 +63,7 @@ module _ {X Y : Type 0} (f : X → Y) (p : Y → Bool) where
   position_map xs = rw (place_map xs, length-map xs f) refl
 
 module _ {A : Type 0} (p : A → Bool) where
-  -- with one more element at the end
+  -- with one more element at the end, the first place that passes is the old one, or else the new one's
   pub position_push : (xs : List A) (y : A) → position p (xs ++ y ∷ []) ≡ option_or (position p xs) (cond (p y) (Some (length xs)) None)
   position_push xs y =
       elim (cases_lt (position_or_len p xs) (length xs)) [

@@ -86,7 +86,7 @@ named_le ops = omega (arith, mentions_le (map vertex_of ops), length-map ops ver
 
 -- What is asked
 
--- there is no more asked than named
+-- a judgement asks about at most as many stamps as there are operations
 pub asked_le : (stamp : Stamp) (ops : List Op) (commits : List Commit) → length (asked_stamps stamp (lasts_of ops commits)) ≤ length ops
 asked_le stamp ops commits =
     let last_at : Name → Option LastCommit = λ (v : Name). option_map (λ (commit : Commit). record { vertex = v; commit = commit }) (last_naming v commits) in

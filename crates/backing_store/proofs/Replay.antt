@@ -126,7 +126,7 @@ module _ (pairs : List GivenPair) (commits : List Commit) (stamp : Stamp) (ops :
       (find (λ (last : LastCommit). precedes pairs stamp last.commit.stamp) (asked_of stamp (lasts_of ops commits)))
       (transaction ops (graph_committed commits)) number answers counts is
 
-  -- so no more are counted than named
+  -- what the verdict counts are the counts of the operations, or nothing
   pub counts_given : (verdict : Verdict) → verdict ≡ verdict_on pairs commits stamp ops → (counts_in verdict ≡ counts_of ops commits) ⊎ (counts_in verdict ≡ [])
   counts_given (Committed number answers counts) is = inl (by_rule number answers counts is)
   counts_given (Conflict vertex newer) is = inr refl
@@ -183,7 +183,7 @@ module _ (graph : PlainGraph) (lasts : List (Name × KeptCommit)) (made : ℕ) (
   module _ (pairs : List GivenPair) (author request : ℕ) (stamp : Stamp) (ops : List Op) (asked : List Name)
       (verdict : Verdict) (now : PlainGraph)
       (noted : List (Name × KeptCommit)) (number : ℕ) (placed : List (ℕ × ℕ)) where
-    -- one more entry
+    -- the store follows its log with one more judgement, if its stamp's id is new and all is as the judgement says
     pub replay_more : (longer : List StoreEntry) → All (λ (judged : Stamp). id_of judged ≢ id_of stamp)
         (stamps_judged log)
         → asked ≡ asked_vertices stamp (lasts_of ops (commits_of log))

@@ -81,11 +81,11 @@ module _ (table : List (Name × KeptCommit)) (commits : List Commit) (keeps : Ke
     pub vertices_asked : asked.vertices ≡ asked_vertices stamp (lasts_of ops commits)
     vertices_asked = is.vertices_are ∙ ap (map (λ (one : Name × KeptCommit). one.0)) (unordered_is stamp (named_by ops)) ∙ map-map _ _ (asked_of stamp (lasts_of ops commits))
 
-    -- and so are the stamps
+    -- the stamps that are asked by the table are those of the rule
     pub stamps_asked : asked.stamps ≡ asked_stamps stamp (lasts_of ops commits)
     stamps_asked = is.stamps_are ∙ ap (map (λ (one : Name × KeptCommit). one.1.stamp)) (unordered_is stamp (named_by ops)) ∙ map-map _ _ (asked_of stamp (lasts_of ops commits))
 
-    -- and the requests
+    -- the requests of the newer commits by the table are those of the rule
     pub newer_asked : asked.newer ≡ map (λ (last : LastCommit). last.commit.request) (asked_of stamp (lasts_of ops commits))
     newer_asked = is.newer_are ∙ ap (map (λ (one : Name × KeptCommit). one.1.request)) (unordered_is stamp (named_by ops)) ∙ map-map _ _ (asked_of stamp (lasts_of ops commits))
 

@@ -8,7 +8,7 @@ use Rattle.vector_stamp.specs.declared.clock.Stamp.{Stamp}
 use Rattle.backing_store.specs.declared.lasts.KeptCommit.{KeptCommit}
 use Rattle.backing_store.specs.Keeping.{held_of, unordered_of}
 
--- of one more name
+-- the unordered commits held for one more name are those so far, and then the ones of this name
 pub unordered_more : (table : List (Name × KeptCommit)) (stamp : Stamp) (names : List Name) (i : ℕ) (name : Name) → i < length names → name ≡ get_or names i name → unordered_of stamp (held_of table (take i names)) ++ unordered_of stamp (held_of table (name ∷ [])) ≡ unordered_of stamp (held_of table (take (i + 1) names))
 unordered_more table stamp names i name inside is =
     let more : take (i + 1) names ≡ take i names ++ name ∷ [] = take_more names i name inside ∙ ap (λ (v : Name). take i names ++ v ∷ []) (sym is) in

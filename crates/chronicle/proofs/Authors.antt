@@ -49,7 +49,7 @@ module _ {E : Type 0} where
   past (x ∷ xs) new [] after entry at long = absurd (omega (arith, long))
   past (x ∷ xs) new (y ∷ ys) after entry at long = past xs new ys after entry (ap tail_of at) (omega (arith, long))
 
-  -- it has the number of a pass
+  -- an entry past the start has the number of a pass as its author
   pub of_passes : (passes : ℕ) (start log before after : Log E) (entry : ℕ × E) → IsGrown passes start log → log ≡ before ++ entry ∷ after
       → length start ≤ length before → entry.0 < passes
   of_passes passes start log before after entry grown at long =

@@ -1,4 +1,4 @@
--- The rule of a lock's table: what holds between any two steps.
+-- The rule of a lock's table: what holds between any two steps. No public contract cites this.
 -- The lock's word is 0 while nobody is in, 1 while somebody is, and 2 until the first seat takes the slot. It is one of
 -- sixteen, so that the first, which is only looked at, is in another cache line.
 use Rattle.std.specs.Prelude.{◌≡◌, ◌≢◌, ℕ, true, ◌<◌, ◌≤◌, List, length, slice_index, Option, Some, None, All}

@@ -1,4 +1,4 @@
--- What a seat learns by its steps on the word. r is the number that the step found.
+-- What a seat learns by its steps on the word. r is the number that the step found. No public contract cites this.
 use Rattle.std.specs.Prelude.{◌≡◌, ◌≢◌, ℕ, [], ◌∷◌, Option, Some, None, All}
 use mathlib.Core.List.{IsPrefix}
 use Rattle.atomic_table.specs.Table.{Me, Step}

@@ -15,6 +15,7 @@
 mod bell;
 mod chronicle;
 mod close;
+mod enter;
 mod held;
 pub mod laws;
 mod machine;

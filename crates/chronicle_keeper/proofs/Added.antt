@@ -45,7 +45,7 @@ one_or_none value a b (Err e) number added kept = record { number_is = number; c
 pub held_added : {R : Type 0} (a b : Pass ℕ) (author value : ℕ) (entered before after : List (ℕ × ℕ)) (r : Result (Unit {0}) R) → number_of b ≡ number_of a → entries_of (number_of a) entered ≡ own_entries a → author ≡ number_of a → before ≡ entered → OnOk r (after ≡ before ++ (author, value) ∷ []) → OnErr r (after ≡ before) → seen_by_pass b ≡ after → HasAdded value 1 a b
 held_added a b author value entered before after r still had is same added kept now = one_or_none value a b r still (own_grows (number_of a) (number_of b) author value entered before after (seen_by_pass b) (own_entries a) r still had is same added now) (own_kept (number_of a) (number_of b) entered before after (seen_by_pass b) (own_entries a) r still had same kept now)
 
--- one number more
+-- an author's numbers up to a value, and then the value, are its numbers up to the next
 pub numbered_more : (author from value : ℕ) (own_entries before after : List (ℕ × ℕ)) → from ≤ value → before ≡ own_entries ++ numbered_by author from (value - from) → after ≡ before ++ (author, value) ∷ [] → after ≡ own_entries ++ numbered_by author from (value + 1 - from)
 numbered_more author from value own_entries before after low was added =
     let more : numbered_by author from (value - from + 1) ≡ numbered_by author from (value - from) ++ (author, value) ∷ [] = map-range_with_len_more (λ (v : ℕ). (author, v)) from (value - from) value (omega arith) in

@@ -32,7 +32,7 @@ first_of (x ∷ xs) some = x
 
 module _ (lock : Lock ℕ) (count : ℕ) (old new : List (Pass ℕ)) (numbers : map number_of old ≡ range_with_len 0 lock.passes) (same : length new ≡ length old)
     (added : (k : ℕ) (d : Pass ℕ) → k < length old → HasAdded 0 count (get_or old k d) (get_or new k d)) where
-  -- they are all
+  -- if the n returned passes are ready, the first n of them and others behind are all passes of the lock
   pub all_returned : (n : ℕ) (behind : List (Pass ℕ)) → length new ≡ n → All (IsReady lock) new → AreAll lock (take n (new ++ drop (length new) behind))
   all_returned n behind long ready = let now : map number_of new ≡ range_with_len 0 lock.passes = mapped_same number_of old new same (λ k d l. (added k d l).number_is) ∙ numbers in
       let all : AreAll lock new = record { ready = ready; each = λ k low. subst (λ (l : List ℕ). Contains l k) (sym now) (contains_below lock.passes k low) } in

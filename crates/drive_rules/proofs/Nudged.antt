@@ -1,5 +1,4 @@
--- A gatekeeper that has heard a clock that a stamp is at most makes stamps that are after that one, in whatever epochs
--- the two are.
+-- A gatekeeper that has heard a known clock makes its next stamp after each stamp that is at most that clock.
 -- Used by `known_clocks_may_be_heard`.
 use Rattle.std.proofs.Common.{ℕ, ◌<◌, Contains, IsTrue}
 use Rattle.vector_stamp.specs.declared.clock.Clock.{Clock}
@@ -32,13 +31,13 @@ module _ (script : Script) (account : Account) (basis : BasisWith LawsForReadine
   pub said-later : (home : ℕ) → home < script.gates → (stamp : Stamp) → Contains (stamps_of (gate_log account home)) stamp → IsTrue (is_at_most stamp.clock (clock_of home (gate_log account home)))
   said-later home inside stamp h = basis.laws.logs.under home script.shards (gate_log account home) (below-eight script account basis home inside) (basis.is.gatekeepers.logs home) stamp h
 
-  -- so the home's own clock will do
+  -- a gatekeeper that hears the clock of a stamp's home makes its next stamp after this stamp
   pub after-its-home : (gate home : ℕ) → gate < script.gates → home < script.gates → (stamp : Stamp) → Contains (stamps_of (gate_log account home)) stamp
       → IsTrue (stamp_before stamp (next_stamp gate (clock_after_hearing gate (clock_of gate (gate_log account gate)) (clock_of home (gate_log account home)))))
   after-its-home gate home inside home-inside stamp h =
       after-hearing gate inside (clock_of home (gate_log account home)) (basis.laws.accounts.known script account basis.limits basis.is home) stamp (said-later home home-inside stamp h)
 
-  -- its own stamps need no hearing
+  -- a gatekeeper's next stamp is after each that it made, without hearing any clock
   pub at-home : (home : ℕ) → home < script.gates → (stamp : Stamp) → Contains (stamps_of (gate_log account home)) stamp
       → IsTrue (stamp_before stamp (next_stamp home (clock_of home (gate_log account home))))
   at-home home inside stamp h =

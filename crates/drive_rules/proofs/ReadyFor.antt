@@ -95,7 +95,7 @@ module _ (script : Script) (account : Account) (basis : BasisWith LawsForReadine
             let below = (range-within 0 script.gates g found.0).1 in
             let clash : not true ≡ true = sym (ap not (ready g (omega (arith, below)))) ∙ found.1 in cc
 
-    -- the shard is ready
+    -- if a program's stamp is passed at each gatekeeper, the shard is ready for it
     pub ready-for : ((home : ℕ) → home < script.gates → IsPassed account shard stamp home) → first_unready script.gates stamp (shard_log account shard) ≡ None
     ready-for passed = none-unready (λ home below. passed-ready home (passed home below))
 

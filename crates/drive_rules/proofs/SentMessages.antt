@@ -14,7 +14,7 @@ use Rattle.weave_data.proofs.Ordered.{pairs_cases}
 use Rattle.vector_stamp.specs.declared.clock.Stamp.{Stamp}
 use Rattle.vector_stamp.specs.Order.{stamp_before}
 use Rattle.program_defs.specs.declared.script.Script.{Script}
-use Rattle.shard_queue.specs.Sent.{sent_as}
+use Rattle.shard_queue.specs.Outbox.{sent_as}
 use Rattle.weave_entries.specs.declared.gate_log.GateEntry.{GateEntry}
 use Rattle.weave_entries.specs.declared.message.Addressed.{Addressed}
 use Rattle.weave_entries.specs.declared.message.Message.{Message}
@@ -56,7 +56,7 @@ module _ (script : Script) (account : Account) (basis : BasisWith LawsForReadine
   deed-sent before (Visited r stamp w n settled) fits a h = absurd (has_none a h)
   deed-sent before (Collected bound) fits a h = absurd (has_none a h)
 
-  -- what arrived was sent
+  -- a message that has arrived at the shard was sent to it by its gatekeeper with this number
   pub arrived-sent : (home number : ℕ) (m : Message) → arrived_at home number (shard_log account shard) ≡ Some m → Contains (addressed_to shard (gate_log account home)) (as_sent shard number m)
   arrived-sent home number m e = at (find (λ (a : Arrival). (a.gate == home) && (a.number == number)) (arrivals_of (shard_log account shard))) refl e
     where
@@ -77,7 +77,7 @@ module _ (script : Script) (account : Account) (basis : BasisWith LawsForReadine
   -- What is on the channel of a gatekeeper
 
   module _ (home : ℕ) (a : Addressed) (h : Contains (addressed_to shard (gate_log account home)) a) where
-    -- it is one of the script's
+    -- a gatekeeper that has sent a message to the shard is one of the script's
     pub home-inside : home < script.gates
     home-inside =
         let from = flat_has (λ (e : GateEntry). to_shard shard (messages_by e.deed)) (gate_log account home) a h in
@@ -85,7 +85,7 @@ module _ (script : Script) (account : Account) (basis : BasisWith LawsForReadine
         let many = basis.is.gatekeepers.as_many in
         omega (arith, less, many)
 
-    -- there are at most eight
+    -- a gatekeeper that has sent a message to the shard is one of at most eight
     pub home-below : home < 8
     home-below = below-eight script account basis home home-inside
 
@@ -116,7 +116,7 @@ module _ (script : Script) (account : Account) (basis : BasisWith LawsForReadine
         let long = length-map (addressed_to shard (gate_log account home)) (λ (k : Addressed). k.message) in
         (omega (arith, number), omega (arith, number, within, long))
 
-    -- it is found under its number
+    -- a message that was sent to the shard is found in its channel under its number
     pub sent-under : sent_as a.number (channel_of shard (gate_log account home)) ≡ Some a.message
     sent-under =
         let number = number-is in

@@ -33,7 +33,7 @@ use Rattle.weave_entries.specs.ShardReplay.{Update, state_of_updates}
 abbrev pub target_by : Op → List Name
 target_by op = option_to_list (target_of op)
 
--- where a program starts
+-- the vertex where a program starts
 abbrev pub start_of : Program → Name
 start_of (Show v) = v
 start_of (Reach from to pass) = from

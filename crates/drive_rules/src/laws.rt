@@ -14,7 +14,7 @@ ghost use Rattle.program_defs.specs.declared.script.Work.TheVariants.{Look};
 ghost use Rattle.program_defs.specs.Limits.{IsWithinLimits};
 ghost use Rattle.program_defs.specs.Visits.{next_visit};
 ghost use Rattle.report_rules.specs.Lookups.{request_at};
-ghost use Rattle.shard_queue.specs.Sent.{sent_as};
+ghost use Rattle.shard_queue.specs.Outbox.{sent_as};
 ghost use Rattle.weave_entries.specs.declared.message.Addressed.{Addressed};
 ghost use Rattle.weave_entries.specs.declared.message.Message.{Message};
 ghost use Rattle.weave_entries.specs.GateReplay.{addressed_to, channel_of, clock_of, next_stamp, stamps_of};

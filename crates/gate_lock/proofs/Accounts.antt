@@ -37,7 +37,7 @@ module _ (home : ℕ) (own : List GateEntry) (gates : List (Log GateDeed)) (stor
   pub at_shard : (k : ℕ) → shard_log (account_of_gate home own gates store shards) k ≡ shard_entries (get_or shards k [])
   at_shard k = get_or-map shard_entries shards k []
 
--- more was seen
+-- if a gatekeeper's log and all that it has seen go on, so does the account of them
 pub grows : (home : ℕ) (own more : List GateEntry) (gates later : List (Log GateDeed)) (store last : Log StoreDeed) (shards further : List (Log ShardDeed))
     → home < length gates → home < length later → IsBeginningOf own more
     → ((k : ℕ) → k ≢ home → IsPrefix (get_or gates k []) (get_or later k [])) → IsPrefix store last
@@ -59,7 +59,7 @@ grows home own more gates later store last shards further low low_later own_on g
           (mapped_on shard_entry (get_or shards k []) (get_or further k []) (shards_on k));
     }
 
--- the same was seen
+-- if the gatekeeper has seen the same, the account of its own log and of that is the same
 pub same_account : (home : ℕ) (own : List GateEntry) (gates later : List (Log GateDeed)) (store last : Log StoreDeed)
     (shards further : List (Log ShardDeed))
     → home < length gates → length gates ≡ length later → length shards ≡ length further

@@ -69,7 +69,7 @@ module _ (laws : LawsForGateNotes) (gate : GateView) (notes : GateNotes) (kept :
   abbrev known_now : Clock → Type 0
   known_now clock = IsKnown (seen_of_gate gate notes) clock
 
-  -- the clock is known
+  -- if a gatekeeper has seen what its log refers to, its clock is known
   pub clock_known : known_now (clock_of gate.home gate.log)
   clock_known = subst (λ (l : List GateEntry). known_now (clock_of gate.home l)) (own_log gate notes kept)
       (laws.own_clock gate.shards (seen_of_gate gate notes) gate.home kept.refers small)
@@ -208,7 +208,7 @@ module _ (laws : LawsForGateNotes) (old new : GateView) (notes : GateNotes) (kep
   pub kept_then : GateRefersAs (seen_of_gate old notes) old.shards old.log author deed → GateIsKept new notes
   kept_then refers = kept_after (refers_still laws old notes kept author deed new.spare its_rules hears refers)
 
--- as before
+-- a gatekeeper that stayed as it was has still seen what its log refers to
 pub kept_still : (old new : GateView) (notes : GateNotes) → GateIsKept old notes → new ≡ old → GateIsKept new notes
 kept_still old new notes kept same = subst (λ (v : GateView). GateIsKept v notes) (sym same) kept
 

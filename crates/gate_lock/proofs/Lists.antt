@@ -1,4 +1,4 @@
--- Lists, place by place.
+-- Lists with the same element at each place are equal.
 -- Used by Accounts, Meeting and crate weaver_locks.
 use Rattle.std.proofs.Common.{◌≡◌, ℕ, zero, suc, List, [], ◌∷◌, ◌++◌, length, get_or, refl, arith}
 

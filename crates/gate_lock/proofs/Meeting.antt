@@ -106,12 +106,6 @@ can_meet {M} {E} locks notes passes except named ready k c p n low other =
           k c [] low),
     )
 
--- as many notes as locks
-pub as_many : {M E : Type 0} (locks : List (Chronicle M E)) (notes : List (Note E)) → map lock_noted notes ≡ names_of locks → length notes ≡ length locks
-as_many {M} {E} locks notes named =
-    let N : Chronicle M E → List ℕ = λ x. name_of (lock_of x) in
-    omega (arith, length-map notes lock_noted, length-map locks N, ap (λ (l : List (List ℕ)). length l) named)
-
 -- The gatekeeper's notes
 
 -- as many passes and notes as locks, before and after
@@ -175,13 +169,13 @@ module _ {G H : Type 0} (gate : GateView) (old new : GateNotes) (gate_locks : Li
       (map seen_by_note old.shards.items) (map seen_by_note new.shards.items) low_old low_new ([], sym (append-nil gate.log)) (λ k other. (at_gate k other).note_on)
       met.store_met.note_on (λ k. (at_shard k).note_on)
 
-  -- and no less than the passes had
+  -- the gatekeeper with its new notes has seen all that the passes had seen
   pub passes_on : (own : List GateEntry) → IsBeginningOf own gate.log → IsWithin (seen_by_gate_passes gate.home own gates store shards) (seen_of_gate gate new)
   passes_on own on = grows gate.home own gate.log (map seen_by_pass gates) (map seen_by_note new.gates.items) (seen_by_pass store) (seen_by_note new.store)
       (map seen_by_pass shards) (map seen_by_note new.shards.items) low_passes low_new on (λ k other. (at_gate k other).pass_on)
       met.store_met.pass_on (λ k. (at_shard k).pass_on)
 
-  -- they have seen what the passes have
+  -- the gatekeeper with its new notes has seen just what the passes have seen
   pub one_account : seen_of_gate gate new ≡ seen_by_gate_passes gate.home gate.log gates_now store_now shards_now
   one_account = same_account gate.home gate.log (map seen_by_note new.gates.items) (map seen_by_pass gates_now) (seen_by_note new.store) (seen_by_pass store_now)
       (map seen_by_note new.shards.items) (map seen_by_pass shards_now) low_new

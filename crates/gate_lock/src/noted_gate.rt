@@ -4,7 +4,7 @@ ghost use Rattle.std.specs.List.{list_any};
 ghost use Rattle.std.specs.Option.{ForSome};
 ghost use Rattle.weave_data.specs.Limits.{most_gates};
 ghost use Rattle.vector_stamp.specs.Order.{has_64_bits, stamp_before};
-ghost use Rattle.shard_queue.specs.Sent.{sent_as};
+ghost use Rattle.shard_queue.specs.Outbox.{sent_as};
 ghost use Rattle.weave_entries.specs.declared.gate_log.GateEntry.{GateEntry};
 ghost use Rattle.weave_entries.specs.GateReplay.{is_begun, addressed_to, begun_stamp, next_stamp, next_number, clock_of, flight_of, running_of, channel_of, low_mark};
 ghost use Rattle.weave_entries.specs.GateRules.{IsGateLog};

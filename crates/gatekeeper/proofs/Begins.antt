@@ -6,7 +6,7 @@ use Rattle.vector_stamp.specs.declared.clock.Clock.{Clock}
 use Rattle.vector_stamp.specs.declared.clock.Stamp.{Stamp}
 use Rattle.vector_stamp.specs.Order.{count_of, HasEightCounts, is_before, stamp_before}
 use Rattle.vector_stamp.specs.Clocks.{clock_after_tick, clock_after_hearing, counts_no_more}
-use Rattle.shard_queue.specs.Sent.{Channel, sent_as}
+use Rattle.shard_queue.specs.Outbox.{Channel, sent_as}
 use Rattle.std.proofs.lemmas.Bool.{cases_Bool}
 use Rattle.weave_entries.specs.declared.message.Message.{Message}
 use Rattle.weave_entries.specs.declared.gate_log.GateEntry.{GateEntry}
@@ -21,19 +21,19 @@ use Rattle.gatekeeper.specs.Gates.{GateView, IsGateReplay}
 
 -- the laws on logs that are premises here
 
--- of `counts_are_few`
+-- the law `counts_are_few`: a gatekeeper's own count is at most the length of its log
 abbrev pub OwnIsFew : Type 0
 OwnIsFew = (home shards : ℕ) (log : List GateEntry) → home < 8 → IsGateLog home shards log → count_of home (clock_of home log) ≤ length log
 
--- of `stamps_rise`
+-- the law `stamps_rise`: the clock of a gatekeeper's log has eight counts
 abbrev pub HasEight : Type 0
 HasEight = (home shards : ℕ) (log : List GateEntry) → home < 8 → IsGateLog home shards log → HasEightCounts (clock_of home log)
 
--- of `hearing_brings_order`
+-- `hearing_brings_order`: a clock heard, with no greater count of the hearer, is before that after the next tick
 abbrev pub HeardIsBefore : Type 0
 HeardIsBefore = (home : ℕ) (clock heard : Clock) → home < 8 → HasEightCounts clock → HasEightCounts heard → IsTrue (counts_no_more home clock heard) → IsTrue (is_before heard (clock_after_tick home (clock_after_hearing home clock heard)))
 
--- of `channels_rise`
+-- the law `channels_rise`: the channel to a shard that isn't there is empty
 abbrev pub SendsNoneBeyond : Type 0
 SendsNoneBeyond = (home shards shard : ℕ) (log : List GateEntry) → IsGateLog home shards log → shards ≤ shard → channel_of shard log ≡ []
 

@@ -5,7 +5,7 @@ use Rattle.std.proofs.lemmas.Bool.{cases_Bool, cases_eq, eqb-true, eq-eqb}
 use Rattle.std.proofs.lemmas.List.{append_assoc, append-nil, length-set}
 use Rattle.std.proofs.lemmas.Option.{slice_get_within, slice_get-get_or, get_or_from_slice_get, same_Some}
 use Rattle.weave_data.proofs.Lists.{get_set_here, get_set_other}
-use Rattle.shard_queue.specs.Sent.{Channel}
+use Rattle.shard_queue.specs.Outbox.{Channel}
 use Rattle.weave_entries.specs.declared.message.Addressed.{Addressed}
 use Rattle.weave_entries.specs.GateReplay.{to_shard}
 use Rattle.gatekeeper.specs.declared.places.Place.{Place}

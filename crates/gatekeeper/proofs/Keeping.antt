@@ -7,7 +7,7 @@ use Rattle.std.proofs.lemmas.List.{append-nil}
 use Rattle.std.proofs.lemmas.Option.{slice_get_within, get_or_from_slice_get}
 use Rattle.vector_stamp.specs.declared.clock.Clock.{Clock}
 use Rattle.vector_stamp.specs.Clocks.{start_clock}
-use Rattle.shard_queue.specs.Sent.{Channel}
+use Rattle.shard_queue.specs.Outbox.{Channel}
 use Rattle.weave_entries.specs.declared.message.Message.{Message}
 use Rattle.weave_entries.specs.declared.message.Addressed.{Addressed}
 use Rattle.weave_entries.specs.declared.gate_log.GateEntry.{GateEntry}
@@ -29,7 +29,7 @@ use Rattle.std.proofs.lemmas.List.Elements.{Contains-append_cases}
 use Rattle.vector_stamp.specs.declared.clock.Stamp.{Stamp}
 use Rattle.vector_stamp.specs.Order.{has_64_bits}
 
--- one stamp, and none
+-- if the clock of a stamp has 64 bits, so have all stamps of the list of this one alone
 pub one_bits : (stamp : Stamp) → IsTrue (has_64_bits stamp.clock) → HaveBits (stamp ∷ [])
 one_bits stamp bits one has = subst (λ (s : Stamp). IsTrue (has_64_bits s.clock)) (only stamp one has) bits
 

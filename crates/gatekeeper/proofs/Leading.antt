@@ -6,7 +6,7 @@ use Rattle.std.proofs.lemmas.Bool.{cases_Bool}
 use Rattle.std.proofs.lemmas.List.{append_assoc}
 use Rattle.std.proofs.lemmas.Option.{option_and_then_some}
 use Rattle.weave_data.proofs.Lists.{get-here, get_kept}
-use Rattle.shard_queue.specs.Sent.{Channel, sent_as}
+use Rattle.shard_queue.specs.Outbox.{Channel, sent_as}
 use Rattle.vector_stamp.specs.declared.clock.Clock.{Clock}
 use Rattle.vector_stamp.specs.declared.clock.Stamp.{Stamp}
 use Rattle.weave_entries.specs.declared.message.Message.{Message}
@@ -66,7 +66,7 @@ module _ (nops : List Message) (log : List GateEntry) where
   lead-get (place ∷ places) (message ∷ messages) zero lead = lead.0
   lead-get (place ∷ places) (message ∷ messages) (suc index) lead = lead-get places messages index lead.1
 
-  -- and by a number
+  -- a number gives the message of its place, if the places lead to the messages
   pub lead-found : (places : List Place) (messages : List Message) (number : ℕ) → LeadTo nops log places messages → option_and_then (message_at nops log) (sent_as number places) ≡ sent_as number messages
   lead-found places messages number lead =
       elim (cases_Bool (nat_eq number 0)) [

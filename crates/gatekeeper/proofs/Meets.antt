@@ -1,4 +1,4 @@
--- Meets of clocks, in any order.
+-- Clocks may be met in any order.
 -- Used by Programs.
 use Rattle.std.proofs.Common.{◌≡◌, Bool, not, List, [], ◌∷◌, filter, fold, inl, inr, refl, sym, ap, ◌∙◌}
 use Rattle.std.proofs.lemmas.Bool.{cases_Bool}
@@ -16,7 +16,7 @@ module _ {A : Type 0} (clock : A → Clock) where
   met_with low xs = fold (λ low x. meet_of low (clock x)) low xs
 
 module _ (laws : MeetsCommute) where
-  -- two meets change places
+  -- two clocks that are met one after the other may be exchanged
   pub meet-swap : (low a b : Clock) → meet_of (meet_of low a) b ≡ meet_of (meet_of low b) a
   meet-swap low a b = laws.associative low a b ∙ ap (meet_of low) (laws.commutative a b) ∙ sym (laws.associative low b a)
 

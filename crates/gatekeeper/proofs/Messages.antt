@@ -11,7 +11,7 @@ use Rattle.vector_stamp.specs.declared.clock.Clock.{Clock}
 use Rattle.vector_stamp.specs.declared.clock.Stamp.{Stamp}
 use Rattle.graph_ops.specs.declared.op.Op.{Op}
 use Rattle.graph_ops.specs.declared.part.Part.{Part}
-use Rattle.shard_queue.specs.Sent.{Channel}
+use Rattle.shard_queue.specs.Outbox.{Channel}
 use Rattle.weave_entries.specs.declared.message.Message.{Message}
 use Rattle.weave_entries.specs.declared.message.Addressed.{Addressed}
 use Rattle.weave_entries.specs.declared.verdict.Counted.{Counted}
@@ -204,7 +204,7 @@ module _ (home shards : ℕ) (clock : Clock) (flight : Option Flight) (running :
   pub flight_told : (one : Flight) → flight ≡ Some one → flight_of log ≡ Some (as_begun one)
   flight_told one flies = sym kept.flight_is ∙ ap (option_map as_begun) flies
 
-  -- its sending is right
+  -- the messages made of the transaction in flight are what its author sends, if the verdict counts the operations
   pub sends_fit : (one : Flight) → flight ≡ Some one → (author : ℕ) → one.author ≡ author → (ops : List Op) (verdict : Verdict) → IsCountsOf ops verdict → (messages : List Addressed) → messages ≡ messages_of shards log (as_begun one) ops verdict → Sends shards log author one.request messages
   sends_fit one flies author author_is ops verdict counts messages is =
       let begun : ℕ → BegunRequest = λ a. record { author = a; request = one.request; stamp = one.stamp } in

@@ -1,4 +1,5 @@
--- A table of the running programs.
+-- If a begun program's stamp is met into its place, or its place is emptied when it ends, the table holds the running
+-- programs.
 -- Used by `end`, `is_running`, `low_mark` and `start`.
 use Rattle.std.proofs.Common.{◌≡◌, ℕ, Bool, true, false, not, cond, ◌&&◌, List, [], ◌∷◌, ◌++◌, filter, fold, None, Some, is_some, inl, inr, refl, sym, ap, ◌∙◌}
 use Rattle.std.specs.Cmp.{nat_eq_equiv}

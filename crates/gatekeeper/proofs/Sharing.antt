@@ -154,7 +154,7 @@ share_more shards ops counts one shard part shares share next some is part_is sh
 
 -- The lists, one after another
 
--- a list of one
+-- a list of one element that has x at its place is the list of x alone
 pub one_of : {A : Type 0} (xs : List A) (x : A) → length xs ≡ 1 → x ≡ get_or xs 0 x → x ∷ [] ≡ xs
 one_of [] x long is = absurd (omega (arith, long))
 one_of (y ∷ []) x long is = ap (λ z. z ∷ []) is

@@ -14,7 +14,7 @@ use Rattle.graph_ops.specs.declared.op.Op.{Op}
 use Rattle.weave_entries.specs.Sending.{messages_of}
 use Rattle.weave_entries.specs.GateReplay.{BegunRequest, clock_of, stamps_of, flight_of, running_of, channel_of}
 use Rattle.weave_entries.specs.GateRules.{IsGateLog}
-use Rattle.shard_queue.specs.Sent.{Channel}
+use Rattle.shard_queue.specs.Outbox.{Channel}
 use Rattle.gatekeeper.specs.Opened.{as_begun}
 use Rattle.gatekeeper.specs.Places.{LeadTo}
 use Rattle.gatekeeper.specs.Running.{HoldsPrograms}

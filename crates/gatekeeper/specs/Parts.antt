@@ -1,4 +1,4 @@
--- The parts of a commit while they are put together.
+-- The parts of a commit while they are put together. No public contract cites this.
 use Rattle.std.specs.Prelude.{◌≡◌, ℕ, List, [], map}
 use Rattle.std.specs.List.{range_with_len, AllByRecursion, IsDistinct}
 use Rattle.std.specs.Map.{lookup}

@@ -1,4 +1,4 @@
--- The running programs, found by who began them and under which number.
+-- The running programs, found by who began them and under which number. No public contract cites this.
 use Rattle.std.specs.Prelude.{◌≡◌, ℕ, Bool, ◌&&◌, nat_eq, List, [], ◌∷◌, filter, Option, None, Some}
 use Rattle.std.specs.Map.{lookup}
 use Rattle.vector_stamp.specs.declared.clock.Clock.{Clock}

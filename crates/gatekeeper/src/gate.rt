@@ -5,7 +5,7 @@ ghost use Rattle.std.specs.Option.{ForSome, option_map};
 ghost use Rattle.weave_data.specs.Limits.{most_gates, most_shards};
 ghost use Rattle.vector_stamp.specs.Order.{count_of, has_64_bits, stamp_before};
 ghost use Rattle.vector_stamp.specs.Clocks.{counts_no_more};
-ghost use Rattle.shard_queue.specs.Sent.{sent_as};
+ghost use Rattle.shard_queue.specs.Outbox.{sent_as};
 ghost use Rattle.weave_entries.specs.GateReplay.{is_begun, stamps_of, begun_stamp, next_stamp, next_number, clock_of, flight_of, running_of, channel_of, low_mark};
 ghost use Rattle.weave_entries.specs.GateRules.{IsGateLog};
 ghost use Rattle.weave_entries.specs.Sending.{IsCountsOf};

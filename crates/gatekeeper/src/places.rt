@@ -1,7 +1,7 @@
 //! Where the messages are that a gatekeeper sent: each is kept once, and its channel has only the place.
 ghost use Rattle.std.specs.Prelude.{◌≡◌, ◌≤◌, ◌<◌, ◌+◌, ◌^◌, [], ◌∷◌, ◌++◌, length, slice_get, OnOk, OnErr, option_copied};
 ghost use Rattle.std.specs.Option.{option_and_then, option_map};
-ghost use Rattle.shard_queue.specs.Sent.{sent_as};
+ghost use Rattle.shard_queue.specs.Outbox.{sent_as};
 ghost use Rattle.weave_entries.specs.declared.message.Addressed.{Addressed};
 ghost use Rattle.gatekeeper.specs.Places.{message_sent_by, message_at};
 
@@ -26,7 +26,7 @@ pub struct Places {
 
 impl Model for Places {
     ghost use Rattle.std.specs.Prelude.{◌-◌, vec_len, vec_capacity};
-    ghost use Rattle.shard_queue.specs.Sent.{Channel};
+    ghost use Rattle.shard_queue.specs.Outbox.{Channel};
     ghost use Rattle.gatekeeper.specs.declared.places.Place.{Place};
 
     ghost Value = { Channel Place };

@@ -4,7 +4,7 @@ use Rattle.std.proofs.Common.{◌≡◌, ℕ, ◌+◌, List, [], ◌∷◌, ◌+
 use Rattle.std.specs.Prelude.{if◌then◌else◌, ⊤}
 use Rattle.weave_data.specs.Names.{same_name}
 use Rattle.weave_data.specs.declared.name.Name.{Name}
-use Rattle.graph_ops.specs.Alike.{PassAlike, EndAlike}
+use Rattle.graph_ops.specs.Alike.{EndAlike}
 use Rattle.graph_ops.specs.Operations.{State, Outcome, outcome_of_op, vertex_of}
 use Rattle.graph_ops.specs.PlainGraph.{PlainGraph, TxOutcome, with_state, in_graph, gots_of_answer, with_gots_before, outcome_then, run}
 use Rattle.graph_ops.specs.declared.op.Op.{Op}

@@ -36,7 +36,7 @@ word-is-name (Tag v name key value) = refl
 word-is-name (Untag v name key) = refl
 word-is-name (Get v) = refl
 
--- its first field is its vertex
+-- the first field of an operation is its vertex
 pub vertex-first : (op : Op) → (rest : List Name) × (op_fields op ≡ vertex_of op ∷ rest)
 vertex-first (Create v) = ([], refl)
 vertex-first (Delete v) = ([], refl)
@@ -104,7 +104,7 @@ quiet-edge (Some edge) rest h = h edge
 
 ruleset quiet = (quiet-if, quiet-vertex, quiet-edge, Changes)
 
--- what each operation answers
+-- a `Get` leaves the state and answers with it, and any other operation is refused or answers just `Done`
 pub answers-as : (op : Op) (state : State) → AnswersAs (is_get op) state (outcome_of_op op state)
 answers-as (Create v) state = search quiet
 answers-as (Delete v) state = search quiet

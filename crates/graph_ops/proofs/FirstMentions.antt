@@ -43,7 +43,7 @@ new names (w ∷ more) v =
       | false ↦ λ e. ap (λ rest. cond (not (is_among names w)) (w ∷ rest) rest) (new names more v) ∙ ap (λ b. cond (not b) (w ∷ fresh all more) (fresh all more)) (sym (list_any-append (λ other. same_name other w) names (v ∷ []) ∙ ap (λ b. is_among names w || (b || false)) e ∙ or_false (is_among names w)))
     ] refl
 
--- one more name
+-- to add v to names and then the new names of a list is to add the new names of v and the list's others
 pub mentioned : (names more : List Name) (v : Name) → with_name v names ++ fresh (with_name v names) more ≡ names ++ fresh names (v ∷ others v more)
 mentioned names more v =
     elim (is_among names v) as (λ b. is_among names v ≡ b → cond b names (names ++ v ∷ []) ++ fresh (cond b names (names ++ v ∷ [])) more ≡ names ++ cond (not b) (v ∷ fresh names (others v more)) (fresh names (others v more))) [
@@ -56,7 +56,7 @@ pub fresh_none : (names : List Name) → fresh [] names ≡ names
 fresh_none [] = refl
 fresh_none (v ∷ rest) = ap (λ names. v ∷ names) (fresh_none rest)
 
--- one more operation
+-- to add the vertex of operation i and then those after it is to add the vertices of all from i on
 pub mentions_more : (names : List Name) (ops : List Op) (i : ℕ) (op : Op) → i < length ops → op ≡ get_or ops i op → with_name (vertex_of op) names ++ fresh (with_name (vertex_of op) names) (first_mentions (map vertex_of (drop (i + 1) ops))) ≡ names ++ fresh names (first_mentions (map vertex_of (drop i ops)))
 mentions_more names ops i op inside is = mentioned names _ (vertex_of op) ∙ ap (λ rest. names ++ fresh names (first_mentions (map vertex_of rest))) {x = op ∷ drop (i + 1) ops} (sym here)
   where

@@ -1,8 +1,8 @@
 -- What a transaction names: the vertices of its operations, each once, and no others.
 -- Used by `each_vertex_is_named_once` and `other_vertices_change_nothing`.
-use Rattle.std.proofs.Common.{◌≡◌, ◌≢◌, Bool, true, false, ◌||◌, not, cond, List, [], ◌∷◌, IsTrue, Contains, AllPairs, map, refl, sym, ap, subst, ◌∙◌, arith}
+use Rattle.std.proofs.Common.{◌≡◌, ◌≢◌, Bool, true, false, ◌||◌, not, cond, List, [], ◌∷◌, IsTrue, Contains, AllPairs, map, refl, sym, ap, subst, ◌∙◌}
 use Rattle.std.specs.List.{filter}
-use Rattle.std.proofs.lemmas.Bool.{both_ways, not_from_false, or_left, or_right}
+use Rattle.std.proofs.lemmas.Bool.{both_ways, or_left, or_right}
 use Rattle.std.proofs.lemmas.List.Kept.{AllPairs-filter}
 use Rattle.weave_data.proofs.Members.{filter_has, any_from, any_has}
 use Rattle.weave_data.proofs.Ordered.{pairs_none, pairs_cons}

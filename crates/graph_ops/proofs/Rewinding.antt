@@ -2,21 +2,20 @@
 -- Used by `apply`, `note`, `rewind` and `undo`.
 use Rattle.std.proofs.Common.{◌≡◌, List, [], ◌∷◌, ◌++◌, IsSome, cond, refl, sym, ap, ◌∙◌, subst}
 use Rattle.std.specs.FinMap as map
-use Rattle.std.specs.List.{AllByRecursion}
 use Rattle.weave_data.specs.Names.{same_name}
 use Rattle.weave_data.specs.Pairs.{at_key}
 use Rattle.weave_data.specs.declared.name.Name.{Name}
 use Rattle.graph_ops.specs.Operations.{State}
-use Rattle.graph_ops.specs.PlainGraph.{PlainGraph, with_state}
+use Rattle.graph_ops.specs.PlainGraph.{PlainGraph}
 use Rattle.graph_ops.specs.Graphs.{Vertices}
-use Rattle.graph_ops.specs.Slots.{states_of, Covers, vertices_held, with_slot}
+use Rattle.graph_ops.specs.Slots.{states_of, Covers, vertices_held}
 use Rattle.graph_ops.specs.TakingBack.{taken_back, CanTakeBack, step_back, graph_rewound, CanRewind}
 use Rattle.graph_ops.specs.Journals.{HavePlaces, CanRewindIn, Keeps}
 use Rattle.graph_ops.specs.Pendings.{rewound_map}
 use Rattle.graph_ops.specs.declared.journal.Step.{Step}
 use Rattle.graph_ops.proofs.States.{get_with, get_held, one_map, other_way}
 
--- the last step first
+-- to go back through steps is to take back the last step first, and then to go back through the others
 pub rewound_last : (steps : List Step) (step : Step) (graph : PlainGraph) → graph_rewound (steps ++ step ∷ []) graph ≡ graph_rewound steps (step_back step graph)
 rewound_last [] step graph = refl
 rewound_last (first ∷ steps) step graph = ap (step_back first) (rewound_last steps step graph)
@@ -34,7 +33,7 @@ pub last_can : (steps : List Step) (step : Step) (graph : PlainGraph) → CanRew
 last_can [] step graph can = can.1
 last_can (first ∷ steps) step graph can = last_can steps step graph can.0
 
--- and after it those before it can
+-- if steps can be taken back, those before the last can be after the last was
 pub others_can : (steps : List Step) (step : Step) (graph : PlainGraph) → CanRewind (steps ++ step ∷ []) graph → CanRewind steps (step_back step graph)
 others_can [] step graph can = tt
 others_can (first ∷ steps) step graph can = (others_can steps step graph can.0, subst (λ (before : PlainGraph). CanTakeBack first.back (before first.v)) (rewound_last steps step graph) can.1)

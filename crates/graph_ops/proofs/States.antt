@@ -1,6 +1,6 @@
--- What tables of states result in.
+-- An operation on a table of states passes or is refused as on the table's graph, and leaves the new table's graph.
 -- Used by `apply`, `copy`, `copy_slots`, `do_step`, `find`, 8 more and crates gatekeeper and version_graph.
-use Rattle.std.proofs.Common.{◌≡◌, Bool, true, false, cond, List, [], ◌∷◌, ◌++◌, Option, Some, None, IsSome, is_some, Result, Ok, Err, IfOk, OnErr, refl, sym, ap, ◌∙◌, subst}
+use Rattle.std.proofs.Common.{◌≡◌, Bool, true, false, cond, List, [], ◌∷◌, Option, Some, None, IsSome, is_some, Result, Ok, Err, IfOk, OnErr, refl, sym, ap, ◌∙◌, subst}
 use Rattle.std.specs.Cmp.{eq_by_cmp_equiv}
 use Rattle.std.specs.Cmp.Lexicographic.{nat_list_cmp_total}
 use Rattle.std.specs.FinMap as map
@@ -21,7 +21,6 @@ use Rattle.graph_ops.specs.TakingBack.{taken_back, CanTakeBack, HasOutcome, step
 use Rattle.graph_ops.specs.Journals.{Keeps}
 use Rattle.graph_ops.specs.declared.op.Op.{Op}
 use Rattle.graph_ops.specs.declared.op.Op.TheVariants.{Get}
-use Rattle.graph_ops.specs.declared.op.Answered.{Answered}
 use Rattle.graph_ops.specs.declared.op.Answered.TheVariants as answered
 use Rattle.graph_ops.specs.declared.op.OpFault.{OpFault}
 use Rattle.graph_ops.specs.declared.op.OpFault.TheVariants.{Refused, Memory}
@@ -88,7 +87,7 @@ state_there v slots x e = ap state_in (sym e)
 pub found : (v : Name) (slots : List (Name × State)) (vertices : Vertices) (x : Option State) → vertices_held slots ≡ vertices → at_key v slots ≡ x → state_in x ≡ plain_of vertices v
 found v slots vertices x view e = state_there v slots x e ∙ ap (λ graph. graph v) (sym (seen slots vertices view))
 
--- to read changes nothing
+-- a `Get` leaves the graph as it was and answers with the state of its vertex
 pub reads : (v : Name) (graph : PlainGraph) (state : State) → state ≡ graph v → on_graph (Get v) graph ≡ Ok (graph, answered.Got state)
 reads v graph state is = λ i. Ok ((λ q. here_or_else v (λ k b. cond b (graph v) (graph k) ≡ graph k) refl (λ k. refl) q i), answered.Got (sym is i))
 

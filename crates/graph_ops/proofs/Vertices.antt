@@ -1,20 +1,19 @@
--- A transaction, vertex by vertex.
+-- A transaction leaves at each vertex what its operations there leave, and passes exactly if those of each vertex do.
 -- Used by `vertices_are_independent`, Naming and 6 crates above.
-use Rattle.std.proofs.Common.{◌≡◌, ℕ, ◌+◌, Bool, true, false, ◌&&◌, cond, List, [], ◌∷◌, ◌++◌, IsTrue, Ok, Err, is_ok, refl, sym, ap, subst, ◌∙◌}
-use Rattle.std.specs.Prelude.{if◌then◌else◌, ⊤}
-use Rattle.std.proofs.lemmas.Bool.{and_parts, both_ways}
+use Rattle.std.proofs.Common.{◌≡◌, ℕ, ◌+◌, Bool, true, false, ◌&&◌, cond, List, [], ◌∷◌, IsTrue, Ok, Err, is_ok, refl, sym, ap, subst, ◌∙◌}
+use Rattle.std.proofs.lemmas.Bool.{and_parts}
 use Rattle.std.specs.Cmp.{eq_by_cmp_equiv}
 use Rattle.std.specs.Cmp.Lexicographic.{nat_list_cmp_total}
 use Rattle.weave_data.specs.Names.{same_name, one_name}
 use Rattle.weave_data.specs.declared.name.Name.{Name}
 use Rattle.graph_ops.specs.Operations.{State, Outcome, outcome_of_op, vertex_of}
-use Rattle.graph_ops.specs.PlainGraph.{PlainGraph, PassedTx, TxOutcome, with_state, in_graph, gots_of_answer, with_gots_before, outcome_then, run}
+use Rattle.graph_ops.specs.PlainGraph.{PlainGraph, PassedTx, TxOutcome, with_state, in_graph, with_gots_before, outcome_then, run}
 use Rattle.graph_ops.specs.VertexOps.{ops_on, state_left, state_after_ops, none_refused}
 use Rattle.graph_ops.specs.declared.op.Op.{Op}
 use Rattle.graph_ops.specs.declared.op.Answered.{Answered}
 use Rattle.graph_ops.specs.declared.tx.Got.{Got}
 
--- a name is itself
+-- each name is the same as itself
 pub itself : (v : Name) → IsTrue (same_name v v)
 itself = (eq_by_cmp_equiv nat_list_cmp_total).refl
 

@@ -1,4 +1,4 @@
--- The steps of a transaction, noted for a table of states.
+-- The steps of a transaction, noted for a table of states. No public contract cites this.
 use Rattle.std.specs.Prelude.{◌≡◌, List, IsSome}
 use Rattle.std.specs.List.{AllByRecursion}
 use Rattle.weave_data.specs.Pairs.{at_key}

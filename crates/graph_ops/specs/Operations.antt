@@ -1,6 +1,6 @@
 -- The table of operations: what each does to the state of its vertex, a case a row, reasons in the order of the row;
 -- and how each is written. A record has at most 64 properties and 1,000 edges, an edge 8 tags.
-use Rattle.std.specs.Prelude.{◌≡◌, ℕ, Bool, true, false, not, cond, List, [], ◌∷◌, find, codes, Option, Some, None, is_some, Result, Ok, Err}
+use Rattle.std.specs.Prelude.{ℕ, Bool, true, false, not, cond, List, [], ◌∷◌, find, codes, Option, Some, None, is_some, Result, Ok, Err}
 use Rattle.std.specs.Str.{bytes_eq}
 use Rattle.weave_data.specs.Pairs.{at_key, has, put, without_key, is_full}
 use Rattle.weave_data.specs.declared.name.Name.{Name}

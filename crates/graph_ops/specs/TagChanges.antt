@@ -1,5 +1,5 @@
 -- Changes of an edge's tags, as `tag` and `untag` make them. No public contract cites this.
-use Rattle.std.specs.Prelude.{◌≡◌, List, Some, Result, Ok, Err, if◌then◌else◌}
+use Rattle.std.specs.Prelude.{◌≡◌, List, Result, Ok, Err, if◌then◌else◌}
 use Rattle.weave_data.specs.Changes.{TakesBack}
 use Rattle.weave_data.specs.Pairs.{at_key, has, put, without_key, is_full}
 use Rattle.weave_data.specs.declared.name.Name.{Name}

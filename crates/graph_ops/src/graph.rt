@@ -1,18 +1,16 @@
 //! The plain graph.
-ghost use Rattle.std.specs.Prelude.{◌≡◌, ◌<◌, ◌^◌, length, option_copied, Ok, Err, IfOk, OnOk, OnErr};
+ghost use Rattle.std.specs.Prelude.{◌≡◌, ◌<◌, ◌^◌, length, option_copied, Ok, Err, IfOk, OnErr};
 ghost use Rattle.graph_ops.specs.PlainGraph.{empty_graph, transaction};
 ghost use Rattle.graph_ops.specs.Graphs.{plain_of, IfTxRefused};
 ghost use Rattle.graph_ops.specs.Slots.{states_of};
 
 use crate::journal::{Slots, run_or_rewind};
 use crate::op::Op;
-use crate::pending::Pending;
 use crate::record::Record;
 use crate::tx::{Got, TxFault};
 use std::alloc::{AllocError, Global};
 use std::collections::HashMap;
 use std::marker::Model;
-use std::mem::replace;
 use weave_data::{Copied, Name};
 
 /// A graph, seen by contracts as a finite map from names to records.
@@ -67,26 +65,6 @@ impl Graph {
     {
         match run_or_rewind(alloc, &mut self.slots, ops) {
             Ok((gots, _)) => Ok(gots),
-            Err(fault) => Err(fault),
-        }
-    }
-
-    /// Runs a transaction that may still be taken back. If it passes, the graph moves into the `Pending`, and an empty
-    /// one is left. After either fault the graph is as before.
-    pub fn apply(&mut self, alloc: Global, ops: &[Op]) -> Result<(Vec<Got>, Pending), TxFault>
-        requires { length ops.now < 2 ^ 32 }
-        ensures done { IfOk result (λ passed. transaction ops.now (plain_of self.old)
-            ≡ Ok (record { graph = plain_of passed.1.after; gots = passed.0.items })) }
-        ensures before { IfOk result (λ passed. passed.1.before ≡ self.old) }
-        ensures left { OnOk result (plain_of self.new ≡ empty_graph) }
-        ensures refused { IfTxRefused result (λ stopped. transaction ops.now (plain_of self.old) ≡ Err stopped) }
-        ensures unchanged { OnErr result (self.new ≡ self.old) }
-    {
-        match run_or_rewind(alloc, &mut self.slots, ops) {
-            Ok((gots, journal)) => {
-                let slots = replace(&mut self.slots, HashMap::new(alloc));
-                Ok((gots, Pending::new(slots, journal)))
-            }
             Err(fault) => Err(fault),
         }
     }

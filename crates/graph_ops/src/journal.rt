@@ -9,8 +9,9 @@ ghost use Rattle.graph_ops.specs.TakingBack.{step_back, graph_rewound, CanTakeBa
 ghost use Rattle.graph_ops.specs.Journals.{CanRewindIn, Keeps};
 
 use crate::back::{Back, Change, take_back};
-use crate::op::{Answered, Op, OpFault, do_op};
+use crate::op::{Answered, Op, OpFault};
 use crate::record::Record;
+use crate::rows::do_op;
 use crate::tx::{Got, TxFault};
 use std::alloc::{AllocError, Global};
 use std::collections::HashMap;

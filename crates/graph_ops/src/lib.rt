@@ -20,9 +20,10 @@ mod tx;
 
 pub use graph::Graph;
 pub use mentions::named;
-pub use op::{Answered, Fields, Op, OpFault, Reason, apply_op};
+pub use op::{Answered, Fields, Op, OpFault, Reason};
 pub use part::Part;
 pub use pending::Pending;
 pub use record::{Edge, MOST_EDGES, MOST_PROPS, MOST_TAGS, Record};
+pub use rows::apply_op;
 pub use tx::{Got, TxFault};
 pub use weave_data::Name;

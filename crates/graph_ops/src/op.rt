@@ -1,12 +1,9 @@
 //! Operations on one vertex.
-ghost use Rattle.std.specs.Prelude.{◌≡◌, Ok, Err, IfOk, OnErr};
+ghost use Rattle.std.specs.Prelude.{◌≡◌};
 ghost use Rattle.graph_ops.specs.Fields.{names_of_fields};
-ghost use Rattle.graph_ops.specs.Operations.{outcome_of_op, is_get, op_fields, op_word, target_of, vertex_of, IfRefused};
-ghost use Rattle.graph_ops.specs.TakingBack.{HasOutcome};
+ghost use Rattle.graph_ops.specs.Operations.{is_get, op_fields, op_word, target_of, vertex_of};
 
-use crate::back::Change;
 use crate::record::Record;
-use crate::{rows, tags};
 use std::alloc::{AllocError, Global};
 use weave_data::{Copied, Name};
 
@@ -220,39 +217,5 @@ impl Fields {
             Fields::Three(names) => names,
             Fields::Four(names) => names,
         }
-    }
-}
-
-/// Does an operation to a vertex's state, by the table of operations. After either fault the state is as before.
-pub fn apply_op(alloc: Global, state: &mut Option<Record>, op: &Op) -> Result<Answered, OpFault>
-    ensures done { IfOk result (λ answered. outcome_of_op op.now state.old ≡ Ok (state.new, answered)) }
-    ensures refused { IfRefused result (λ reason. outcome_of_op op.now state.old ≡ Err reason) }
-    ensures unchanged { OnErr result (state.new ≡ state.old) }
-{
-    match do_op(alloc, state, op) {
-        Ok(change) => Ok(change.answered),
-        Err(fault) => Err(fault),
-    }
-}
-
-/// Does an operation to a vertex's state, and notes how it is taken back.
-pub(crate) fn do_op(alloc: Global, state: &mut Option<Record>, op: &Op) -> Result<Change, OpFault>
-    ensures { HasOutcome (outcome_of_op op.now state.old) state.old state.new result }
-{
-    match *op {
-        Op::Create { .. } => rows::create(alloc, state),
-        Op::Delete { .. } => rows::delete(state),
-        Op::Set { key, value, .. } => rows::set(state, key, value),
-        Op::Unset { key, .. } => rows::unset(alloc, state, key),
-        Op::Link { edge, target, .. } => rows::link(state, alloc, edge, target),
-        Op::Unlink { edge, .. } => rows::unlink(alloc, state, edge),
-        Op::Tag {
-            edge,
-            key,
-            value,
-            ..
-        } => tags::tag(alloc, state, edge, key, value),
-        Op::Untag { edge, key, .. } => tags::untag(alloc, state, edge, key),
-        Op::Get { .. } => rows::get(alloc, state),
     }
 }

@@ -1,14 +1,49 @@
-//! The rows of the table of operations, each on the state of its vertex.
-ghost use Rattle.std.specs.Prelude.{Some};
+//! The table of operations, and its rows, each on the state of its vertex.
+ghost use Rattle.std.specs.Prelude.{◌≡◌, Some, Ok, Err, IfOk, OnErr};
 ghost use Rattle.graph_ops.specs.declared.op.Op.TheVariants.{Create, Delete, Set, Unset, Link, Unlink, Get};
-ghost use Rattle.graph_ops.specs.Operations.{outcome_of_op};
+ghost use Rattle.graph_ops.specs.Operations.{outcome_of_op, IfRefused};
 ghost use Rattle.graph_ops.specs.TakingBack.{HasOutcome};
 
 use crate::back::{Back, Change};
-use crate::op::{Answered, OpFault, Reason};
+use crate::op::{Answered, Op, OpFault, Reason};
 use crate::record::{Edge, MOST_EDGES, MOST_PROPS, Record};
+use crate::tags;
 use std::alloc::Global;
 use weave_data::{Copied, Name, NameMap};
+
+/// Does an operation to a vertex's state, by the table of operations. After either fault the state is as before.
+pub fn apply_op(alloc: Global, state: &mut Option<Record>, op: &Op) -> Result<Answered, OpFault>
+    ensures done { IfOk result (λ answered. outcome_of_op op.now state.old ≡ Ok (state.new, answered)) }
+    ensures refused { IfRefused result (λ reason. outcome_of_op op.now state.old ≡ Err reason) }
+    ensures unchanged { OnErr result (state.new ≡ state.old) }
+{
+    match do_op(alloc, state, op) {
+        Ok(change) => Ok(change.answered),
+        Err(fault) => Err(fault),
+    }
+}
+
+/// Does an operation to a vertex's state, and notes how it is taken back.
+pub(crate) fn do_op(alloc: Global, state: &mut Option<Record>, op: &Op) -> Result<Change, OpFault>
+    ensures { HasOutcome (outcome_of_op op.now state.old) state.old state.new result }
+{
+    match *op {
+        Op::Create { .. } => create(alloc, state),
+        Op::Delete { .. } => delete(state),
+        Op::Set { key, value, .. } => set(state, key, value),
+        Op::Unset { key, .. } => unset(alloc, state, key),
+        Op::Link { edge, target, .. } => link(state, alloc, edge, target),
+        Op::Unlink { edge, .. } => unlink(alloc, state, edge),
+        Op::Tag {
+            edge,
+            key,
+            value,
+            ..
+        } => tags::tag(alloc, state, edge, key, value),
+        Op::Untag { edge, key, .. } => tags::untag(alloc, state, edge, key),
+        Op::Get { .. } => get(alloc, state),
+    }
+}
 
 pub(crate) fn create(alloc: Global, state: &mut Option<Record>) -> Result<Change, OpFault>
     ensures { (v : _) → HasOutcome (outcome_of_op (Create v) state.old) state.old state.new result }

@@ -105,7 +105,7 @@ start-within {start = start} {seen_by = seen_by} {closed = closed} of =
     }
 
 module _ {script : Script} {hands : ℕ} {start : Account} {seen_by : ℕ → Account} {closed : Account} (run : IsClosedRun script hands start seen_by closed) where
-  -- there is a first hand
+  -- there is at least one hand
   pub first : 0 < hands
   first = let some = run.of.some in omega (arith, some)
 

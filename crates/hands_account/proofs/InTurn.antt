@@ -283,7 +283,7 @@ module _ {script : Script} {hands : ℕ} {start : Account} {seen_by : ℕ → Ac
         ])
       ]
 
-  -- all are in turn
+  -- all judgements in the closed log of the store are in turn
   pub turn-all : AllPairs (λ (a b : Judgement). InTurn script a.request b.request) (judgements_of closed.store)
   turn-all =
       subst (AllPairs Turn) (flat_map_single judgement closed.store)

@@ -114,7 +114,7 @@ both-kinds : (work : Work) → IsTrue (is_change work) → ¬ IsTrue (is_look wo
 both-kinds (Change ops) change look = cc
 both-kinds (Look program) change look = cc
 
--- what an entry began
+-- the requests that an entry begins
 abbrev pub begins-of : GateEntry → List BegunRequest
 begins-of entry = begun_by entry.author entry.deed
 
@@ -205,7 +205,7 @@ module _ {script : Script} {hands : ℕ} {start : Account} {seen_by : ℕ → Ac
       flat-pairs Differ begins-of (gate_log closed home) (λ entry h. one-begun Differ entry.author entry.deed)
       (pairs-by-places (Across Differ begins-of) (gate_log closed home) (log-differ home))
 
-  -- no request begins twice
+  -- in the closed logs no request begins twice
   pub each-once : BeginEachOnce closed
   each-once =
       flat-pairs Differ begun_in closed.gates

@@ -60,7 +60,7 @@ module _ {A : Type 0} where
   pub longer : (xs ys : List A) → IsBeginningOf xs ys → length xs ≤ length ys
   longer xs ys on = let many = ap length on.1 ∙ length-append xs on.0 in omega (arith, many)
 
-  -- a list begins itself
+  -- each list is a beginning of itself
   pub whole : (xs : List A) → IsBeginningOf xs xs
   whole xs = ([], sym (append-nil xs))
 
@@ -116,7 +116,7 @@ module _ {A : Type 0} (R : A → A → Type 0) where
   pairs-second [] ys pairs = pairs
   pairs-second (x ∷ xs) ys pairs = pairs-second xs ys (pairs_tail R x (xs ++ ys) pairs)
 
-  -- and so does what passes a test
+  -- if all pairs of a list are related, in order, so are those of its elements that pass a test
   pub pairs-filter : (p : A → Bool) (xs : List A) → AllPairs R xs → AllPairs R (filter p xs)
   pairs-filter p [] pairs = pairs_none R
   pairs-filter p (x ∷ xs) pairs = at (p x) (pairs-filter p xs (pairs_tail R x xs pairs))

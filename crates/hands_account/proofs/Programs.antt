@@ -18,6 +18,7 @@ use Rattle.weave_entries.specs.declared.gate_log.GateEntry.{GateEntry}
 use Rattle.weave_entries.specs.declared.gate_log.GateDeed.{GateDeed}
 use Rattle.weave_entries.specs.declared.gate_log.GateDeed.TheVariants.{BeganTx, BeganProgram, Sent, Nop, Heard, Raised, Finished}
 use Rattle.weave_entries.specs.GateReplay.{BegunRequest, begun_by, begun_in, ended_by, ended_in, program_by, programs_of, tx_by}
+use Rattle.weave_entries.proofs.OwnStamps.{program-begun}
 use Rattle.weave_account.specs.declared.account.Account.{Account}
 use Rattle.weave_account.specs.Account.{gate_log, is_ended, reads_of}
 use Rattle.weave_account.specs.Programs.{ReadsInTurn}
@@ -43,13 +44,6 @@ pub reads-move : (program : Program) (xs ys : List (Name × State)) (ended next 
 reads-move program xs ys ended next same back reads =
     let moved : ReadsInTurn ys program ended = subst (λ zs. ReadsInTurn zs program ended) (sym same) reads in
     record { once = moved.once; first_ones = moved.first_ones; whole = λ h. moved.whole (back h) }
-
--- a program begun in a log is among all that was begun in it
-program-begun : (log : List GateEntry) (begun : BegunRequest) → Contains (programs_of log) begun → Contains (begun_in log) begun
-program-begun log begun h =
-    let from = flat_has (λ (e : GateEntry). program_by e.author e.deed) log begun h in
-    has_flat (λ (e : GateEntry). begun_by e.author e.deed) log from.0 begun from.1
-    (Contains-append_right (tx_by (from.0).author (from.0).deed) (program_by (from.0).author (from.0).deed) begun from.2)
 
 -- an entry that ends a request has ended it
 entry-ends : (account : Account) (home : ℕ) (before : List GateEntry) (entry : GateEntry) (after : List GateEntry)

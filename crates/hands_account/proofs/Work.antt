@@ -23,7 +23,7 @@ use Rattle.hands_account.proofs.Places.{since-place}
 abbrev pub judgement : StoreEntry → Judgement
 judgement entry = judged_by entry.author entry.deed
 
--- it has the author of its entry
+-- a judgement has the author of its entry
 pub judged-author : (author : ℕ) (deed : StoreDeed) → (judged_by author deed).author ≡ author
 judged-author author (Judged request stamp ops asked verdict) = refl
 

@@ -40,7 +40,7 @@ pub record Began (shared : Shared) (old new : Hand) (request : ℕ) (stamp : Sta
   pub heard : (other : Stamp) → MayHear shared old other → MayHear shared new other
   pub begun : MayHear shared new stamp
 
--- and then nothing
+-- if a request was begun and a quiet call follows, the request was begun by both together
 pub began-then : (shared : Shared) (old next new : Hand) (request : ℕ) (stamp : Stamp) → Began shared old next request stamp
     → Quietly shared next new → Began shared old new request stamp
 began-then shared old next new request stamp first last = record {
@@ -139,7 +139,7 @@ module _ (laws : OwnRequestLaws) (shared : Shared) (old new : Hand) (next : ℕ)
   pub left-in-flight : ((r : ℕ) → MakesNoVisit old new r) → IsWorkerOf shared new (n + 1) (Some stamp) None
   left-in-flight unvisited = begins-on unvisited None (nothing-there _) (nothing-there _)
 
-  -- a program was begun
+  -- a worker that began a program that runs, and left all requests alone, is a worker with this program
   pub started : ((r : ℕ) → LeavesAlone old new r) → (program : Running) → program.request ≡ request → IsRunning shared new program
       → IsWorkerOf shared new (n + 1) (Some stamp) (Some program)
   started alone program same running = begins-on (λ r. (alone r).unvisited) (Some program) (just _ program running)

@@ -19,7 +19,7 @@ use Rattle.weaver_locks.proofs.Options.{for-some, just, nothing-there}
 
 module _ (laws : OwnRequestLaws) (shared : Shared) (old new : Hand) (next : ℕ) (last : Option Stamp) (walk : Option Running)
     (on : Quietly shared old new) (is_new : IsHand shared new) (had : IsWorkerOf shared old next last walk) where
-  -- all but the program
+  -- after a quiet call without visits for later requests, the worker goes on with any running program of an earlier one
   pub goes-on : ((r : ℕ) → next ≤ r → MakesNoVisit old new r) → (other : Option Running) → ForSome other (IsRunning shared new)
       → ForSome other (λ (program : Running). program.request < next) → IsWorkerOf shared new next last other
   goes-on unvisited other running below = record {
@@ -52,7 +52,7 @@ without-program shared hand next last walk had = record {
   below = nothing-there _;
 }
 
--- a visit is for the same request
+-- after a visit, or a refusal of one, the program is of the same request as before
 pub visit-same : (gates shards : ℕ) (old new : Hand) (was is : Running) (result : Result (Unit {0}) HandFault)
     → VisitsAs gates shards old new was is result → is.request ≡ was.request
 visit-same gates shards old new was is (Ok done) did = did.fed.request_is

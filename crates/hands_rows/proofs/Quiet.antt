@@ -28,7 +28,7 @@ pub record Quietly (shared : Shared) (old new : Hand) : Type 0 where
   pub fresh : (r : ℕ) → HasNotBegun old r → HasNotBegun new r
   pub heard : (stamp : Stamp) → MayHear shared old stamp → MayHear shared new stamp
 
--- one call after another
+-- two quiet calls, one after the other, are quiet together
 pub quietly-then : (shared : Shared) (old next new : Hand) → Quietly shared old next → Quietly shared next new → Quietly shared old new
 quietly-then shared old next new first last = record {
   number = last.number ∙ first.number;
@@ -36,7 +36,7 @@ quietly-then shared old next new first last = record {
   heard = λ stamp may. last.heard stamp (first.heard stamp may);
 }
 
--- these entries begin nothing
+-- these entries begin no request
 abbrev pub BeginNone : List GateEntry → Type 0
 BeginNone added = (entry : GateEntry) (begun : BegunRequest) → Contains added entry → Contains (begun_by entry.author entry.deed) begun → ⊥
 
@@ -122,7 +122,7 @@ module _ (laws : OwnRequestLaws) (shared : Shared) (old new : Hand) where
   nop-quiet shards gate shard (Err Empty) none = absurd none
   nop-quiet shards gate shard (Err (Waits vertex)) none = absurd none
 
-  -- a visit begins nothing
+  -- a visit, or a refusal of one, is quiet
   pub visit-quiet : (gates shards : ℕ) (was is : Running) (result : Result (Unit {0}) HandFault) → VisitsAs gates shards old new was is result
       → Quietly shared old new
   visit-quiet gates shards was is (Ok done) did =

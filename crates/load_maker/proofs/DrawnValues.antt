@@ -9,7 +9,7 @@ pub one : {A B : Type 0} (f : ℕ → B) (m : ℕ) (made : B → Words → A) (w
     → b ≡ f (w 0 % m) → v ≡ later w → made b v ≡ draw m w (λ r w. made (f r) w)
 one f m made w d l = λ i. made (d i) (l i)
 
--- of two
+-- what is made of two values drawn in turn is what drawing them makes
 pub two : {A B C : Type 0} (f : ℕ → B) (m : ℕ) (g : ℕ → C) (n : ℕ) (made : B → C → Words → A) (w : Words) {b : B} {c : C} {v u : Words}
     → b ≡ f (w 0 % m) → v ≡ later w → c ≡ g (v 0 % n) → u ≡ later v
     → made b c u ≡ draw m w (λ r w. draw n w (λ s w. made (f r) (g s) w))
@@ -18,7 +18,7 @@ two f m g n made w d l e k =
     let left = k ∙ ap later l in
     λ i. made (d i) (second i) (left i)
 
--- of three
+-- what is made of three values drawn in turn is what drawing them makes
 pub three : {A B C D : Type 0} (f : ℕ → B) (m : ℕ) (g : ℕ → C) (n : ℕ) (h : ℕ → D) (o : ℕ) (made : B → C → D → Words → A) (w : Words) {b : B} {c : C} {d : D} {v u t : Words}
     → b ≡ f (w 0 % m) → v ≡ later w → c ≡ g (v 0 % n) → u ≡ later v → d ≡ h (u 0 % o) → t ≡ later u
     → made b c d t ≡ draw m w (λ r w. draw n w (λ s w. draw o w (λ q w. made (f r) (g s) (h q) w)))

@@ -34,7 +34,7 @@ pub get_form : (gets : ℕ) (v : Name) (words : Words) → nat_lt gets 1000 ≡ 
 unfolding operation_of_form
 get_form gets v words few = sym (cond-true (nat_lt gets 1000) _ _ few)
 
--- and a `delete` otherwise
+-- an operation of form 5 after 1,000 gets is a `delete`, and takes no more words
 pub delete_form : (gets : ℕ) (v : Name) (words : Words) → nat_lt gets 1000 ≡ false → (Delete v, words) ≡ operation_of_form gets v 5 words
 unfolding operation_of_form
 delete_form gets v words many = sym (cond-false (nat_lt gets 1000) _ _ many)

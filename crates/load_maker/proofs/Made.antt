@@ -1,4 +1,4 @@
--- The script that the parts make.
+-- The drawn parts make the script of the seed, and it is valid.
 -- Used by `make`.
 use Rattle.std.proofs.Common.{◌≡◌, ℕ, ◌*◌, ◌≤◌, List, [], Some, sym, ap, ◌∙◌, subst}
 use Rattle.rand_pcg.specs.Lcg.{Lcg}

@@ -1,4 +1,4 @@
--- What each kind of request is.
+-- By its kind, a request asks for a drawn program or for a transaction of drawn operations.
 -- Used by `draw_request` and `draw_work`.
 use Rattle.std.proofs.Common.{◌≡◌, ℕ, ◌+◌, ◌≤◌, ◌%◌, Bool, true, false, ◌&&◌, ◌==◌, List, refl, sym, ap, ◌∙◌}
 use Rattle.std.specs.Prelude.{nat_lt, codes}

@@ -1,4 +1,4 @@
--- Passes as they are opened, and one hand less.
+-- A hand that is dealt takes the last pass of each lock, one lock after another.
 -- Used by `deal_hand`, `open_beside` and crate weaver_locks.
 use Rattle.std.proofs.Common.{◌≡◌, ℕ, ◌+◌, ◌<◌, List, [], ◌∷◌, ◌++◌, length, map, get_or, set, sym, ap, ◌∙◌, subst, arith, Vec, length-append}
 use Rattle.std.specs.Global.{Global}

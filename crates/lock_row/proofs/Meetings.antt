@@ -1,4 +1,4 @@
--- Meetings, one place after another.
+-- If passes and notes meet place by place, in the end all have met but at one place.
 -- Used by `add_at`, `meet_others` and crates gate_lock and shard_lock.
 use Rattle.std.proofs.Common.{◌≡◌, ◌≢◌, ◌⊎◌, inl, inr, ℕ, ◌+◌, ◌<◌, ◌≤◌, List, length, map, get_or, set, refl, sym, ap, ◌∙◌, subst, arith, []}
 use Rattle.std.proofs.lemmas.List.{length-map, get_or-map, get_or_default, get_or-set_same, get_or-set_other}
@@ -14,6 +14,12 @@ use Rattle.chronicle.specs.Passes.{IsReady, lock_noted, seen_by_note, seen_by_pa
 use Rattle.lock_row.specs.Rows.{names_of, AreReady}
 use Rattle.lock_row.specs.Meetings.{HaveMet, CanMeet, AllMet}
 use Rattle.lock_row.proofs.Lists.{mapped_alike, one_of}
+
+-- if notes have the names of the locks, there are as many notes as locks
+pub as_many : {M E : Type 0} (locks : List (Chronicle M E)) (notes : List (Note E)) → map lock_noted notes ≡ names_of locks → length notes ≡ length locks
+as_many {M} {E} locks notes named =
+    let N : Chronicle M E → List ℕ = λ x. name_of (lock_of x) in
+    omega (arith, length-map notes lock_noted, length-map locks N, ap (λ (l : List (List ℕ)). length l) named)
 
 module _ {M E : Type 0} (locks : List (Chronicle M E)) (before : List (Pass E)) where
   -- below i they met, except at one place. All else is as it was
@@ -47,7 +53,7 @@ module _ {M E : Type 0} (locks : List (Chronicle M E)) (before : List (Pass E)) 
     note = so_far.note;
   }
 
-  -- one more
+  -- if all below i have met but for one place, and a pass and a note now meet at i, all below i + 1 have met
   pub met_one : (after : List (Pass E)) (notes later : List (Note E)) (except i : ℕ) (q : Pass E) (m : Note E) → i ≢ except → i < length after
       → i < length later → MetSoFar after notes later except i
       → ((c : Chronicle M E) (p : Pass E) (n : Note E) → HaveMet (lock_of (get_or locks i c)) (get_or after i p) q (get_or later i n) m)

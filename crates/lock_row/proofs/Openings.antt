@@ -1,4 +1,4 @@
--- One lock more, and one lock more that is opened.
+-- A row with one more lock that is unopened, opened or filled is still such a row.
 -- Used by `fill_row`, `open_row` and `reserve_row`.
 use Rattle.std.proofs.Common.{◌≡◌, ℕ, ◌+◌, ◌<◌, List, [], ◌∷◌, ◌++◌, length, get_or, set, sym, ap, ◌∙◌, subst, arith, length-set, Vec}
 use Rattle.std.specs.Global.{Global}

@@ -76,7 +76,7 @@ module _ (laws : WorkersLaws) (shared : Shared) (old new : Hand) (added : List G
         ended = for-some _ _ worker.ended ends-on had.ended;
       }
 
-  -- a transaction was begun
+  -- a worker whose hand began a transaction is still a worker, with this transaction's stamp as its last
   pub tx-begun : (worker : Worker) → worker.hand ≡ old → IsWorker shared worker → (r n : ℕ) (stamp : Stamp) → n ≡ r → worker.next ≤ r
       → added ≡ gate_entry_by old (BeganTx r stamp) ∷ [] → IsKnown (seen_by new) stamp.clock
       → IsWorker shared (record worker { hand = new; next = n + 1; last = Some stamp })
@@ -96,7 +96,7 @@ module _ (laws : WorkersLaws) (shared : Shared) (old new : Hand) (added : List G
         ended = for-some _ _ worker.ended ends-on had.ended;
       }
 
-  -- a program was begun
+  -- a worker whose hand began a program is still a worker, with a walk of this program
   pub program-begun : (worker : Worker) → worker.hand ≡ old → IsWorker shared worker → (walk : Walk) (n : ℕ) → n ≡ walk.request → worker.next ≤ walk.request
       → added ≡ gate_entry_by old (BeganProgram walk.request walk.stamp) ∷ []
       → Contains (gate_log (seen_by new) walk.home) (gate_entry_by old (BeganProgram walk.request walk.stamp))
@@ -127,7 +127,7 @@ module _ (laws : WorkersLaws) (shared : Shared) (old new : Hand) (added : List G
         ended = for-some _ _ worker.ended ends-on had.ended;
       }
 
-  -- a finish was tried
+  -- a worker that finished a request below its next, or was refused, is still a worker, without a walk
   pub finish-tried : {A F : Type 0} (worker : Worker) → worker.hand ≡ old → IsWorker shared worker → (r : ℕ) (result : Result A F) → r < worker.next
       → added ≡ gate_entries_of old (λ (answer : A). Finished r) result → IsWorker shared (record worker { hand = new; walk = None })
   finish-tried {A} {F} worker same is r result low one =
@@ -143,7 +143,7 @@ module _ (laws : WorkersLaws) (shared : Shared) (old new : Hand) (added : List G
         ended = for-some _ _ worker.ended ends-on had.ended;
       }
 
-  -- a clock was said
+  -- a worker that was told a known clock by a quiet call is still a worker, with this clock as what was said
   pub clock-said : (worker : Worker) → worker.hand ≡ old → IsWorker shared worker → Quiet added → (clock : Clock) → IsKnown (seen_by new) clock
       → IsWorker shared (record worker { hand = new; said = Some clock })
   clock-said worker same is quiet clock known =

@@ -127,13 +127,13 @@ program-below hand r stamp entry begun h there =
     let same : r ≡ begun.request = ap (λ (b : BegunRequest). b.request) one in
     omega (arith, same)
 
--- one entry that is no finish
+-- an entry that is no finish finishes no request
 pub one-unfinished : (hand : Hand) (deed : GateDeed) → finishes deed ≡ 0 → (r : ℕ) (entry : GateEntry)
     → Contains (gate_entry_by hand deed ∷ []) entry → entry.deed ≢ Finished r
 one-unfinished hand deed none r entry h same =
     not-finished deed none r (ap (λ (e : GateEntry). e.deed) (only (gate_entry_by hand deed) entry h) ∙ same)
 
--- a finish begins nothing
+-- the entries of a call to finish begin no request
 pub finish-below : {A F : Type 0} (hand : Hand) (r next : ℕ) (result : Result A F)
     → BeginBelow next (gate_entries_of hand (λ (answer : A). Finished r) result)
 finish-below hand r next (Ok answer) entry begun h there =

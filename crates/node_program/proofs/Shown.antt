@@ -7,9 +7,9 @@ use Rattle.weave_data.specs.declared.name.Name.{Name}
 use Rattle.graph_ops.specs.Operations.{State}
 use Rattle.program_defs.specs.declared.program.Program.TheVariants.{Show}
 use Rattle.program_defs.specs.Visits.{graph_read, next_visit}
-use Rattle.node_program.specs.Showing.{HasShown, next_shown}
+use Rattle.node_program.specs.Show.{HasShown, next_shown}
 
--- this is its next visit
+-- the next visit of a `show` is the one that its read or missing state gives
 pub shown_next : (v : Name) (read : Option State) (reads : List (Name × State)) → HasShown v read reads → next_shown v read ≡ next_visit reads (Show v)
 shown_next v None reads h = ap (λ rs. next_visit rs (Show v)) (sym h)
 shown_next v (Some state) reads h = let itself : same_name v v ≡ true = (eq_by_cmp_equiv nat_list_cmp_total).refl v in sym (ap (λ rs. next_visit rs (Show v)) h ∙ rw itself refl)

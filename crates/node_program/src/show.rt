@@ -1,7 +1,7 @@
 //! The program `show`.
 ghost use Rattle.std.specs.Prelude.{◌≡◌, [], IfOk};
 ghost use Rattle.program_defs.specs.declared.program.Program.TheVariants.{Show};
-ghost use Rattle.node_program.specs.Showing.{HasShown, next_shown};
+ghost use Rattle.node_program.specs.Show.{HasShown, next_shown};
 
 use crate::node::NodeProgram;
 use graph_ops::Record;

@@ -17,6 +17,7 @@ use Rattle.chronicle.specs.Locks.{lock_of, name_of}
 use Rattle.chronicle.specs.Passes.{seen_by_pass, seen_by_note, lock_noted}
 use Rattle.lock_row.specs.Rows.{names_of, AreReady}
 use Rattle.lock_row.specs.Meetings.{HaveMet, CanMeet, AllMet}
+use Rattle.lock_row.proofs.Meetings.{as_many}
 use Rattle.lock_row.proofs.Lists.{mapped_alike, mapped_on, one_of}
 use Rattle.seen_logs.specs.Entries.{gate_entry, gate_entries}
 use Rattle.oracle_lock.specs.Seen.{gates_noted, gates_seen, of_gates, AreGateLogs}
@@ -24,13 +25,6 @@ use Rattle.oracle_lock.specs.Seen.{gates_noted, gates_seen, of_gates, AreGateLog
 -- what begins a lock's log begins it as entries
 begins : (a b : Log GateDeed) → IsPrefix a b → IsBeginningOf (gate_entries a) (gate_entries b)
 begins = mapped_on gate_entry
-
--- as many notes as locks
-pub as_many : {M E : Type 0} (locks : List (Chronicle M E)) (notes : List (Note E)) → map lock_noted notes ≡ names_of locks
-    → length notes ≡ length locks
-as_many {M} {E} locks notes named =
-    let N : Chronicle M E → List ℕ = λ x. name_of (lock_of x) in
-    omega (arith, length-map notes lock_noted, length-map locks N, ap (λ (l : List (List ℕ)). length l) named)
 
 -- notes whose names are those of a row can meet passes of the row
 pub all_can : {M E : Type 0} (locks : List (Chronicle M E)) (passes : List (Pass E)) (notes : List (Note E))
@@ -56,7 +50,7 @@ module _ {M : Type 0} (locks : List (Chronicle M GateDeed)) (before after : List
   apart : (k : ℕ) → k < length locks → k ≢ length locks
   apart k low e = absurd (omega (arith, low, e))
 
-  -- the passes are ready
+  -- if passes and notes met at all locks, the passes are ready
   pub met_ready : AreReady locks after
   met_ready k c p low = (met k c p (one_of notes k (omega (arith, low, notes_long))) low (apart k low)).ready
 
@@ -95,7 +89,7 @@ module _ {M : Type 0} (locks : List (Chronicle M GateDeed)) (before after : List
   abbrev Begin : List GateEntry × List GateEntry → Type 0
   Begin z = IsBeginningOf z.0 z.1
 
-  -- the notes have seen more
+  -- the notes that met go on from what they had seen
   pub notes_on : GatesGoOn (of_gates (gates_noted notes)) (of_gates (gates_noted later))
   notes_on home = elim (cases_lt home (length locks)) [
     | inl low ↦ subst Begin (λ i. (sym (noted_is home low) i, (sym (ap gate_entries (here home low).one) ∙ sym (later_is home low)) i))
@@ -103,7 +97,7 @@ module _ {M : Type 0} (locks : List (Chronicle M GateDeed)) (before after : List
     | inr over ↦ subst Begin (λ i. (sym (none_past as_noted notes home notes_long over) i, sym (none_past as_noted later home later_long over) i)) ([], refl)
   ]
 
-  -- and so have the passes
+  -- the passes that met go on from what they had seen
   pub passes_on : GatesGoOn (of_gates (gates_seen before)) (of_gates (gates_seen after))
   passes_on home = elim (cases_lt home (length locks)) [
     | inl low ↦ subst Begin (λ i. (sym (seen_is home low) i, sym (after_is home low) i)) (begins _ _ (here home low).pass_before)
@@ -121,7 +115,7 @@ module _ {M : Type 0} (locks : List (Chronicle M GateDeed)) (before after : List
     | inr over ↦ inl (none_past as_seen after home after_long over ∙ sym (none_past as_seen before home before_long over))
   ]
 
-  -- so legal logs stay legal
+  -- if notes and passes have seen legal logs, the passes that met have too
   pub met_legal : (shards : ℕ) → AreGateLogs shards (gates_noted notes) → AreGateLogs shards (gates_seen before)
       → AreGateLogs shards (gates_seen after)
   met_legal shards theirs mine = record {

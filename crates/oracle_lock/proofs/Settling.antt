@@ -163,7 +163,7 @@ pub record GatesMet (shards : ℕ) (notes later : List (Note GateDeed))
 
 module _ (its : ℕ) (notes later : List (Note GateDeed)) (before after : List (List GateEntry))
     (met : GatesMet its notes later before after) where
-  -- as many logs are noted as before
+  -- as many gatekeepers' logs are noted after the passes met the notes as before
   pub as-many-noted : length (gates_noted later) ≡ length (gates_noted notes)
   as-many-noted =
       let as_noted : Note GateDeed → List GateEntry = λ note. gate_entries (seen_by_note note) in
@@ -172,7 +172,7 @@ module _ (its : ℕ) (notes later : List (Note GateDeed)) (before after : List (
       (ap (λ (l : List (List ℕ)). length l) met.names ∙ length-map notes lock_noted) in
       length-map later as_noted ∙ (many ∙ sym (length-map notes as_noted))
 
-  -- and they are legal if they were
+  -- the gatekeepers' logs that are noted after the meeting are legal if they were before
   pub legal-noted : (shards : ℕ) → shards ≡ its → AreGateLogs shards (gates_noted notes)
       → AreGateLogs shards (gates_noted later)
   legal-noted shards same theirs =

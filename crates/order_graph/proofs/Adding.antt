@@ -165,7 +165,7 @@ module _ (laws : StampOrderLaws) (apart : AreApart) (at_the_end : AtTheEnd) (pai
   no_way_back (inl same) = may.of_two (ap id_of (sym same))
   no_way_back (inr h) = may.permitted h
 
-  -- its place in its chain is sure
+  -- each event of b's chain is at or before b, or after it
   pub is_in_turn : (chains : List EventChainView) → AreChains pairs (ends_of pairs) chains → (other : Event) → Contains (events_of chains b.home) other → IsTrue (at_or_before other.stamp b || stamp_before b other.stamp)
   is_in_turn chains are other has =
       elim (cases_Bool (at_or_before other.stamp b)) [
@@ -353,7 +353,7 @@ module _ (laws : StampOrderLaws) (apart : AreApart) (at_the_end : AtTheEnd) (pai
           still_found : (later : Stamp) → ((gate : ℕ) × (event : Event) × Contains (events_of chains gate) event × (event.stamp ≡ later)) → HasLater later
           still_found later (gate, event, has, is) = (gate, up event, has_raised gate event has, stamp_stays gate event has ∙ is)
 
--- chains with the same events
+-- chains of pairs with the same events at each gatekeeper are chains of these pairs too
 pub same_chains : (pairs : List GivenPair) (known : List Stamp) (chains next : List EventChainView) → length next ≡ length chains → ((gate : ℕ) → events_of next gate ≡ events_of chains gate) → AreChains pairs known chains → AreChains pairs known next
 same_chains pairs known chains next long same are =
     record {
@@ -370,7 +370,7 @@ same_chains pairs known chains next long same are =
     old : (gate : ℕ) (event : Event) → Contains (events_of next gate) event → Contains (events_of chains gate) event
     old gate event has = subst (λ (es : List Event). Contains es event) (same gate) has
 
--- chains without events
+-- eight chains without events are chains of no pairs, whatever the stamps
 pub no_events : (pairs : List GivenPair) → pairs ≡ [] → (stamps : List Stamp) (chains : List EventChainView) → length chains ≡ 8 → ((gate : ℕ) → events_of chains gate ≡ []) → AreChains pairs stamps chains
 no_events pairs none stamps chains eight empty =
     record {

@@ -1,4 +1,4 @@
--- Frontiers joined, gatekeeper by gatekeeper.
+-- A frontier joined gatekeeper by gatekeeper has the later one of the two events of each.
 -- Used by `join`, `precedes`, Adding and Frontiers.
 use Rattle.std.proofs.Common.{◌≡◌, ℕ, zero, suc, ◌+◌, ◌<◌, ◌≤◌, false, List, [], ◌∷◌, length, slice_set, Option, Some, None, ◌⊎◌, inl, inr, refl, sym, ap, subst, ◌∙◌, arith, Contains, IsTrue}
 use Rattle.std.specs.List.{zip}
@@ -60,7 +60,7 @@ joined_all old other new gate e f all so_far =
     let below : k < 8 = omega (arith, so_far.eight) in
     get_or_default new k d None within ∙ so_far.each k (omega arith) ∙ sym (joined_within old other k e f below) ∙ get_or_default (joined_frontiers old other) k None d (omega (arith, length-joined old other e f)))
 
--- what a frontier covers
+-- a stamp that is at or before the latest stamp of a frontier at one gatekeeper is up to the frontier
 pub covers_at : (frontier : List (Option Stamp)) (stamp : Stamp) (gate : ℕ) (latest : Stamp) → latest_of frontier gate ≡ Some latest → IsTrue (at_or_before stamp latest) → IsTrue (is_up_to_frontier frontier stamp)
 covers_at [] stamp gate latest is h = absurd (none-some latest is)
 covers_at (one ∷ others) stamp zero latest is h = or_left (is_up_to_event stamp one) _ (subst (λ o. IsTrue (is_up_to_event stamp o)) (sym is) h)

@@ -1,4 +1,4 @@
--- The order of stamps, with equal ones.
+-- A stamp is at or before another if it equals it or is before it, and steps of these kinds may be chained.
 -- Used by Adding, Chains, Frontiers and Joining.
 use Rattle.std.proofs.Common.{◌≡◌, Bool, true, false, not, ◌&&◌, ◌||◌, ◌==◌, List, Contains, IsTrue, ◌⊎◌, inl, inr, sym, subst}
 use Rattle.std.proofs.lemmas.Bool.{or_cases, or_left, or_right, both_ways, eq-eqb}

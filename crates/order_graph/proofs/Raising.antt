@@ -26,14 +26,14 @@ module _ (earlier later : Stamp) (latest : List (Option Stamp)) where
   pub raised_led : (event : Event) → leads_to later event ≡ true → leads_to earlier event ≡ false → raised_event earlier later latest event ≡ joined_event latest event
   raised_led event led not_yet = cond-true (leads_to later event && not (leads_to earlier event)) (joined_event latest event) event (and_from (leads_to later event) _ led (not_from_false _ not_yet))
 
-  -- the first events stay
+  -- if the later stamp leads to none of the first n events, raising these changes nothing
   pub raised_first : (events : List Event) (n : ℕ) → n ≤ length events → ((k : ℕ) (d : Event) → 0 ≤ k → k < n → leads_to later (slice_index_or events k d) ≡ false) → events ≡ map (raised_event earlier later latest) (take n events) ++ drop n events
   raised_first events n within fails =
       sym (take-append-drop n events) ∙ ap (λ es. es ++ drop n events) (sym (map_same (raised_event earlier later latest) (take n events) (λ k d below.
       let first : k < n = omega (arith, length-take n events) in
       rw (get_or-take n events k d first) (raised_not_led (slice_index_or events k d) (fails k d (omega arith) first)))))
 
-  -- and the last ones
+  -- if the earlier stamp leads to all events from the n-th on, raising the first n raises them all
   pub raised_last : (events : List Event) (n : ℕ) → n ≤ length events → ((k : ℕ) (d : Event) → n ≤ k → k < length events → leads_to earlier (slice_index_or events k d) ≡ true) → map (raised_event earlier later latest) (take n events) ++ drop n events ≡ map (raised_event earlier later latest) events
   raised_last events n within led =
       ap (λ es. map (raised_event earlier later latest) (take n events) ++ es) (sym (map_same (raised_event earlier later latest) (drop n events) (λ k d below.
@@ -51,7 +51,7 @@ module _ (earlier later : Stamp) (latest : List (Option Stamp)) where
       same : n + (n - n) ≡ n
       same = omega arith
 
-  -- the same of chains
+  -- when the first n chains are raised, the n-th chain is still as it was
   pub chain_so_far : (chains now : List EventChainView) (n : ℕ) → n < length chains → now ≡ map (raised_chain earlier later latest) (take n chains) ++ drop n chains → (chain : EventChainView) → slice_index_or now n chain ≡ slice_index_or chains n no_chain
   chain_so_far chains now n below is chain =
       ap (λ (cs : List EventChainView). slice_index_or cs n chain) is
@@ -63,7 +63,7 @@ module _ (earlier later : Stamp) (latest : List (Option Stamp)) where
       same : n + (n - n) ≡ n
       same = omega arith
 
-  -- the memory stays
+  -- raising chains leaves the room in memory of each as it was
   pub room_raised : (chains next : List EventChainView) → next ≡ map (raised_chain earlier later latest) chains → (gate : ℕ) → room_of next gate ≡ room_of chains gate
   room_raised chains next is gate =
       ap (λ (cs : List EventChainView). room_of cs gate) is

@@ -1,4 +1,4 @@
--- The relation before it is closed: the order of stamps, and the pairs.
+-- One more place in a loop: whether the first elements have one that passes there, and what a step adds to an `or`.
 -- Used by `put_later` and `put_stamps`.
 use Rattle.std.proofs.Common.{◌≡◌, ℕ, zero, suc, ◌+◌, ◌<◌, Bool, true, false, ◌||◌, ◌&&◌, List, [], ◌∷◌, get_or, take, length, eqb, inl, inr, refl, sym, ap, ◌∙◌, arith}
 use Rattle.std.specs.Prelude.{slice_get}
@@ -31,7 +31,7 @@ module _ {A : Type 0} (p : A → Bool) where
   next_passes (x ∷ xs) (suc i) (suc n) d lt =
       next_passes xs i n d (omega (arith, lt)) ∙ ap (λ b. passes_at (take i xs) n || (b && p (get_or xs i d))) (next_eqb n i)
 
-  -- one element more
+  -- with one element more, a place passes as before, or is the new one and it passes
   pub passes_more : (xs : List A) (i n : ℕ) (d : A) → i < length xs → passes_at (take (i + 1) xs) n ≡ (passes_at (take i xs) n || (eqb n i && p (get_or xs i d)))
   passes_more xs i n d lt = let same : i + 1 ≡ suc i = omega arith in ap (λ k. passes_at (take k xs) n) same ∙ next_passes xs i n d lt
 

@@ -144,7 +144,7 @@ module _ (report : Report) where
   given_joined (pair ∷ pairs) x y h =
       read_given pair pairs x y (stamp_at report pair.earlier) (stamp_at report pair.later) refl refl (given_joined pairs x y) h
 
-  -- precedence is transitive
+  -- if the pairs are closed, precedence of requests is transitive
   pub trans : AreClosed → IsTransitive (request_precedes report)
   trans all_closed a b c g h =
       let ab = both_there (precedes (given_pairs report)) (stamp_at report a) (stamp_at report b) g in
@@ -211,7 +211,7 @@ module _ (report : Report) where
           let there = both_there (precedes (given_pairs report)) (stamp_at report a) (stamp_at report b) h in
           all_lead (given_pairs report) (given_joined report.pairs) a b there.x there.y there.first_is there.second_is there.passes
 
-      -- the closure is precedence
+      -- if stamps differ, the closure of stamps and pairs leads from a to b exactly if request a precedes b
       pub is_precedence : (a b : ℕ) → closed a b ≡ request_precedes report a b
       is_precedence a b = both (closed a b) (request_precedes report a b) (sound a b) (complete a b)
         where

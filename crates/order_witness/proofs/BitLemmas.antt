@@ -1,4 +1,4 @@
--- Bits of sets.
+-- Which numbers a set of bits has, after one is set or two sets are joined.
 -- Used by `bit`, `empty`, `join_words`, `set_bit` and Rows.
 use Rattle.std.proofs.Common.{◌≡◌, ℕ, ◌*◌, ◌/◌, ◌%◌, ◌^◌, ◌<◌, Bool, true, false, ◌||◌, List, get_or, set, length, replicate, eqb, inl, inr, refl, sym, ap, ◌∙◌, arith, eq-eqb, w64}
 use Rattle.std.specs.Prelude.{bit_and, bit_or, max}

@@ -1,4 +1,4 @@
--- One step of the closure: what leads to the middle leads to all that the middle leads to.
+-- A step of the closure keeps what led anywhere, and what leads to the middle leads to all that the middle leads to.
 -- Used by `close_rows`.
 use Rattle.std.proofs.Common.{◌≡◌, ℕ, ◌+◌, ◌<◌, ◌||◌, ◌&&◌, IsTrue, ◌⊎◌, inl, inr, sym, ◌∙◌, subst, arith}
 use Rattle.std.proofs.lemmas.Bool.{and_parts, and_from, or_cases, or_left, or_right, cases_eq}
@@ -8,7 +8,7 @@ use Rattle.order_witness.specs.Closure.{Test, IsTransitive, HasAllOf}
 abbrev pub LeadThrough : ℕ → Test → Type 0
 LeadThrough bound leads = (a m b : ℕ) → m < bound → IsTrue (leads a m) → IsTrue (leads m b) → IsTrue (leads a b)
 
--- what the step does
+-- the new test passes where the old one does, or where it passes from a to k and from k to b
 abbrev pub IsStep : Test → Test → ℕ → Type 0
 IsStep old new k = (a b : ℕ) → new a b ≡ (old a b || (old a k && old k b))
 

@@ -1,4 +1,4 @@
--- Counting commits.
+-- One element more adds one to the count of those that give something exactly if it gives something.
 -- Used by `commits_in`.
 use Rattle.std.proofs.Common.{◌≡◌, ℕ, ◌+◌, ◌<◌, ◌++◌, ◌∷◌, [], cond, List, Option, Some, None, length, take, get_or, refl, sym, ap, ◌∙◌}
 use Rattle.std.specs.Prelude.{is_some}
@@ -11,7 +11,7 @@ module _ {A : Type 0} (f : A → Option ℕ) where
   of_one None = refl
   of_one (Some n) = refl
 
-  -- one element more
+  -- one element more adds one to the count exactly if f gives something for it
   pub counted_more : (xs : List A) (i : ℕ) (x : A) → i < length xs → x ≡ get_or xs i x → length (filter_map f (take (i + 1) xs)) ≡ length (filter_map f (take i xs)) + cond (is_some (f x)) 1 0
   counted_more xs i x lt is =
       ap (λ (ys : List A). length (filter_map f ys)) (take_more xs i x lt ∙ ap (λ (y : A). take i xs ++ y ∷ []) (sym is))

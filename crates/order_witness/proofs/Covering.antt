@@ -1,4 +1,5 @@
--- Each listed request against the latest listed ones of the gatekeepers.
+-- A request that comes after its gatekeeper's latest listed one and precedes none of the latest is listed in order,
+-- if those before it are covered.
 -- Used by `is_kept_by`.
 use Rattle.std.proofs.Common.{◌≡◌, ℕ, ◌+◌, ◌<◌, not, ◌||◌, IsTrue, List, [], ◌∷◌, ◌++◌, length, take, get_or, Option, Some, None, ltb, inl, inr, refl, sym, ap, ◌∙◌, subst}
 use Rattle.std.specs.List.{AllByRecursion}
@@ -68,7 +69,7 @@ module _ (strict : IsStrict) (report : Report) (r : ℕ) (latest next : List (Op
     at_or_before = inl refl;
   }
 
-  -- the requests listed so far and this one are covered
+  -- if the requests listed so far are covered by the latest, they and this one are by the next latest ones
   pub covered_more : (order : List ℕ) (i : ℕ) → i < length order → AllByRecursion (IsCovered report latest) (take i order) → get_or order i 0 ≡ r → AllByRecursion (IsCovered report next) (take (i + 1) order)
   covered_more order i lt covered is =
       subst (λ (xs : List ℕ). AllByRecursion (IsCovered report next) xs) (sym (take_more order i 0 lt ∙ ap (λ x. take i order ++ x ∷ []) is))

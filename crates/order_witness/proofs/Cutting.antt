@@ -54,7 +54,7 @@ module _ (runs : List Run) (run : Run) where
 
 module _ (strict : IsStrict) (report : Report) (line : List ℕ) where
   module _ (place start : ℕ) (runs : List Run) (cut : AreCut report line place start runs) where
-    -- the run goes on
+    -- if the request at the place comes after the one before it, the run goes on to include it
     pub cut_on : IsTrue (is_request_before report (item line (place - 1)) (item line place)) → AreCut report line (place + 1) start runs
     cut_on rises = record {
       rising = cut.rising;

@@ -20,7 +20,7 @@ use Rattle.order_witness.proofs.Numbered.{the_item}
 use Rattle.order_witness.proofs.Replying.{length_front}
 use Rattle.order_witness.proofs.InTurn.{all_in_turn, all_front}
 
--- one more reply at its place
+-- if the replies before place i are at their places and the one there is, all up to it are
 pub place_more : (script : Script) (replies : List Reply) (i : ℕ) (item : Reply) → item ≡ get_or replies i item → AreAtPlaces script replies i → IsTrue (is_at_place script i item) → (k : ℕ) (reply : Reply) → (k < i) ⊎ (k ≡ i) → slice_get replies k ≡ Some reply → IsTrue (is_at_place script k reply)
 place_more script replies i item is so_far here k reply (inl before) at = so_far k reply before at
 place_more script replies i item is so_far here k reply (inr same) at =

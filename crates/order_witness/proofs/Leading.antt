@@ -107,7 +107,7 @@ module _ (script : Script) (report : Report) (holds : AllHold (replies_clause sc
     pub there_left : (r : ℕ) → IsTrue (is_in r (requests_left report done)) → is_done done r ≡ false
     there_left r h = not-true _ (in_filter (λ x. not (is_done done x)) (requests_begun report.replies) r h).1
 
-    -- and is begun
+    -- a request among those left is begun
     pub left_begun : (r : ℕ) → IsTrue (is_in r (requests_left report done)) → IsBegun report r
     left_begun r h = all_at (IsBegun report) (requests_begun report.replies) r (all_begun script report holds) (in_filter (λ x. not (is_done done x)) (requests_begun report.replies) r h).0
 

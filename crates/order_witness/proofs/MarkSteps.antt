@@ -33,7 +33,7 @@ module _ (script : Script) (graph : PlainGraph) (after r : ℕ) (old new : Bool)
   marked_here (Refused op reason at) h e = subst (λ b. MatchBool b (Marks new (IsRefusedOn (Some graph) (request_at script r) op reason)) (new ≡ old)) (eq-eqb at after (one_number at after e)) h
   marked_here (Finished answer) h e = absurd (nothing after e)
 
-  -- another one's mark stays
+  -- the mark of a reply that isn't refused after this number of commits stays
   pub kept_mark : (state : ReplyState) → IsMarkedOn script graph after r state old new → (refused_after state ≡ Some after → ⊥) → new ≡ old
   kept_mark Unbegun h e = h
   kept_mark Begun h e = h
@@ -101,7 +101,7 @@ module _ (script : Script) (report : Report) where
   none_from : (done at : ℕ) → done ≤ at → graph_of_commits script report done ≡ None → graph_of_commits script report at ≡ None
   none_from done at le none = subst (λ n. graph_of_commits script report n ≡ None) (let e : (at - done) + done ≡ at = omega arith in e) (none_after done (at - done) none)
 
-  -- so the marks are all right
+  -- if marks are right up to `done` commits and there is no graph past them, the marks are right up to any number
   pub at_end : (done most : ℕ) (marks : List Bool) → AreSoFar done marks → graph_of_commits script report (done + 1) ≡ None → AreMarkedUpTo most script report marks
   at_end done most marks so_far none place at reply here is below =
       elim (cases_lt done at) [
@@ -111,7 +111,7 @@ module _ (script : Script) (report : Report) where
             (λ h. none_refused script reply.request reply.state at is (subst (λ g. IsRefusedSo script g reply.request reply.state) (none_from (done + 1) at (omega (arith, beyond)) none) h))
       ]
 
-  -- after one commit more
+  -- if the marks are right up to `done` commits and those on the next graph are set, they are right up to one more
   pub one_more : (done : ℕ) (graph : PlainGraph) (old new : List Bool) → AreSoFar done old → graph_of_commits script report (done + 1) ≡ Some graph → AreMarkedOn script graph (done + 1) report.replies old new → AreSoFar (done + 1) new
   one_more done graph old new so_far there marked = record {
     marked = λ place at reply here is le.
@@ -131,7 +131,7 @@ module _ (script : Script) (report : Report) where
         ∙ so_far.ahead place at reply here is (omega (arith, lt));
   }
 
-  -- and before the first
+  -- if nothing was marked and the marks on the graph of no commits are set, they are right up to no commits
   pub at_start : (graph : PlainGraph) (old new : List Bool) → ((place : ℕ) → get_or old place false ≡ false) → graph_of_commits script report 0 ≡ Some graph → AreMarkedOn script graph 0 report.replies old new → AreSoFar 0 new
   at_start graph old new none there marked = record {
     marked = λ place at reply here is le.

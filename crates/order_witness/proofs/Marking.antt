@@ -1,4 +1,4 @@
--- The marks of the replies at some places.
+-- If marks are set one place after another, all those gone through are set, and each one is as at the start or set.
 -- Used by `mark`.
 use Rattle.std.proofs.Common.{◌≡◌, ◌≢◌, ℕ, ◌+◌, ◌<◌, ◌≤◌, Bool, false, List, [], ◌∷◌, ◌++◌, length, take, get_or, Contains, Some, ◌⊎◌, inl, inr, sym, ap, ◌∙◌, subst}
 use Rattle.std.specs.Prelude.{slice_get}

@@ -1,4 +1,4 @@
--- The vertices that operations name, as a set.
+-- A vertex is named by operations exactly if one of them is on it.
 -- Used by `work_names`.
 use Rattle.std.proofs.Common.{◌≡◌, Bool, true, false, not, cond, ◌||◌, List, [], ◌∷◌, map, refl, ap, ◌∙◌}
 use Rattle.std.specs.List.{list_any}

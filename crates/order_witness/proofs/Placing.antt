@@ -1,4 +1,4 @@
--- One request more gets its place in the order.
+-- If the request that comes next is the next of the order, one more of the order's first requests have their places.
 -- Used by `is_in_turn`, `is_kept_by`, `next`, `runs_of`, Covering, Cutting, InTurn, Leading and RisingSteps.
 use Rattle.std.proofs.Common.{◌≡◌, ℕ, zero, suc, ◌+◌, ◌<◌, Bool, false, not, ◌&&◌, ◌==◌, IsTrue, List, [], ◌∷◌, slice_index_or, replicate, Option, Some, None, inl, inr, refl, sym, ap, ◌∙◌, subst, arith}
 use Rattle.std.specs.List.{list_any}

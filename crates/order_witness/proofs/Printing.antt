@@ -46,7 +46,7 @@ any_more : (p q : ℕ → Bool) → ((x : ℕ) → IsTrue (p x) → IsTrue (q x)
 any_more p q f [] h = cc
 any_more p q f (x ∷ xs) h = elim (or_cases (p x) _ h) [ inl here ↦ or_left _ _ (f x here) | inr later ↦ or_right (q x) _ (any_more p q f xs later) ]
 
--- what passes stays
+-- a request of a list that passes a test is among those of the list that pass it
 pub kept_in : (test : ℕ → Bool) (xs : List ℕ) (r : ℕ) → IsTrue (is_in r xs) → IsTrue (test r) → IsTrue (is_in r (filter test xs))
 kept_in test [] r h g = h
 kept_in test (x ∷ xs) r h g =
@@ -184,7 +184,7 @@ module _ (script : Script) (report : Report) (holds : AllHold (replies_clause sc
             }
           ]
 
-      -- so if none is free, none remains
+      -- if no request of a list is free, the list is empty
       pub none_left : (xs : List ℕ) → AllByRecursion (λ r. is_free precedence xs r ≡ false) xs → xs ≡ []
       none_left [] h = refl
       none_left (x ∷ xs) h =

@@ -20,7 +20,7 @@ mark_is true Fact h fact = refl
 mark_is false Fact h fact = absurd (h fact)
 
 module _ (script : Script) (report : Report) (r : ℕ) (mark : Bool) where
-  -- the mark is right
+  -- the mark of a reply refused after commits that are there says whether it is right to refuse it on their graph
   abbrev pub IsRight : ReplyState → Type 0
   IsRight state = (at : ℕ) → refused_after state ≡ Some at → at ≤ commits report → Marks mark (IsRefusedSo script (graph_of_commits script report at) r state)
 

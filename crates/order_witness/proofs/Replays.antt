@@ -14,7 +14,7 @@ use Rattle.report_rules.specs.declared.report.ReplyState.TheVariants.{Committed}
 use Rattle.weave_data.specs.Facts.{AllHold, BreaksFirstAt}
 use Rattle.report_rules.specs.Replay.{OutcomeMatchesReply, replay_from, graph_after, graph_before}
 use Rattle.report_rules.specs.Lookups.{is_in, request_at}
-use Rattle.order_witness.specs.Replayed.{MatchesItsReply, GivesAnswers, TellsOf}
+use Rattle.order_witness.specs.Replay.{MatchesItsReply, GivesAnswers, TellsOf}
 
 -- what committed replies say are their answers
 pub told_answers : (outcome : TxOutcome) (number : ℕ) (answers : List Got) → OutcomeMatchesReply outcome (Committed number answers) ≡ GivesAnswers outcome answers

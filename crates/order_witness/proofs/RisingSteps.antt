@@ -46,7 +46,7 @@ module _ (test : ℕ → ℕ → Bool) (transitive : (a b c : ℕ) → IsTrue (t
   two_of a b has_a has_b other =
       elim (pairs_cases (λ x y. IsTrue (test x y)) xs all_pairs a b has_a has_b) [ inl same ↦ absurd (other same) | inr either ↦ either ]
 
--- one more neighbour
+-- if the test passes at all neighbours so far and at the next two, it passes at all up to there
 pub in_turn_more : (test : ℕ → ℕ → Bool) (xs : List ℕ) (next : ℕ) → AreInTurnTo test xs next → ((k : ℕ) → k + 1 ≡ next → IsTrue (test (slice_index xs k) (slice_index xs (k + 1)))) → AreInTurnTo test xs (next + 1)
 in_turn_more test xs next so_far here k below =
     elim (cases_lt (k + 1) next) [

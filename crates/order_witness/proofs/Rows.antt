@@ -1,4 +1,4 @@
--- Rows of a relation.
+-- Where the rows of a relation lead, and how many words each has, with one row more.
 -- Used by `close_rows`, `empty_rows`, `join_rows` and `leads`.
 use Rattle.std.proofs.Common.{◌≡◌, ℕ, ◌<◌, ◌≤◌, false, IsTrue, List, [], ◌∷◌, ◌++◌, length, refl, sym, ap, ◌∙◌, subst, ◌⊎◌, inl, inr, arith}
 use Rattle.std.proofs.lemmas.Bool.{cases_lt, cases_eq, both_ways}
@@ -43,6 +43,6 @@ module _ (rows : List (List ℕ)) (row : List ℕ) where
         | inr more ↦ elim more [ inl last ↦ ap (λ (r : List ℕ). has_bit r b) (last_row a last) ∙ empty b | inr beyond ↦ past_rows (rows ++ row ∷ []) a b beyond ]
       ]
 
--- rows without end that lead nowhere
+-- without any row nothing leads anywhere
 pub no_rows : (a b : ℕ) → rows_lead [] a b ≡ false
 no_rows a b = past_rows [] a b (omega arith)

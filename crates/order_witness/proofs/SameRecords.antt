@@ -110,7 +110,7 @@ records_tell = record {
   itself = λ a. and_from _ _ (maps_tell.itself a.props) ((lists_tell _ (named_tell same_edge edges_tell)).itself a.edges);
 }
 
--- the same of the answers of `get`s
+-- the test of sameness of answers of `get`s passes exactly if they are equal
 pub gots_tell : Tells same_got
 gots_tell = record {
   one = λ a b h.
@@ -168,7 +168,7 @@ outcome_itself (Reached a) = truth_itself a
 outcome_itself (Found a) = (lists_tell same_name names_tell).itself a
 outcome_itself (Walk a) = walks_tell.itself a
 
--- the same of the answers of programs
+-- the test of sameness of the answers of programs passes exactly if they are equal
 pub outcomes_tell : Tells same_outcome
 outcomes_tell = record { one = outcome_one; itself = outcome_itself }
 

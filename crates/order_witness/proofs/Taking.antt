@@ -1,4 +1,5 @@
--- The begun requests taken one after another: at first none is done, each turn one more, and in the end all or, if a request precedes itself, not all.
+-- The begun requests are taken one after another: at first none is done, each turn one more, and in the end all are,
+-- or not all if a request precedes itself.
 -- Used by `take_all` and `taken_in_turn`.
 use Rattle.std.proofs.Common.{◌≡◌, ℕ, zero, suc, ◌<◌, Bool, true, false, not, cond, IsTrue, Contains, List, [], ◌∷◌, length, map, replicate, Option, Some, None, inl, inr, refl, sym, ap, ◌∙◌, arith}
 use Rattle.std.specs.Prelude.{is_some, slice_get, slice_set}
@@ -92,7 +93,7 @@ module _ (report : Report) (done : List Bool) (done_is : done ≡ map never repo
   pub start_size : length done ≡ length report.replies
   start_size = ap (λ (ds : List Bool). length ds) done_is ∙ length-map report.replies never
 
-  -- at first all begun requests are left
+  -- if nothing is done and the clause on replies holds, all begun requests are left
   pub start_left : (script : Script) → AllHold (replies_clause script report) → requests_left report done ≡ begun_requests report
   start_left script holds = filter_whole (λ r. not (is_done done r)) (requests_begun report.replies) (all_from (λ r. IsTrue (not (is_done done r))) (requests_begun report.replies) (λ r there.
       let begun = all_at (IsBegun report) (requests_begun report.replies) r (all_begun script report holds) there in

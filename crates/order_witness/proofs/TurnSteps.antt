@@ -1,4 +1,4 @@
--- Commit numbers and refusals of a session, one reply more.
+-- If each reply takes its turn, all are in turn, and commit numbers of a session keep clear of its refused requests.
 -- Used by `do_numbers_take_turns` and `first_fault`.
 use Rattle.std.proofs.Common.{◌≡◌, ℕ, suc, ◌+◌, ◌<◌, ◌≤◌, max, true, false, not, cond, ◌||◌, IsTrue, List, [], ◌∷◌, length, Option, Some, None, ltb, inl, inr, refl, sym, ap, ◌∙◌, subst, arith}
 use Rattle.std.specs.Prelude.{slice_get, slice_index, nat_lt, nat_le}

@@ -30,7 +30,7 @@ use Rattle.report_rules.specs.Replay.{graph_at_place, graph_before}
 use Rattle.report_rules.specs.RightReport.{all_are_listed, listing_clause, replies_clause}
 use Rattle.order_witness.specs.ByNumber.{list_at}
 use Rattle.order_witness.specs.Refusals.{Marks}
-use Rattle.order_witness.specs.Replayed.{TellsOf}
+use Rattle.order_witness.specs.Replay.{TellsOf}
 use Rattle.order_witness.specs.Visited.{AreMarkedAt, AreMarkedBy, AreOtherMarksKept, AreVisitsMarked, IsMarkedPair, MarksVisit}
 use Rattle.order_witness.proofs.Cutting.{in_last}
 use Rattle.order_witness.proofs.Replays.{graph_here, graph_through}

@@ -1,4 +1,4 @@
--- Answers of `get`s and of programs, compared by value.
+-- Answers of `get`s and of programs, compared by value. No public contract cites this.
 use Rattle.std.specs.Prelude.{Bool, true, false, not, ◌&&◌, ◌==◌, List}
 use Rattle.std.specs.Cmp.Lexicographic.{pointwise}
 use Rattle.std.specs.Option.{option_eq}

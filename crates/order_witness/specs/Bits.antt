@@ -1,4 +1,4 @@
--- Sets of numbers as words of 64 bits, and relations as rows of such sets.
+-- Sets of numbers as words of 64 bits, and relations as rows of such sets. No public contract cites this.
 use Rattle.std.specs.Prelude.{◌≡◌, ℕ, ◌+◌, ◌/◌, ◌%◌, ◌<◌, Bool, ◌==◌, List, [], length, slice_index, slice_index_or}
 use Rattle.std.specs.Int.{bit_at}
 

@@ -1,4 +1,4 @@
--- The choice of the next request of the printed order, by tests.
+-- The choice of the next request of the printed order, by tests. No public contract cites this.
 use Rattle.std.specs.Prelude.{◌≡◌, ◌≤◌, ℕ, Bool, true, false, not, nat_lt, IsTrue, List, Option, Some, None}
 use Rattle.std.specs.List.{list_any, AllByRecursion, filter_map}
 use Rattle.std.specs.Option.{option_map}

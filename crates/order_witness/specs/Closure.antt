@@ -1,4 +1,4 @@
--- The least transitive relation that has a given one.
+-- The least transitive relation that has a given one. No public contract cites this.
 use Rattle.std.specs.Prelude.{ℕ, Bool, IsTrue}
 
 -- a relation between numbers, as a test

@@ -3,7 +3,7 @@ pub mod Closure
 pub mod Begun
 pub mod Judgement
 pub mod Answers
-pub mod Replayed
+pub mod Replay
 pub mod Refusals
 pub mod Choices
 pub mod Heads

@@ -1,4 +1,5 @@
 -- Refusals: which replies are refused as they say, after the number of commits that they say.
+-- No public contract cites this.
 use Rattle.std.specs.Prelude.{◌≡◌, ◌≤◌, ℕ, Bool, true, false, ◌&&◌, ◌==◌, List, Option, Some, None, ⊤, MatchBool, slice_get, slice_index_or, map}
 use Rattle.std.specs.List.{filter}
 use Rattle.graph_ops.specs.PlainGraph.{PlainGraph}

@@ -13,7 +13,7 @@ ghost use Rattle.report_rules.specs.Lookups as told;
 ghost use Rattle.order_witness.specs.ByNumber.{list_at};
 ghost use Rattle.order_witness.specs.Judgement.{IsFirstFault, has_numbered_operations, is_numbered_work};
 ghost use Rattle.order_witness.specs.Visited.{AreMarkedAt, AreMarkedBy, AreOtherMarksKept, AreVisitsMarked};
-ghost use Rattle.order_witness.specs.Replayed.{MatchesItsReply, GivesAnswers, TellsOf};
+ghost use Rattle.order_witness.specs.Replay.{MatchesItsReply, GivesAnswers, TellsOf};
 
 use crate::by_number::ByNumber;
 use crate::records::{same_answers, same_outcome};

@@ -4,11 +4,11 @@ use Rattle.weave_data.specs.declared.name.Name.{Name}
 use Rattle.graph_ops.specs.Operations.{State}
 use Rattle.program_defs.specs.declared.program.Program.{Program}
 use Rattle.program_defs.specs.declared.program.Program.TheVariants.{Show as TheShow}
-use Rattle.node_program.specs.Showing.{HasShown, next_shown}
-use Rattle.reach_program.specs.Reaching.{program_asked, HasReached, next_reached, reach_reads_left as reached_left}
+use Rattle.node_program.specs.Show.{HasShown, next_shown}
+use Rattle.reach_program.specs.Reach.{program_asked, HasReached, next_reached, reach_reads_left as reached_left}
 use Rattle.path_program.specs.declared.any.AnyProgram.{AnyProgram}
 use Rattle.path_program.specs.declared.any.AnyProgram.TheVariants.{Show, Reach, Path}
-use Rattle.path_program.specs.Pathing.{path_asked, HasPathed, next_pathed, path_reads_left as pathed_left}
+use Rattle.path_program.specs.Path.{path_asked, HasPathed, next_pathed, path_reads_left as pathed_left}
 
 -- which program it is
 abbrev pub any_of : AnyProgram → Program

@@ -1,2 +1,2 @@
-pub mod Pathing
+pub mod Path
 pub mod AnyPrograms

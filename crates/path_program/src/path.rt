@@ -1,7 +1,7 @@
 //! The program `path`.
 ghost use Rattle.std.specs.Prelude.{◌≡◌, ◌≤◌, [], Some, IfOk};
 ghost use Rattle.program_defs.specs.declared.program.Program.TheVariants.{Path};
-ghost use Rattle.path_program.specs.Pathing.{path_asked, HasPathed, path_reads_left, next_pathed};
+ghost use Rattle.path_program.specs.Path.{path_asked, HasPathed, path_reads_left, next_pathed};
 
 use graph_ops::{MOST_EDGES, Record};
 use node_program::NodeProgram;

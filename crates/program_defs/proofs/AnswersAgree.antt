@@ -190,6 +190,6 @@ same-at g h (Path from to bound pass) a b (Shown state) is = absurd is
 same-at g h (Path from to bound pass) a b (Reached reached) is = absurd is
 same-at g h (Path from to bound pass) a b (Found vertices) is = absurd is
 
--- the plain answer is the same
+-- graphs that agree on the visits of a program have the same plain answers of it
 pub answer-same : (g h : PlainGraph) (program : Program) → AgreeOnVisits g h program → (answer : Answer) → IsPlainAnswer g program answer → IsPlainAnswer h program answer
 answer-same g h program a = same-at g h program (λ n v k. a v (n, k)) (λ n v k. agree-back g h program a v (n, k))

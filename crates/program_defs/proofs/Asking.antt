@@ -1,4 +1,4 @@
--- Searches of a whole graph.
+-- A search that has read all that it asks for of a graph answers as the graph does.
 -- Used by `ask_with_visits`, `searched` and `walked`.
 use Rattle.std.proofs.Common.{◌≡◌, Bool, true, false, ◌||◌, List, ◌∷◌, IsTrue, length, refl, sym, ap, subst, ◌∙◌, None}
 use Rattle.std.specs.Prelude.{if◌then◌else◌, ◌↔◌}
@@ -63,7 +63,7 @@ all-of-walk program graph walk all = record { read = record { reads = all.read.r
 
 -- What is visited
 
--- one more vertex is read
+-- with one more vertex read and noted, the vertices read are still just the noted ones
 pub read-one : (reads : List (Name × State)) (v : Name) (state : State) (names now : List Name) → AreRead reads names → ((w : Name) → has_name now w ≡ (same_name v w || has_name names w)) → AreRead ((v, state) ∷ reads) now
 read-one reads v state names now h put w = put w ∙ ap (λ b. same_name v w || b) (h w)
 

@@ -36,7 +36,7 @@ pub cut-first : (target : Option Name) (x : Name) (xs : List Name) → IsTrue (i
 cut-first None x xs = head-in x xs
 cut-first (Some to) x xs = first-there to x xs
 
--- it ends with the target
+-- a list that begins with the target is cut to its first name
 pub cut-here : (target : Option Name) (x : Name) (xs : List Name) → is_value target x ≡ true → cut target (x ∷ xs) ≡ x ∷ []
 cut-here None x xs e = cc
 cut-here (Some to) x xs e = rw e refl

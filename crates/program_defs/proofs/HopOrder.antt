@@ -12,7 +12,7 @@ use Rattle.weave_data.specs.Names.{name_cmp}
 use Rattle.program_defs.specs.declared.path_search.Hop.{Hop}
 use Rattle.program_defs.specs.LeastWalks.{IsIn, IsNoLater, HopsRise}
 
--- the order of hops
+-- hops are compared by their ranks, then by their targets, then by their parents
 abbrev pub hop_cmp : Hop → Hop → Ordering
 hop_cmp x y = ordering_then (nat_cmp x.rank y.rank) (ordering_then (name_cmp x.target y.target) (name_cmp x.parent y.parent))
 

@@ -50,7 +50,7 @@ pub marked-new : (marks : Marks) (count : ℕ) (hop : Hop) (rest : List Hop) (v 
     → marks_after marks count (hop ∷ rest) v ≡ marks_after (with_mark hop.target (record { parent = hop.parent; rank = count }) marks) (count + 1) rest v
 marked-new marks count hop rest v e = rw e refl
 
--- what was marked stays so
+-- the mark of a marked name is the same after more hops
 pub marked-stays : (hops : List Hop) (marks : Marks) (count : ℕ) (v : Name) → is_some (marks v) ≡ true → marks_after marks count hops v ≡ marks v
 marked-stays [] marks count v has = refl
 marked-stays (hop ∷ rest) marks count v has = at (λ ms k h. marked-stays rest ms k v h) (is_some (marks hop.target)) refl
@@ -75,7 +75,7 @@ at-new-target marks count hop rest v e f =
     let here : given v ≡ Some (record { parent = hop.parent; rank = count }) = given-here hop.target _ marks v f in
     marked-new marks count hop rest v e ∙ marked-stays rest given (count + 1) v (ap is_some here) ∙ here
 
--- each target is marked
+-- after a list of hops, the target of each of them has a mark
 pub marked-has : (hops : List Hop) (marks : Marks) (count : ℕ) (hop : Hop) → IsIn hops hop → is_some (marks_after marks count hops hop.target) ≡ true
 marked-has [] marks count hop k = absurd k
 marked-has (first ∷ rest) marks count hop k = at (λ ms n i. marked-has rest ms n hop i) (is_some (marks first.target)) refl k

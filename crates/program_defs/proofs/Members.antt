@@ -24,7 +24,7 @@ use Rattle.program_defs.specs.Visits.{as_set, targets_of_all}
 pub name-equal : (x y : Name) → name_cmp x y ≡ Equal → x ≡ y
 name-equal x y e = one_name x y (ap is_eq e)
 
--- and so are lists of names
+-- lists of names that compare as equal are equal
 pub lists-equal : (xs ys : List Name) → slice_cmp name_cmp xs ys ≡ Equal → xs ≡ ys
 lists-equal xs ys e = slice_cmp-IsAntisymmetric name-equal xs ys e
 

@@ -40,7 +40,7 @@ next-edge all edges i one same inside is = subst (λ (xs : List (Name × Edge)).
 abbrev pub AddsName : List Name → Name → List Name → Type 0
 AddsName names name more = (v : Name) → has_name more v ≡ same_name name v || has_name names v
 
--- the next edge passes
+-- if the next edge passes and its target is added unless known, the names found and to be found stay the same
 pub new-more : (pass : Option Filter) (front rest : List (Name × Edge)) (key : Name) (edge : Edge) (all found found' reached reached' : List Name)
     → front ≡ (key, edge) ∷ rest → passes_filter pass edge ≡ true
     → found' ≡ found ++ (if has_name reached edge.target then [] else edge.target ∷ []) → AddsName reached edge.target reached'

@@ -14,7 +14,7 @@ use Rattle.program_defs.specs.Walks.{passes_filter}
 use Rattle.program_defs.proofs.Marking.{marked-old, marked-new}
 use Rattle.program_defs.proofs.NewNames.{targets_in, targets-next}
 
--- the next edge passes
+-- if the next edge passes and its hop is put at the end, the hops so far and those to come stay the same
 pub hop-more : (pass : Option Filter) (v : Name) (rank : ℕ) (front rest : List (Name × Edge)) (key : Name) (edge : Edge) (hops hops' all : List Hop)
     → front ≡ (key, edge) ∷ rest → passes_filter pass edge ≡ true → hops' ≡ hops ++ record { rank = rank; target = edge.target; parent = v } ∷ []
     → hops ++ hops_from v rank (targets_in pass front) ≡ all → hops' ++ hops_from v rank (targets_in pass rest) ≡ all
@@ -42,7 +42,7 @@ marked-step old new hop rest marks count v = at (is_some (mark_in old hop.target
         let n : length new ≡ length old + 1 = count ∙ ap (λ b. length old + (if b then 0 else 1)) e in
         (λ i. marks_after (m i) (n i) rest v) ∙ sym (marked-new (mark_in old) (length old) hop rest v e)
 
--- the first mark
+-- if one name is marked where none was, just this name has a mark
 pub first-mark : (from : Name) (start : Mark) (old new : List (Name × Mark)) → ((v : Name) → mark_in old v ≡ None) → ((v : Name) → mark_in new v ≡ cond (same_name from v) (Some start) (mark_in old v)) → (v : Name) → is_some (mark_in new v) ≡ is_among (from ∷ []) v
 first-mark from start old new none puts v = ap is_some (puts v ∙ ap (cond (same_name from v) (Some start)) (none v)) ∙ at (same_name from v)
   where

@@ -44,7 +44,7 @@ not-there target (x ∷ xs) more h =
     here true g rest = cc
     here false g rest = ap (λ ys. x ∷ ys) rest
 
--- the first name stays
+-- the first name of a list stays when the list is cut after a target
 pub first-there : (target x : Name) (xs : List Name) → IsTrue (is_among (up_to target (x ∷ xs)) x)
 first-there target x xs = here (same_name target x)
   where

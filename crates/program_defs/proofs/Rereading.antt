@@ -1,4 +1,4 @@
--- What is known of marks and hops when one more vertex is read.
+-- Levels, marks and hops stay right when one more vertex is read.
 -- Used by Pathing.
 use Rattle.std.proofs.Common.{◌≡◌, ℕ, zero, suc, ◌+◌, ◌-◌, ◌<◌, ◌≤◌, List, [], ◌∷◌, ◌++◌, IsTrue, refl, sym, ap, subst, ◌∙◌, Option, ◌⊎◌, inl, inr, arith}
 use Rattle.std.proofs.lemmas.Bool.{or_cases, or_left, or_right}

@@ -283,7 +283,7 @@ module _ (program : Program) (search : SearchState) (reads : List (Name × State
       by_target true hit = over-now program search reads aim found (at-target hit)
       by_target false other = by_rest other (is_none (first_of search.rest)) refl
 
--- the search after one more read
+-- after one more read, the search has still searched for the program, with one more state among its reads
 pub seen : (program : Program) (search next last : SearchState) (v : Name) (state : State) (reads : List (Name × State)) → next_of search ≡ Some v → HasSearched program search reads
     → AddsState v state search next → (IsOnce next.found → last ≡ record (gone_on v next) { room = last.room }) → HasSearched program last ((v, state) ∷ reads)
 seen program search next last v state reads is h adds goes =

@@ -1,4 +1,4 @@
--- One more vertex is read.
+-- When the next vertex of a level is read, the levels up to this one stay as they were.
 -- Used by Pathing, Rereading and Searched.
 use Rattle.std.proofs.Common.{append-nil, append_assoc, ◌≡◌, ℕ, zero, suc, Bool, true, false, not, ◌&&◌, ◌||◌, List, [], ◌∷◌, ◌++◌, IsTrue, refl, sym, ap, subst, ◌∙◌, Option}
 use Rattle.std.specs.Prelude.{if◌then◌else◌}

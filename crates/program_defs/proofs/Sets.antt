@@ -106,7 +106,7 @@ rising-set (x ∷ y ∷ rest) h =
     let more = rising-set (y ∷ rest) parts.1 in
     (λ z k. elim (or_cases (same_name y z) _ k) [ inl here ↦ subst (λ w. name_cmp x w ≡ Less) (one_name y z here) first | inr later ↦ nat_list_cmp_total.trans x y z first (more.0 z later) ], more)
 
--- and a set rises
+-- the names of a set rise
 pub set-rising : (xs : List Name) → IsSet xs → IsTrue (is_rising xs)
 set-rising [] s = refl
 set-rising (x ∷ []) s = refl

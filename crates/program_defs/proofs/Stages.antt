@@ -68,7 +68,7 @@ module _ (program : Program) (search : SearchState) (reads : List (Name × State
     pub stage : (gone_on v search).over ≡ false → IsStage (gone_on v search)
     stage more = by_target (is_value search.aim.target v) (λ i. is_value search.aim.target v) more
 
--- without regard to the room
+-- a search that is going is so with any room
 pub going-with-room : (search : SearchState) (reads : List (Name × State)) (n : ℕ) (gone : List Name) (room : ℕ) → IsGoing search reads n gone → IsGoing (record search { room = room }) reads n gone
 going-with-room search reads n gone room g = record {
   within = record { left = g.within.left; level = g.within.level; read = g.within.read; reached = g.within.reached; found = g.within.found; found_once = g.within.found_once };

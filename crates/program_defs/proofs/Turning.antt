@@ -1,4 +1,4 @@
--- From one level to the next.
+-- What is left of a level, and what the step to the next level gives.
 -- Used by `add`, `go_down`, `go_on`, Pathing and Searched.
 use Rattle.std.proofs.Common.{◌≡◌, ◌<◌, ◌≤◌, ℕ, suc, drop, arith, refl, Bool, true, false, List, [], ◌∷◌, length, ap, ◌∙◌, sym, Option, Some, None, ◌+◌}
 use Rattle.std.specs.Prelude.{is_none, ◌==◌, if◌then◌else◌}
@@ -20,7 +20,7 @@ down-is was aim left rest found reached present over room a b c d e f g = λ i. 
 more-than-none : (k : ℕ) → suc k == 0 ≡ false
 more-than-none k = grind (arith, nat_tests)
 
--- whether there are names
+-- a list is empty by its length exactly if it has no first name
 pub empty-is : (names : List Name) (len : ℕ) (empty : Bool) → len ≡ length names → empty ≡ (len == 0) → empty ≡ is_none (first_of names)
 empty-is [] len empty n e = e ∙ ap (λ k. k == 0) n
 empty-is (x ∷ xs) len empty n e = e ∙ ap (λ k. k == 0) n ∙ more-than-none (length xs)
@@ -41,7 +41,7 @@ next-rest n names v first = at (drop n names) refl first
     at [] e h = cc
     at (x ∷ xs) e h = let same : x ≡ v = cc in let more : drop (n + 1) names ≡ xs = sym (drop-drop 1 n names) ∙ ap (drop 1) e in e ∙ ap (λ y. y ∷ xs) same ∙ ap (λ ys. v ∷ ys) (sym more)
 
--- it goes on where it is
+-- a search whose level isn't read, and that isn't at its target, goes on with the rest of the level
 pub still-is : (search : SearchState) (v : Name) → is_value search.aim.target v ≡ false → is_none (first_of search.rest) ≡ false → search ≡ record (gone_on v search) { room = search.room }
 still-is search v other more = rw (other, more) refl
 

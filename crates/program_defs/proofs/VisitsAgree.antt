@@ -87,7 +87,7 @@ visits-same g h (Reach from to pass) n a = same-up-to g h pass from to n a
 visits-same g h (Around from bound pass) n a = same-levels g h pass from bound a
 visits-same g h (Path from to bound pass) n a = same-up-to g h pass from to bound a
 
--- and so are the vertices visited
+-- graphs that agree on the visits of a program have the same vertices visited by it
 pub visited-same : (g h : PlainGraph) (program : Program) → AgreeOnVisits g h program → (v : Name) → IsVisited g program v → IsVisited h program v
 visited-same g h program a v visited = (visited.0, subst (λ xs. IsTrue (is_among xs v)) (visits-same g h program visited.0 (λ w k. a w (visited.0, k))) visited.1)
 

@@ -1,4 +1,4 @@
--- The test of the limits on scripts.
+-- The test of the limits passes exactly the scripts that are within them.
 -- Used by `is_within_limits`.
 use Rattle.std.proofs.Common.{◌≡◌, ℕ, zero, suc, Bool, ◌&&◌, List, [], ◌∷◌, IsTrue, length, refl, subst, Some, nat_le, nat_lt}
 use Rattle.std.specs.Prelude.{◌↔◌, slice_get}

@@ -1,5 +1,5 @@
 -- The order of the least walks, level by level: each vertex has a parent, and a rank within its level. No public
--- contract names it: `Walking` and proofs use it.
+-- contract names it: `LeastWalks` and proofs use it.
 use Rattle.std.specs.Prelude.{ℕ, zero, suc, ◌≡◌, ◌<◌, ◌≤◌, ◌⊎◌, IsTrue, List, [], ◌∷◌, ◌++◌, Option}
 use Rattle.std.specs.Ordering.{is_le}
 use Rattle.weave_data.specs.Names.{name_cmp}

@@ -1,7 +1,7 @@
 //! The programs `reach` and `around`.
 ghost use Rattle.std.specs.Prelude.{◌≡◌, ◌≤◌, [], Some, IfOk};
 ghost use Rattle.program_defs.specs.declared.program.Program.TheVariants.{Reach, Around};
-ghost use Rattle.reach_program.specs.Reaching.{program_asked, HasReached, reach_reads_left, next_reached};
+ghost use Rattle.reach_program.specs.Reach.{program_asked, HasReached, reach_reads_left, next_reached};
 
 use graph_ops::{MOST_EDGES, Record};
 use node_program::NodeProgram;

@@ -92,14 +92,14 @@ home_of_no_gatekeeper h = let home = h.replies.0.0 in cc
 pub reply_of_no_request : ¬ IsReportOf script (told 2 None Unbegun)
 reply_of_no_request h = h.replies.0.1
 
--- nor a conflict with such a request
+-- no report of the script has a conflict with a request that isn't there
 pub conflict_with_no_request : ¬ IsReportOf script (told 0 s (Conflict v 2))
 conflict_with_no_request h = let newer = h.replies.0.1 in cc
 
--- nor a pair with such a request
+-- no report of the script has a pair with a request that isn't there
 pub pair_of_no_request : ¬ IsReportOf script (report_of [] (settled v 0 2 ∷ []) [])
 pair_of_no_request h = let pair = h.pairs.0 in cc
 
--- nor such a request in its order
+-- no report of the script lists a request that isn't there
 pub no_request_listed : ¬ IsReportOf script (report_of [] [] (2 ∷ []))
 no_request_listed h = let listed = h.order.0 in cc

@@ -1,4 +1,4 @@
--- Precedence by its test.
+-- A stamp precedes another exactly if the test passes, by a law of stamps.
 -- Used by OneSession, ThreeGatekeepers, TwoSessions, WithPrograms and crate order_witness.
 use Rattle.std.proofs.Common.{◌≡◌, false, IsTrue, List}
 use Rattle.std.specs.Prelude.{◌↔◌}

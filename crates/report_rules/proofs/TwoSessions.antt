@@ -157,7 +157,7 @@ module _ (decided : IsDecided) where
   is_missing (Ok passed) = false
   is_missing (Err stopped) = elim stopped.reason [ Missing ↦ true | _ ↦ false ]
 
-  -- another reason: refusals, 2
+  -- the report that gives another reason for the refusal breaks refusals, 2
   pub another_reason : BreaksFirst script (refused_report (Refused 1 Exists 0) (0 ∷ [])) Vii 2
   unfolding is_missing
   another_reason = (

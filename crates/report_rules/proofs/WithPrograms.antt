@@ -91,7 +91,7 @@ module _ (decided : IsDecided) where
     ),
   )
 
-  -- not heard: replies, 2
+  -- the report where the program's stamp isn't after the transaction's breaks replies, 2
   pub session_not_heard : BreaksFirst session_script (session_report (0 ∷ 1 ∷ [])) I 2
   session_not_heard = (tt, (refl, λ fact. cc))
 

@@ -32,7 +32,7 @@ module _ (gates shards : ℕ) (seen : Account) (shard : ℕ) (legal : IsShardLog
   comes before author (Visited r stamp v updates settled) fits refers = tt
   comes before author (Collected bound) fits refers = fits
 
-  -- of the store's log
+  -- if the judgements that were seen passed, the messages in the shard's log are made of them
   pub of-store : HavePassed seen.store → HasSeen shards seen.store shard (shard_log seen shard)
   of-store passes =
       record {
@@ -41,7 +41,7 @@ module _ (gates shards : ℕ) (seen : Account) (shard : ℕ) (legal : IsShardLog
             (refers before entry after at);
       }
 
-  -- and of the gatekeepers' logs
+  -- with at most eight gatekeepers whose logs are legal, the shard has seen what was sent to it
   pub of-gates : gates ≤ 8 → ((home : ℕ) → IsGateLog home shards (gate_log seen home)) → HasSeenSent gates shards seen shard (shard_log seen shard)
   of-gates few logs =
       record {

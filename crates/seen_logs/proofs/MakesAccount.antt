@@ -313,7 +313,7 @@ module _ (laws : LawsForSeenLogs) (script : Script) (account : Account) (number 
       let equal = places.0 in
       omega (arith, less, equal))
 
-  -- so they are an account
+  -- if logs keep their rules, refer to nothing but themselves and follow the script, they are an account of it
   pub made : IsAccount script account
   made =
       record {

@@ -59,7 +59,7 @@ module _ (shards : ℕ) (seen : Account) (refers : (shard : ℕ) → ShardRefers
       let its = refers shard cut.before (visit_entry visit) cut.after at in
       ne_eqb visit.request r (none its.home _ its.begun))))
 
-  -- so it has read nothing
+  -- a program that was not begun in what was seen has read nothing there
   pub nothing-read : reads_of seen r ≡ []
   nothing-read = flat-alike (reads_in r) refl seen.shards [] (λ shard. ap (map (read-in (shard_log seen shard))) (no-visit shard))
 

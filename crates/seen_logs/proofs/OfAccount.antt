@@ -47,7 +47,7 @@ look-of : (work : Work) → IsTrue (is_look work) → (program : Program) × (wo
 look-of (Change ops) look = absurd cc
 look-of (Look program) look = (program, refl)
 
--- what is there and passes
+-- if a value is there and passes, it can be had
 pub there-and : {A : Type 0} (test : A → Bool) (o : Option A) → IsTrue (is_some_and test o) → (x : A) × (o ≡ Some x) × IsTrue (test x)
 there-and test None h = absurd cc
 there-and test (Some x) h = (x, refl, h)
@@ -120,11 +120,11 @@ module _ (laws : LawsForSeenLogs) (script : Script) (account : Account) (limits 
   gate-deed home before author (Raised epoch) after at = tt
   gate-deed home before author (Finished r) after at = finished-ends home before author r after at
 
-  -- what a gatekeeper's entries refer to
+  -- all that a gatekeeper's entries refer to is in the account
   pub gate-refers : (home : ℕ) → GateRefersWithin script.shards account home
   gate-refers home before entry after at = gate-deed home before entry.author entry.deed after at
 
-  -- what the store's refer to
+  -- all that the store's entries refer to is in the account
   pub store-refers : StoreRefersWithin account
   store-refers before entry after at =
       let judges = is.store.judges before entry after at in
@@ -134,7 +134,7 @@ module _ (laws : LawsForSeenLogs) (script : Script) (account : Account) (limits 
   oracle-deed author (Settled earlier later places) h =
       λ stamp among. laws.settled script account limits is (record { author = author; deed = Settled earlier later places }) h stamp among
 
-  -- what the oracle's refer to
+  -- all that the oracle's entries refer to is in the account
   pub oracle-refers : OracleRefersWithin account
   oracle-refers before entry after at = oracle-deed entry.author entry.deed (subst (λ l. Contains l entry) (sym at) (has_cut before entry after))
 
@@ -166,7 +166,7 @@ module _ (laws : LawsForSeenLogs) (script : Script) (account : Account) (limits 
       (has_map (update_of v) (commits_of account.store) of.0 (filter_has (names_vertex v) (commits_of account.store) of.0 naming).0)
 
   module _ (legal : (shard : ℕ) → IsShardLog script.gates (shard_log account shard)) where
-    -- what a visit saw last, up to the end of the log
+    -- what a visit saw last is the same up to its place and up to the log's end
     pub last-before : (shard : ℕ) (before after : List ShardEntry) → shard_log account shard ≡ before ++ after → (visit : Visit)
         → visit.updates ≤ length (updates_of visit.vertex before)
         → seen_last (shard_log account shard) visit ≡ seen_last before visit
@@ -208,7 +208,7 @@ module _ (laws : LawsForSeenLogs) (script : Script) (account : Account) (limits 
         }
     shard-deed shard before author (Collected bound) after at fits = tt
 
-    -- what a shard's refer to
+    -- all that a shard's entries refer to is in the account
     pub shard-refers : (shard : ℕ) → ShardRefersWithin script.shards account shard
     shard-refers shard before entry after at =
         shard-deed shard before entry.author entry.deed after at (is.shards.deeds shard before entry after at)

@@ -1,4 +1,4 @@
--- Elements of lists of lists by their places: which of two comes first.
+-- Elements made of lists have a relation if it holds within each list and from each list to each later one.
 -- Used by Asking, ExampleRun, MakesAccount, Onward, Reading and crates sessions_account and workers_account.
 use Rattle.std.proofs.Common.{◌≡◌, ℕ, zero, suc, ◌<◌, List, [], ◌∷◌, ◌++◌, length, get_or, Contains, AllPairs, inl, inr, sym, ap, subst, ◌∙◌, arith}
 use Rattle.std.specs.List.{flat_map}

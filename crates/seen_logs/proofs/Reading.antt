@@ -1,4 +1,4 @@
--- At the end a program has read what the hand has seen that began it, or what was there at the start.
+-- At the end a program has read what the hand that began it has seen, or what was there at the start.
 -- Used by `programs_read_what_was_seen`.
 use Rattle.std.proofs.Common.{◌≡◌, ◌≢◌, ℕ, ◌<◌, ◌≤◌, ◌==◌, Bool, true, false, List, [], ◌∷◌, ◌++◌, length, map, Contains, IsTrue, AllPairs, inl, inr, refl, sym, ap, subst, ◌∙◌, append_assoc, arith}
 use Rattle.std.specs.List.{filter, flat_map}

@@ -45,7 +45,7 @@ module _ (laws : LawsForSeenLogs) (gates : ℕ) where
   deed-on v log author (Collected bound) legal fits =
       ([], laws.not_applied gates log (record { author = author; deed = Collected bound }) v legal refl ∙ sym (append-nil (updates_of v log)))
 
-  -- and with a whole log
+  -- the updates of a vertex in a log begin those in each legal longer log
   pub updates-on : (v : Name) (log more : List ShardEntry) → IsShardLog gates (log ++ more)
       → IsBeginningOf (updates_of v log) (updates_of v (log ++ more))
   updates-on v log =

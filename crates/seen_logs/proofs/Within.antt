@@ -9,7 +9,7 @@ use Rattle.weave_account.specs.declared.account.Account.{Account}
 use Rattle.weave_account.specs.GoesOn.{GoesOn, IsBeginningOf}
 use Rattle.seen_logs.specs.Seen.{IsWithin, without_sessions}
 
--- a list begins itself
+-- each list is a beginning of itself
 pub whole : {A : Type 0} (xs : List A) → IsBeginningOf xs xs
 whole xs = ([], sym (append-nil xs))
 
@@ -21,7 +21,7 @@ onward xs ys zs first second = (first.0 ++ second.0, second.1 ∙ ap (λ l. l ++
 pub itself : (seen : Account) → IsWithin seen seen
 itself seen = record { gates = λ home. whole _; store = whole _; oracle = whole _; shards = λ shard. whole _ }
 
--- and within what is seen later
+-- what is within an account is within each account that this one is within
 pub all-later : (seen next last : Account) → IsWithin seen next → IsWithin next last → IsWithin seen last
 all-later seen next last first second = record {
   gates = λ home. onward _ _ _ (first.gates home) (second.gates home);

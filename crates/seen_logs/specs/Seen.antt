@@ -1,5 +1,5 @@
 -- What a machine behind a lock and a hand have seen, and when it is enough.
-use Rattle.std.specs.Prelude.{◌≡◌, ◌⊎◌, ℕ, ◌<◌, ◌≤◌, List, [], ◌∷◌, ◌++◌, drop, length, Contains, IsTrue, ⊤}
+use Rattle.std.specs.Prelude.{◌≡◌, ◌⊎◌, ℕ, ◌<◌, ◌≤◌, List, [], ◌∷◌, ◌++◌, drop, length, slice_index_or, Contains, IsTrue, ⊤}
 use Rattle.weave_entries.specs.declared.gate_log.GateEntry.{GateEntry}
 use Rattle.weave_entries.specs.declared.oracle_log.OracleEntry.{OracleEntry}
 use Rattle.weave_entries.specs.declared.shard_log.ShardEntry.{ShardEntry}
@@ -20,6 +20,10 @@ use Rattle.weave_account.specs.Oracle.{seen_last}
 use Rattle.seen_logs.specs.References.{GateRefersAs, IsAskedAsSeen, OracleRefersAs, ShardRefersAs, StoreRefersAs}
 
 -- More is seen
+
+-- of logs by their numbers: each is the beginning of the one at its place
+abbrev pub AreBeginnings : {A : Type 0} → List (List A) → List (List A) → Type 0
+AreBeginnings logs next = (k : ℕ) → IsBeginningOf (slice_index_or logs k []) (slice_index_or next k [])
 
 -- of the gatekeepers' logs: each begins the one of the next account
 abbrev pub GatesGoOn : Account → Account → Type 0

@@ -34,7 +34,7 @@ ghost use Rattle.seen_logs.specs.Closed.{AreOfHands};
 ghost use Rattle.seen_logs.specs.Entries.{account_of_logs, gate_entries, gate_pairs, oracle_entries, oracle_pairs, shard_entries, shard_pairs, store_entries, store_pairs};
 ghost use Rattle.seen_logs.specs.FollowsScript.{BegunProgramsReadInTurn, FollowsScript};
 ghost use Rattle.seen_logs.specs.References.{GateRefersAs, IsAskedAsSeen, OracleRefersAs, ShardRefersAs, StoreRefersAs};
-ghost use Rattle.seen_logs.specs.Seen.{AddsAsSeen, AreLegal, GateRefersWithin, GatesGoOn, HasAsked, IsOwn, IsSeenByHand, IsWithin, OracleRefersWithin, ShardRefersWithin, ShardsGoOn, StoreRefersWithin, VisitsItsOwn, VisitsOwnPrograms, entries_since, without_sessions};
+ghost use Rattle.seen_logs.specs.Seen.{AddsAsSeen, AreBeginnings, AreLegal, GateRefersWithin, GatesGoOn, HasAsked, IsOwn, IsSeenByHand, IsWithin, OracleRefersWithin, ShardRefersWithin, ShardsGoOn, StoreRefersWithin, VisitsItsOwn, VisitsOwnPrograms, entries_since, without_sessions};
 
 use crate::lower_laws::the_crates_below_keep_their_laws;
 use weave_account::laws::store_logs_have_passed;
@@ -120,9 +120,8 @@ pub fn accounts_have_logs_of_locks()
         → shard_log (account_of_logs gates store oracle shards) shard ≡ shard_entries (slice_index_or shards shard []) }
     ensures more { (gates next_gates : List (List (ℕ × GateDeed))) (store next_store : List (ℕ × StoreDeed))
         → (oracle next_oracle : List (ℕ × OracleDeed)) (shards next_shards : List (List (ℕ × ShardDeed)))
-        → ((home : ℕ) → IsBeginningOf (slice_index_or gates home []) (slice_index_or next_gates home []))
-        → IsBeginningOf store next_store → IsBeginningOf oracle next_oracle
-        → ((shard : ℕ) → IsBeginningOf (slice_index_or shards shard []) (slice_index_or next_shards shard []))
+        → AreBeginnings gates next_gates → IsBeginningOf store next_store → IsBeginningOf oracle next_oracle
+        → AreBeginnings shards next_shards
         → IsWithin (account_of_logs gates store oracle shards)
         (account_of_logs next_gates next_store next_oracle next_shards) }
 {}

@@ -1,4 +1,5 @@
--- What a call for no session gains, and what no call does.
+-- In a call for no session a hand begins, ends and judges nothing, and adds nothing to its sessions' logs; without a
+-- call it gains nothing.
 -- Used by Leading.
 use Rattle.std.proofs.Common.{◌≡◌, ◌≢◌, inl, ℕ, ◌==◌, Bool, List, [], ◌∷◌, ◌++◌, length, AllPairs, Contains, refl, sym, ap, ◌∙◌, subst, arith}
 use Rattle.std.specs.List.{filter}
@@ -53,7 +54,7 @@ nothing-logged script hand_of number gates unbegun unended = record {
   in_turn = pairs_none (λ (a b : Judgement). InTurn script a.request b.request);
 }
 
--- no call
+-- a hand without a call has gained nothing, if it keeps its clients and visits its own programs
 pub none-gained : (shared : Shared) (script : Script) (hand_of : ℕ → ℕ) (at : Stands) → IsHand shared at.hand → HasLanded at.hand
     → KeepsClients shared script hand_of at → VisitsItsOwnPrograms shared at.hand → HasGained shared script hand_of at at
 none-gained shared script hand_of at is_hand landed keeps own = record {

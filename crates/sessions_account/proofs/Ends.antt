@@ -1,5 +1,5 @@
--- What ended at the closed gatekeepers has its reply, if it is a program, and the other way round: so the sessions' logs are
--- those of the closed gatekeepers.
+-- What ended at the closed gatekeepers has its reply, if it is a program, and the other way round: so the sessions'
+-- logs are those of the closed gatekeepers.
 -- Used by `closed_logs_of_sessions_are_an_account`, Closed, Follows and Programs.
 use Rattle.std.proofs.Common.{◌≡◌, ℕ, List, [], Contains, IsTrue, Some, inl, inr, refl, sym, ap, subst, ◌∙◌}
 use Rattle.std.proofs.lemmas.List.Elements.{Contains-append_cases}

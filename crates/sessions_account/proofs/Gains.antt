@@ -34,9 +34,9 @@ KeepsClients shared script hand_of at = (session : ℕ) → HasSession hand_of (
 abbrev pub OfSome : (ℕ → ℕ) → ℕ → (ℕ → Type 0) → Type 0
 OfSome hand_of number P = (session : ℕ) × HasSession hand_of number session × P session
 
--- The hand's entries at gatekeepers and the store say what its sessions' entries say: what was begun, with which stamps,
--- and what was ended. Each judgement is of a request of one of these logs, with its operations. No request was begun
--- twice at a gatekeeper, and those of a session were judged in its order.
+-- The hand's entries at gatekeepers and the store say what its sessions' entries say: what was begun, with which
+-- stamps, and what was ended. Each judgement is of a request of one of these logs, with its operations. No request was
+-- begun twice at a gatekeeper, and those of a session were judged in its order.
 pub record AreLogged (script : Script) (hand_of : ℕ → ℕ) (number : ℕ) (gates : ℕ → List GateEntry) (store : List StoreEntry)
     (logs : ℕ → List SessionEntry) : Type 0 where
   pub begun : (home : ℕ) (begun : BegunRequest) → Contains (begun_in (gates home)) begun

@@ -1,4 +1,5 @@
--- What the programs of the sessions have read is in turn, and a hand finishes no others than its own.
+-- Each program that a hand began since the start has read its vertices in turn, and a hand finishes no programs but
+-- those.
 -- Used by Closed.
 use Rattle.std.proofs.Common.{◌≡◌, ℕ, ◌-◌, ◌<◌, Bool, false, List, [], ◌∷◌, ◌++◌, length, drop, take, Contains, AllPairs, IsTrue, Option, None, Some, inl, inr, refl, sym, ap, subst, ◌∙◌, arith}
 use Rattle.std.specs.Prelude.{is_some, if◌then◌else◌}
@@ -23,6 +24,7 @@ use Rattle.weave_entries.specs.declared.session_log.SessionEntry.{SessionEntry}
 use Rattle.weave_entries.specs.GateReplay.{BegunRequest, ended_by, ended_in, program_by, programs_of}
 use Rattle.weave_entries.specs.GateRules.{EndsAs, IsGateLog}
 use Rattle.weave_entries.specs.SessionReplay.{SessionState, begins_in, replied_count, replied_in, reply_by, session_of}
+use Rattle.weave_entries.proofs.OwnStamps.{program-begun}
 use Rattle.weave_account.specs.declared.account.Account.{Account}
 use Rattle.weave_account.specs.Account.{all_begun, gate_log, is_ended, reads_of, session_log}
 use Rattle.weave_account.specs.Programs.{ReadsInTurn}
@@ -44,7 +46,6 @@ use Rattle.workers_account.proofs.Begun.{all-has}
 use Rattle.workers_account.proofs.Ended.{all-ended, ended-all}
 use Rattle.workers_account.proofs.ReadTurns.{turn-same}
 use Rattle.workers_account.proofs.SessionLogs.{pairs-take}
-use Rattle.workers_account.proofs.Visited.{program-begun}
 use Rattle.sessions_account.proofs.Leading.{keeps-first}
 use Rattle.sessions_account.proofs.Runs.{given-from, history, own-entry, part, Run, seen-on}
 use Rattle.sessions_account.proofs.SessionLogs.{LogLeft, begun-for, gained-log, logs-right, start-logged}

@@ -53,7 +53,7 @@ module _ (x : Run) where
   abbrev pub at-end : (hand : Hand) → Contains x.hands hand → Stands
   at-end hand h = record { hand = hand; clients = (history hand h).left }
 
-  -- what the hand gained
+  -- each hand of a run has gained, from its start to its end, what its history says
   pub part : (hand : Hand) (h : Contains x.hands hand) → HasGained x.shared x.script x.served.hand_of (history hand h).from (at-end hand h)
   part hand h =
       served-on x.laws x.shared x.script x.upto x.start x.was x.served.hand_of x.served.at_start (history hand h).from (at-end hand h)

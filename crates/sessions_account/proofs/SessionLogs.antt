@@ -82,13 +82,13 @@ module _ (x : Run) (closed : Account) (end : IsClosedBy x.shared x.script x.star
             inl (same-log t (slice_get_past x.is t (omega (arith, high, now)) ∙ sym (slice_get_past x.was t (omega (arith, high, many)))))
       ]
 
-  -- what was logged since
+  -- if a hand left the log of a session, it is the one of the start, then what the hand gained in it
   pub gained-log : (t : ℕ) (hand : Hand) (h : Contains x.hands hand) → LogLeft t hand h
       → session_log closed t ≡ session_log x.start t ++ (part x hand h).logs t
   gained-log t hand h left =
       left.is_log ∙ (part x hand h).in_logs t ∙ ap (λ (l : List SessionEntry). l ++ (part x hand h).logs t) (sym left.was_log)
 
-  -- each is one of its session
+  -- each session's log at the end is one of that session
   pub logs-right : (t : ℕ) → IsSessionLog t (requests_of_session x.script t) (session_log closed t)
   logs-right t =
       elim (session-case t) [
@@ -100,7 +100,7 @@ module _ (x : Run) (closed : Account) (end : IsClosedBy x.shared x.script x.star
             (subst (λ (rs : List ℕ). IsSessionLog t rs (log_of_client ((history x one.0 one.1).left t))) keeps.requests keeps.at_end.right)
       ]
 
-  -- and goes on
+  -- each session's log at the end goes on from that of the start
   pub logs-on : (t : ℕ) → IsBeginningOf (session_log x.start t) (session_log closed t)
   logs-on t =
       elim (session-case t) [
@@ -225,7 +225,7 @@ module _ (x : Run) (closed : Account) (end : IsClosedBy x.shared x.script x.star
             ]
       ]
 
-  -- so both say the same stamp of each request
+  -- at the end the session's log and the account have the same stamp for each request
   pub stamps-agree : (r : ℕ) (request : Request) → request_at x.script r ≡ Some request
       → session_stamp_of r (session_log closed request.session) ≡ stamp_of closed r
   stamps-agree r request at = by (stamp_of closed r) refl

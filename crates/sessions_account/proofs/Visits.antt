@@ -11,6 +11,7 @@ use Rattle.weave_entries.specs.declared.shard_log.ShardDeed.{ShardDeed}
 use Rattle.weave_entries.specs.declared.shard_log.ShardDeed.TheVariants.{Arrived, Applied, Visited, Collected}
 use Rattle.weave_entries.specs.GateReplay.{BegunRequest, begun_by, begun_in, programs_of}
 use Rattle.weave_entries.specs.ShardReplay.{Visit, visit_by, visits_of}
+use Rattle.weave_entries.proofs.OwnStamps.{program-begun}
 use Rattle.weave_account.specs.declared.account.Account.{Account}
 use Rattle.weave_account.specs.Account.{all_begun, gate_log, reads_of, shard_log}
 use Rattle.weave_account.specs.Shards.{ShardFitsAs}
@@ -24,7 +25,7 @@ use Rattle.weaver_locks.specs.Hands.{hand_number, seen_by}
 use Rattle.weaver_locks.specs.Locks.{hands_of}
 use Rattle.workers_account.specs.Phase.{IsClosedBy}
 use Rattle.workers_account.proofs.Begun.{all-has}
-use Rattle.workers_account.proofs.Visited.{begun-author, program-begun}
+use Rattle.workers_account.proofs.Visited.{begun-author}
 use Rattle.sessions_account.proofs.Joined.{same-sessions}
 use Rattle.sessions_account.proofs.Runs.{Run, of-number, own-since, part, since-is}
 use Rattle.sessions_account.proofs.SessionLogs.{begun-for}

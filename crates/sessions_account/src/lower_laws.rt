@@ -20,7 +20,8 @@ use weaver_locks::laws::{
     visits_stay_of_own_programs,
 };
 use weaver_workers::laws::hands_go_on;
-use workers_account::laws::{split_clients_are_ready, workers_follow_their_sessions};
+use workers_account::laws::split_clients_are_ready;
+use workers_account::session_laws::workers_follow_their_sessions;
 
 /// The laws of the crates below that this crate relies on.
 pub(crate) fn sessions_keep_their_laws()

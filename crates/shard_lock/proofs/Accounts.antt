@@ -23,7 +23,7 @@ unfolding at_place
 at_number zero own = refl
 at_number (suc number) own = at_number number own
 
--- and nothing elsewhere
+-- with the shard's own log at its place, there is no log at any other place
 pub elsewhere : (number k : ℕ) (own : List ShardEntry) → k ≢ number → get_or (at_place number own) k [] ≡ []
 unfolding at_place
 elsewhere zero zero own other = absurd (other refl)
@@ -31,7 +31,7 @@ elsewhere zero (suc k) own other = refl
 elsewhere (suc number) zero own other = refl
 elsewhere (suc number) (suc k) own other = elsewhere number k own (λ e. other (ap suc e))
 
--- nothing more
+-- each list is a beginning of itself
 pub same_on : {A : Type 0} (l : List A) → IsBeginningOf l l
 same_on l = ([], sym (append-nil l))
 
@@ -52,7 +52,7 @@ shards_on number own more on k =
     (subst P (λ i. (sym (at_number number own) i, sym (at_number number more) i)) on))
     (λ other. subst P (λ i. (sym (elsewhere number k own other) i, sym (elsewhere number k more other) i)) ([], refl))
 
--- more was seen
+-- if a shard's log and all that it has seen go on, so does the account of them
 pub grows : (number : ℕ) (own more : List ShardEntry) (gates later : List (List GateEntry)) (store last : Log StoreDeed)
     (oracle latest : Log OracleDeed) → IsBeginningOf own more → GatesGoOn (of_gates gates) (of_gates later) → IsPrefix store last
     → IsPrefix oracle latest → IsWithin (account_of_shard number own gates store oracle) (account_of_shard number more later last latest)

@@ -97,7 +97,7 @@ module _ (laws : LawsForShardNotes) (old new : ShardView) (shards : ℕ) (notes 
       subst (λ (v : ShardView). ShardIsKept v shards notes) (sym is)
       (kept_more laws old shards notes kept author deed (subst (λ (v : ShardView). IsShardLog v.gates v.log) is rules) refers)
 
-  -- as before
+  -- a shard that stayed as it was has still seen what its log refers to
   pub kept_still : new ≡ old → ShardIsKept new shards notes
   kept_still same = subst (λ (v : ShardView). ShardIsKept v shards notes) (sym same) kept
 

@@ -254,7 +254,7 @@ pub all-programs : (logs : List (List GateEntry)) (home : ℕ) (program : BegunR
     → Contains (flat_map begun_in logs) program
 all-programs logs home program h = all-in (of_gates logs) home program (program-begun (get_or logs home []) program h)
 
--- and so is a transaction
+-- a transaction that was begun in one gatekeeper's log was begun in one of them all
 pub all-txs : (logs : List (List GateEntry)) (home : ℕ) (tx : BegunRequest) → Contains (txs_of (get_or logs home [])) tx
     → Contains (flat_map begun_in logs) tx
 all-txs logs home tx h = all-in (of_gates logs) home tx (tx-begun (get_or logs home []) tx h)

@@ -1,4 +1,4 @@
--- Logs as pairs and back.
+-- A shard's log turned into pairs and back is itself, and so are pairs turned into entries and back.
 -- Used by `entries_come_back`.
 use Rattle.std.proofs.Common.{◌≡◌, List, [], ◌∷◌, map, refl, ap}
 use Rattle.weave_entries.specs.declared.shard_log.ShardDeed.{ShardDeed}

@@ -48,7 +48,7 @@ module _ (shard : ShardView) (old new : ShardNotes) (gates gates_now : List (Pas
   notes_on = grows shard.number shard.log shard.log (gates_noted old.gates.items) (gates_noted new.gates.items) (seen_by_note old.store) (seen_by_note new.store)
       (seen_by_note old.oracle) (seen_by_note new.oracle) (same_on shard.log) met.notes_on met.at_store.note_on met.at_oracle.note_on
 
-  -- and no less than the passes had
+  -- the shard with its new notes has seen all that the passes had seen
   pub passes_on : (own : List ShardEntry) → IsBeginningOf own shard.log
       → IsWithin (seen_by_shard_passes shard.number own gates store oracle) (seen_of_shard shard new)
   passes_on own on = grows shard.number own shard.log (gates_seen gates) (gates_noted new.gates.items) (seen_by_pass store) (seen_by_note new.store)
@@ -56,7 +56,7 @@ module _ (shard : ShardView) (old new : ShardNotes) (gates gates_now : List (Pas
       (subst (λ (l : List (List GateEntry)). GatesGoOn (of_gates (gates_seen gates)) (of_gates l)) (sym met.one) met.passes_on)
       met.at_store.pass_on met.at_oracle.pass_on
 
-  -- they have seen what the passes have
+  -- the shard with its new notes has seen just what the passes have seen
   pub one_account : seen_of_shard shard new ≡ seen_by_shard_passes shard.number shard.log gates_now store_now oracle_now
   one_account = λ i. account_of_shard shard.number shard.log (met.one i) (met.at_store.one i) (met.at_oracle.one i)
 

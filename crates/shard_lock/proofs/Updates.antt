@@ -101,7 +101,7 @@ module _ (shards : ℕ) (seen : Account) (shard : ℕ) (log : List ShardEntry) (
           (has_map (λ (b : BegunRequest). b.stamp) (flat_map begun_in seen.gates) tx.tx (all-txs seen.gates tx.home tx.tx tx.begun))
     ]
 
-    -- and their ids differ
+    -- with at most eight gatekeepers, the ids of all updates kept of the vertex differ from the program's
     pub other-ids : VisitLaws → length seen.gates ≤ 8 → All (λ update. id_of update ≢ id_of program.stamp) (kept_stamps v log)
     other-ids laws few = λ k d low. fact (get_or (kept_stamps v log) k d) (Contains-get_or (kept_stamps v log) k d low)
       where

@@ -220,7 +220,7 @@ module _ (author request : ℕ) (stamp : Stamp) (v : Name) (old new : ShardView)
         (ap (λ (l : Log OracleDeed). pairs_of_log (oracle_entries l)) one ∙ over.pairs) home by
         (running-begun (gate_log (seen_of_shard old notes) home) program runs)
 
-    -- all is still seen
+    -- after a visit or a refusal of it, the shard has still seen what its log refers to, with the later notes
     pub visit-keeps : (result : Result State VisitFault) → VisitsOver author request stamp v old new had mine has before result
         → ShardIsKept new shards later
     visit-keeps (Ok state) over =

@@ -14,7 +14,7 @@ use Rattle.weave_data.specs.declared.name.Name.{Name}
 use Rattle.vector_stamp.specs.declared.clock.Clock.{Clock}
 use Rattle.vector_stamp.specs.declared.clock.Stamp.{Stamp}
 use Rattle.version_chain.specs.Chains.{ChainView}
-use Rattle.shard_queue.specs.Incoming.{Incoming, nothing_arrived, waiting_at, has_arrived, after_arrival, after_head, WaitingLaws, waiting_head}
+use Rattle.shard_queue.specs.Inbox.{Incoming, nothing_arrived, waiting_at, has_arrived, after_arrival, after_head, WaitingLaws, waiting_head}
 use Rattle.version_graph.specs.Graphs.{Chains, chain_of, after_parts}
 use Rattle.weave_entries.specs.declared.message.Message.{Message}
 use Rattle.weave_entries.specs.declared.shard_log.ShardEntry.{ShardEntry}
@@ -176,7 +176,7 @@ module _ (gates : ℕ) (inboxes : List (Incoming Waiting)) (chains : Chains) (lo
 
   module _ (laws : WaitingLaws stamp_at) (author gate number : ℕ) (message : Message) (inbox next : Incoming Waiting)
       (longer : List ShardEntry) where
-    -- a message arrived
+    -- a shard that put an arrived message into its inbox follows its log with the arrival
     pub keeps_arrived : (waiting : Waiting) → waiting.place ≡ length log → waiting.stamp ≡ message.stamp
         → ArrivesOnce gates log gate number message → slice_get inboxes gate ≡ Some inbox
         → next ≡ after_arrival number waiting inbox
@@ -211,7 +211,7 @@ module _ (gates : ℕ) (inboxes : List (Incoming Waiting)) (chains : Chains) (lo
           rules = each_push (λ before one. FitsShard gates before one.deed) log entry kept.rules once;
         })
 
-    -- a head was processed
+    -- a shard that took the head of an inbox and applied its parts follows its log with the processing
     pub keeps_applied : (after : Chains) → gate < gates → head_of gate log ≡ Some message → waits_at message log ≡ None
         → PassesAt log message → slice_get inboxes gate ≡ Some inbox → next ≡ after_head stamp_at inbox
         → number ≡ inbox.processed + 1 →
@@ -270,7 +270,7 @@ module _ (gates : ℕ) (inboxes : List (Incoming Waiting)) (chains : Chains) (lo
         rules = each_push (λ before one. FitsShard gates before one.deed) log entry kept.rules right;
       })
 
-  -- old versions were dropped
+  -- a shard whose chains were collected by the bound follows its log with the collection
   pub keeps_collected : (author : ℕ) (bound : Option Clock) (after : Chains) (longer : List ShardEntry)
       → bound ≡ bound_of gates log → ((v : Name) → chain_of after v ≡ collected_if bound (chain_of chains v))
       → longer ≡ log ++ record { author = author; deed = Collected bound } ∷ []

@@ -39,7 +39,7 @@ module _ (log : List ShardEntry) where
   leads-some (Some waiting) None leads = absurd leads
   leads-some (Some waiting) (Some message) leads = refl
 
-  -- with the message's stamp
+  -- what leads to a message has the message's stamp
   pub leads-stamp : (found : Option Waiting) (message : Option Message) → LeadsTo log found message → option_map stamp_at found ≡ option_map stamp_in message
   leads-stamp None None leads = refl
   leads-stamp None (Some message) leads = absurd leads

@@ -61,7 +61,7 @@ list-is f place (x ∷ xs) each =
     let rest : xs ≡ map f (range_with_len (place + 1) (length xs)) = list-is f (place + 1) xs (λ k y at. each (suc k) y at ∙ ap f (omega arith)) in
     λ i. first i ∷ rest i
 
--- before the first entry
+-- before the first entry, the low marks of the log are one for each gatekeeper, all empty
 pub no-marks : (gates : ℕ) (lows : List (Option Clock)) (log : List ShardEntry) → log ≡ [] → length lows ≡ gates → All (λ (low : Option Clock). low ≡ None) lows → AreLowMarks gates lows log
 no-marks gates lows log log_is count none = subst (AreLowMarks gates lows) (sym log_is) (record {
   count = count;
@@ -76,7 +76,7 @@ module _ (gates : ℕ) (lows : List (Option Clock)) (log : List ShardEntry) (mar
     each = λ gate low at. marks.each gate low at ∙ ap (option_map (λ (message : Message). message.low)) (sym (same gate));
   }
 
-  -- a head was processed
+  -- when a head is processed, its low mark becomes the one of its gatekeeper
   pub marks-applied : (author gate number : ℕ) (head : Message) (longer : List ShardEntry) → gate < gates → number ≡ processed_count gate log + 1 → head_of gate log ≡ Some head
       → longer ≡ log ++ record { author = author; deed = Applied gate number } ∷ [] → AreLowMarks gates (slice_set lows gate (Some head.low)) longer
   marks-applied author gate number head longer below number_is is longer_is =
@@ -96,7 +96,7 @@ module _ (gates : ℕ) (lows : List (Option Clock)) (log : List ShardEntry) (mar
         ];
       })
 
-  -- their meet
+  -- the meet of all low marks is the bound of the log
   pub bound-is : meet_of_all lows ≡ bound_of gates log
   bound-is =
       let each : lows ≡ map (low_of log) (range_with_len 0 (length lows)) = list-is (low_of log) 0 lows (λ k low at. marks.each k low at ∙ ap (low_of log) (omega arith)) in

@@ -18,7 +18,7 @@ use Rattle.vector_stamp.specs.Precedence.{GivenPair}
 use Rattle.vector_stamp.specs.Seeing.{seen_of}
 use Rattle.version_chain.specs.Chains.{ChainView, update_count, stamps_of_versions, newest_state}
 use Rattle.version_graph.specs.Graphs.{Chains, chain_of, chain_or_new, AreNextUpdates}
-use Rattle.shard_queue.specs.Incoming.{Incoming, has_arrived, waiting_head}
+use Rattle.shard_queue.specs.Inbox.{Incoming, has_arrived, waiting_head}
 use Rattle.weave_entries.specs.declared.message.Message.{Message}
 use Rattle.weave_entries.specs.declared.shard_log.ShardEntry.{ShardEntry}
 use Rattle.weave_entries.specs.ShardReplay.{Update, arrived_at, processed_count, head_of, last_of, updates_of, waits_at, state_of_updates, is_past, is_ready_for, first_unready, kept_of}
@@ -88,7 +88,7 @@ module _ (gates : ℕ) (inboxes : List (Incoming Waiting)) (chains : Chains) (lo
   pub head-found : (gate : ℕ) (inbox : Incoming Waiting) (items : List ShardEntry) (found : Option Message) → slice_get inboxes gate ≡ Some inbox → items ≡ log → found ≡ head_in items inbox → head_of gate log ≡ found
   head-found gate inbox items found at same is = sym (inbox-head gate inbox at) ∙ ap (λ (l : List ShardEntry). head_in l inbox) (sym same) ∙ sym is
 
-  -- and then something waits there
+  -- where a channel has a head by the log, something waits in its inbox
   pub head-waits : (gate : ℕ) (inbox : Incoming Waiting) (head : Message) → slice_get inboxes gate ≡ Some inbox → head_of gate log ≡ Some head → is_some (waiting_head inbox) ≡ true
   head-waits gate inbox head at is = leads-some log (waiting_head inbox) (head_of gate log) (head-leads gate log inbox (kept.channels gate inbox at)) ∙ ap is_some is
 

@@ -161,7 +161,7 @@ module _ (pairs : List GivenPair) (program : Stamp) (v : Name) (log : List Shard
 pub reaches-back : (program : Stamp) (v : Name) (log : List ShardEntry) → IsKeptFor program v log → ReachesBack program (chain_in v log)
 reaches-back program v log base some = subst (λ (stamps : List Stamp). IsSomeAnd (slice_get stamps 0) (λ oldest. IsTrue (stamp_before oldest program))) (sym (kept-stamps-are v log)) (base some)
 
--- and back
+-- if a vertex's chain reaches back far enough, so does what is kept of it by the log
 pub kept-for : (program : Stamp) (v : Name) (log : List ShardEntry) → ReachesBack program (chain_in v log) → IsKeptFor program v log
 kept-for program v log base some = subst (λ (stamps : List Stamp). IsSomeAnd (slice_get stamps 0) (λ oldest. IsTrue (stamp_before oldest program))) (kept-stamps-are v log) (base some)
 

@@ -13,7 +13,7 @@ use Rattle.version_chain.specs.Chains.{ChainView, update_count}
 use Rattle.version_chain.specs.Collection.{collected_chain}
 use Rattle.weave_data.specs.declared.name.Name.{Name}
 use Rattle.weave_data.specs.Limits.{most_gates}
-use Rattle.shard_queue.specs.Incoming.{Incoming, waiting_head, waiting_at}
+use Rattle.shard_queue.specs.Inbox.{Incoming, waiting_head, waiting_at}
 use Rattle.version_graph.specs.Graphs.{Chains, chain_of, chain_or_new}
 use Rattle.weave_entries.specs.declared.message.Message.{Message}
 use Rattle.weave_entries.specs.declared.shard_log.ShardEntry.{ShardEntry}

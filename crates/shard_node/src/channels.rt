@@ -1,6 +1,6 @@
 //! The incoming channels of a shard.
 ghost use Rattle.std.specs.Prelude.{◌≡◌, ◌+◌, ◌<◌, ◌^◌, All, length, IfOk, IsSome, vec_len};
-ghost use Rattle.shard_queue.specs.Incoming.{nothing_arrived, waiting_head, after_head};
+ghost use Rattle.shard_queue.specs.Inbox.{nothing_arrived, waiting_head, after_head};
 ghost use Rattle.shard_node.specs.declared.waiting.Waiting.{Waiting};
 ghost use Rattle.shard_node.specs.Keeping.{is_channel_ready, first_not_ready};
 

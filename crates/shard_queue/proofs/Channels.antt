@@ -13,8 +13,8 @@ use Rattle.std.proofs.Math.Seq.{take-suc}
 use Rattle.std.proofs.lemmas.List.{append-nil}
 use Rattle.std.proofs.lemmas.Option.{slice_get_within, get_or_from_slice_get}
 use Rattle.vector_stamp.specs.declared.clock.Stamp.{Stamp}
-use Rattle.shard_queue.specs.Sent.{sent_as}
-use Rattle.shard_queue.specs.Incoming.{Incoming, Event, Arrives, TakesHead, nothing_arrived, waiting_head, has_arrived, after_head_if, after_event, inbox_after, taken_messages, taken_by, processed_in, is_arrival_of, AreOfSent, after_arrival, waiting_at, WaitingLaws}
+use Rattle.shard_queue.specs.Outbox.{sent_as}
+use Rattle.shard_queue.specs.Inbox.{Incoming, Event, Arrives, TakesHead, nothing_arrived, waiting_head, has_arrived, after_head_if, after_event, inbox_after, taken_messages, taken_by, processed_in, is_arrival_of, AreOfSent, after_arrival, waiting_at, WaitingLaws}
 use Rattle.shard_queue.proofs.Waiting.{put-there, put-others, take-others, AllWaiting, all-put, all-take, all-found}
 
 has_here : {X : Type 0} (x : X) (xs : List X) → Contains (x ∷ xs) x

@@ -7,7 +7,7 @@ use Rattle.std.proofs.lemmas.List.Quantifiers.{all_pairs_push}
 use Rattle.std.proofs.lemmas.Option.{slice_get-get_or}
 use Rattle.vector_stamp.specs.declared.clock.Stamp.{Stamp}
 use Rattle.vector_stamp.specs.Order.{stamp_before}
-use Rattle.shard_queue.specs.Sent.{StampsRise, IsAfterLast}
+use Rattle.shard_queue.specs.Outbox.{StampsRise, IsAfterLast}
 
 -- with a stamp that is after the last one they still rise
 pub rise_on : (transitive : (a b c : Stamp) → IsTrue (stamp_before a b) → IsTrue (stamp_before b c) → IsTrue (stamp_before a c)) → (stamps : List Stamp) (stamp : Stamp) → StampsRise stamps → IsAfterLast stamp stamps → StampsRise (stamps ++ stamp ∷ [])

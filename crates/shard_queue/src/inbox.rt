@@ -1,6 +1,6 @@
 //! The receiving end of a channel.
 ghost use Rattle.std.specs.Prelude.{◌≡◌, ◌+◌, ◌<◌, ◌≤◌, ◌↔◌, IfOk, IsSome, OnOk, OnErr, None, option_copied, if◌then◌else◌};
-ghost use Rattle.shard_queue.specs.Incoming.{nothing_arrived, waiting_head, has_arrived, after_arrival, after_head};
+ghost use Rattle.shard_queue.specs.Inbox.{nothing_arrived, waiting_head, has_arrived, after_arrival, after_head};
 
 use std::alloc::{AllocError, Global};
 use std::collections::BTreeMap;
@@ -27,7 +27,7 @@ pub struct Inbox<M: Stamped> {
 
 impl<M: Stamped> Model for Inbox<M> {
     ghost use Rattle.std.specs.Prelude.{◌≡◌, ◌↔◌, ◌-◌, ◌≤◌, None};
-    ghost use Rattle.shard_queue.specs.Incoming.{Incoming};
+    ghost use Rattle.shard_queue.specs.Inbox.{Incoming};
 
     ghost Value = { Incoming M };
 

@@ -1,7 +1,7 @@
 //! What follows from the definitions, as contracts without a body.
 ghost use Rattle.std.specs.Prelude.{◌≡◌, ℕ, ◌≤◌, ◌<◌, List, take, length, IsSome};
 ghost use Rattle.std.specs.List.{list_any};
-ghost use Rattle.shard_queue.specs.Incoming.{Event, nothing_arrived, waiting_at, has_arrived, inbox_after, processed_in, is_arrival_of, AreOfSent, WaitingLaws};
+ghost use Rattle.shard_queue.specs.Inbox.{Event, nothing_arrived, waiting_at, has_arrived, inbox_after, processed_in, is_arrival_of, AreOfSent, WaitingLaws};
 
 use vector_stamp::Stamped;
 

@@ -1,6 +1,6 @@
 //! The sending end of a channel.
 ghost use Rattle.std.specs.Prelude.{◌≡◌, ◌≤◌, ◌+◌, ◌^◌, ◌<◌, [], ◌∷◌, ◌++◌, map, length, IsOk, IfOk, IfErr, OnOk, OnErr, option_copied};
-ghost use Rattle.shard_queue.specs.Sent.{StampsRise, IsAfterLast, sent_as};
+ghost use Rattle.shard_queue.specs.Outbox.{StampsRise, IsAfterLast, sent_as};
 
 use std::alloc::{AllocError, Global};
 use std::marker::Model;
@@ -16,7 +16,7 @@ pub struct Outbox<M: Stamped> {
 
 impl<M: Stamped> Model for Outbox<M> {
     ghost use Rattle.std.specs.Prelude.{◌-◌, map, vec_len, vec_capacity};
-    ghost use Rattle.shard_queue.specs.Sent.{Channel, StampsRise};
+    ghost use Rattle.shard_queue.specs.Outbox.{Channel, StampsRise};
 
     ghost Value = { Channel M };
 

@@ -1,4 +1,5 @@
--- What was begun at the gatekeepers.
+-- What was begun in one gatekeeper's log is among all that was begun. If each request begins once, two begins of one
+-- request are the same.
 -- Used by JudgeStep, NopStep, SendStep and VisitStep.
 use Rattle.std.proofs.Common.{◌≡◌, ◌≢◌, ℕ, ◌<◌, List, [], length, Contains, Some, inl, inr, sym, arith}
 use Rattle.std.proofs.lemmas.List.Elements.{Contains-get_or, Contains-append_left, Contains-append_right}
@@ -7,6 +8,7 @@ use Rattle.weave_data.proofs.Ordered.{pairs_cases}
 use Rattle.program_defs.specs.declared.script.Script.{Script}
 use Rattle.weave_entries.specs.declared.gate_log.GateEntry.{GateEntry}
 use Rattle.weave_entries.specs.GateReplay.{BegunRequest, begun_by, begun_in, flight_of, tx_by, program_by, programs_of, txs_of}
+use Rattle.weave_entries.proofs.OwnStamps.{tx-begun}
 use Rattle.weave_account.specs.declared.account.Account.{Account}
 use Rattle.weave_account.specs.Account.{gate_log, all_begun}
 use Rattle.weave_account.specs.Gatekeepers.{BeginEachOnce}
@@ -14,23 +16,11 @@ use Rattle.weave_account.specs.IsAccount.{IsAccount}
 use Rattle.program_defs.specs.Limits.{IsWithinLimits}
 use Rattle.step_rules.specs.LowerLaws.{LawsForSteps, FurtherLowerLaws}
 
--- a transaction that was begun is one of what was begun
-pub tx-begun : (log : List GateEntry) (b : BegunRequest) → Contains (txs_of log) b → Contains (begun_in log) b
-tx-begun log b h =
-    let from = flat_has (λ (e : GateEntry). tx_by e.author e.deed) log b h in
-    has_flat (λ (e : GateEntry). begun_by e.author e.deed) log from.0 b from.1 (Contains-append_left (tx_by from.0.author from.0.deed) (program_by from.0.author from.0.deed) b from.2)
-
--- and so is a program
-pub program-begun : (log : List GateEntry) (b : BegunRequest) → Contains (programs_of log) b → Contains (begun_in log) b
-program-begun log b h =
-    let from = flat_has (λ (e : GateEntry). program_by e.author e.deed) log b h in
-    has_flat (λ (e : GateEntry). begun_by e.author e.deed) log from.0 b from.1 (Contains-append_right (tx_by from.0.author from.0.deed) (program_by from.0.author from.0.deed) b from.2)
-
 -- what was begun at a gatekeeper that is there is among all that was begun
 pub all-in : (account : Account) (home : ℕ) (b : BegunRequest) → home < length account.gates → Contains (begun_in (gate_log account home)) b → Contains (all_begun account) b
 all-in account home b within h = has_flat begun_in account.gates (gate_log account home) b (Contains-get_or account.gates home [] within) h
 
--- one request is begun once
+-- if each request begins once, two begins of one request are the same
 pub one-begun : (account : Account) → BeginEachOnce account → (a b : BegunRequest) → Contains (all_begun account) a → Contains (all_begun account) b → a.request ≡ b.request → a ≡ b
 one-begun account once a b ha hb same = elim (pairs_cases (λ (x y : BegunRequest). x.request ≢ y.request) (all_begun account) once a b ha hb) [
   | inl one ↦ one

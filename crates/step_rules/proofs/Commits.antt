@@ -1,4 +1,4 @@
--- Commits of a store's log, and lists by recursion.
+-- Each commit of a store's log is of a judgement there, with its stamp.
 -- Used by JudgeStep and VisitStep.
 use Rattle.std.proofs.Common.{◌≡◌, ℕ, List, [], ◌∷◌, Contains, inl, inr, subst, ap}
 use Rattle.std.specs.Prelude.{reverse}

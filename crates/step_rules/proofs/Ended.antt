@@ -1,4 +1,4 @@
--- Numbers in a list, by the test and by membership.
+-- A number passes the test of being in a list exactly if it is a member of the list.
 -- Used by FinishStep, QuietGateEntry and ReplyStep.
 use Rattle.std.proofs.Common.{ℕ, List, Contains, IsTrue, refl, sym, subst}
 use Rattle.std.specs.Prelude.{nat_eq}

@@ -8,7 +8,7 @@ use Rattle.std.proofs.lemmas.List.Elements.{Contains-append_left, Contains-appen
 use Rattle.weave_data.proofs.Members.{has_head, has_read, has_tail}
 use Rattle.weave_data.proofs.Ordered.{pairs_cons, pairs_head, pairs_tail}
 
--- one that doesn't pass changes nothing
+-- an element that doesn't pass changes nothing of what is found
 pub find-into : {A : Type 0} (p : A → Bool) (front : List A) (x : A) (back : List A) → p x ≡ false → find p (front ++ x ∷ back) ≡ find p (front ++ back)
 find-into p [] x back fails = ap (λ b. cond b (Some x) (find p back)) fails
 find-into p (y ∷ front) x back fails = ap (λ o. cond (p y) (Some y) o) (find-into p front x back fails)

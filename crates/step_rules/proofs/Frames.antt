@@ -43,7 +43,7 @@ abbrev pub ReplyRule : Account → List SessionEntry → SessionEntry → Type 0
 ReplyRule account before entry = RepliesAs account entry.deed
 
 module _ (laws : LawsForSteps) (script : Script) (account next : Account) (limits : IsWithinLimits script) (is : IsAccount script account) (on : GoesOn account next) where
-  -- the same store is right
+  -- if the store's log stays as it is, its clause still holds
   pub store-stays : next.store ≡ account.store → StoreClause script next
   store-stays same = record {
     judges = subst (AtEachEntry (StoreRule script next)) (sym same) (each-other (StoreRule script account) (StoreRule script next)

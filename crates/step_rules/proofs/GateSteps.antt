@@ -7,7 +7,7 @@ use Rattle.std.proofs.lemmas.List.Elements.{Contains-append_cases}
 use Rattle.std.proofs.lemmas.Option.{slice_get_within, get_or_from_slice_get}
 use Rattle.weave_data.proofs.Members.{has_none, only}
 use Rattle.vector_stamp.specs.declared.clock.Clock.{Clock}
-use Rattle.shard_queue.specs.Sent.{sent_as}
+use Rattle.shard_queue.specs.Outbox.{sent_as}
 use Rattle.program_defs.specs.declared.script.Script.{Script}
 use Rattle.program_defs.specs.declared.script.Step.TheVariants.{Say, Hear, Epoch}
 use Rattle.report_rules.specs.declared.report.StepAnswer.TheVariants.{Ok, Unknown, Old}

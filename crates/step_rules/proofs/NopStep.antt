@@ -15,6 +15,7 @@ use Rattle.weave_entries.specs.declared.gate_log.GateEntry.{GateEntry}
 use Rattle.weave_entries.specs.declared.gate_log.GateDeed.{GateDeed}
 use Rattle.weave_entries.specs.declared.gate_log.GateDeed.TheVariants as gate
 use Rattle.weave_entries.specs.GateReplay.{BegunRequest, clock_of, clocks_by, flight_of, low_mark, next_number, next_stamp, running_of, stamps_by, stamps_of, ticks_of}
+use Rattle.weave_entries.proofs.OwnStamps.{program-begun}
 use Rattle.weave_account.specs.declared.account.Account.{Account}
 use Rattle.weave_account.specs.Account.{gate_log}
 use Rattle.weave_account.specs.Clocks.{IsKnown}
@@ -23,7 +24,7 @@ use Rattle.step_rules.specs.Answers.{answer_of}
 use Rattle.step_rules.specs.Entries.{state_with}
 use Rattle.step_rules.specs.IsCore.{IsCore}
 use Rattle.step_rules.proofs.Basis.{Basis}
-use Rattle.step_rules.proofs.Begun.{all-in, inside-log, program-begun}
+use Rattle.step_rules.proofs.Begun.{all-in, inside-log}
 use Rattle.step_rules.proofs.QuietGateEntry.{gate-goes-on, known-after, log-here, on}
 use Rattle.step_rules.proofs.GateSteps.{deed-keeps}
 

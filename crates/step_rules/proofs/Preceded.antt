@@ -21,7 +21,7 @@ module _ (laws : LawsForSteps) where
       laws.stamps.pairs_grows (pairs ++ pairs_of_entry settled) (pairs ++ (pairs_of_entry settled ++ rest))
       (λ a b one. subst (λ ps. Contains ps (a, b)) (append_assoc pairs (pairs_of_entry settled) rest) (Contains-append_left (pairs ++ pairs_of_entry settled) rest (a, b) one)) x settled.later now
 
-  -- those of each entry
+  -- if the log follows the rules, what an entry puts before its later stamp precedes it by the pairs of all
   pub each-precede : (pairs : List GivenPair) (log : List OracleEntry) → IsRightFrom pairs log → (entry : OracleEntry) → Contains log entry → (x : Stamp) → Contains (settled_entry entry).earlier x
       → IsTrue (precedes (pairs ++ pairs_of_log log) x (settled_entry entry).later)
   each-precede pairs [] right entry h x has = absurd (has_none entry h)

@@ -1,4 +1,5 @@
--- One more entry in a gatekeeper's log that begins nothing.
+-- If a gatekeeper's log gets one more entry that begins nothing and ends no program, and the entry is right, the logs
+-- are still an account.
 -- Used by GateSteps, NopStep and SendStep.
 use Rattle.std.proofs.Common.{◌≡◌, ◌≢◌, ℕ, ◌<◌, List, [], ◌∷◌, ◌++◌, Contains, AllPairs, IsTrue, Some, ◌==◌, false, ◌⊎◌, inl, inr, refl, sym, ap, subst, ◌∙◌}
 use Rattle.std.specs.List.{find, flat_map}
@@ -38,7 +39,7 @@ use Rattle.step_rules.proofs.StepGoesOn.{with-gate-deed}
 use Rattle.step_rules.proofs.SetLogs.{each-set, gate-entry, set-here, set-there}
 use Rattle.step_rules.proofs.Within.{gate-within}
 
--- a program is one by its work
+-- work that passes the test of programs is a program
 pub look-of : (work : Work) → IsTrue (is_look work) → (program : Program) × (work ≡ Look program)
 look-of (Change ops) look = absurd (let none : IsTrue false = look in cc)
 look-of (Look program) look = (program, refl)
@@ -119,7 +120,7 @@ module _ (laws : LawsForSteps) (script : Script) (account : Account) (limits : I
   pub known-after : (clock : Clock) → IsKnown account clock → IsKnown after clock
   known-after = laws.accounts.stay_clocks script account after on
 
-  -- the account goes on, if the entry is right and what it ends may end
+  -- if the entry is right for its log and ends no program, the logs with it are an account
   pub gate-goes-on : FitsAs g script.shards log author deed → ((clock : Clock) → Contains (clocks_by deed) clock → IsKnown after clock) → HearsAs g log deed → SendsAs after script.shards log author deed
       → ((r : ℕ) (request : Request) (program : Program) → request_at script r ≡ Some request → request.work ≡ Look program → Contains (ended_by deed) r → ⊥) → IsAccount script after
   gate-goes-on fits knows hears sends no-program = record {

@@ -6,7 +6,7 @@ use Rattle.std.specs.List.{range_with_len}
 use Rattle.std.proofs.lemmas.Bool.{both_ways, cases_eq, eq-eqb, eqb-true}
 use Rattle.weave_data.proofs.Members.{filter_has, flat_has, has_head, has_tail}
 use Rattle.weave_data.specs.declared.name.Name.{Name}
-use Rattle.shard_queue.specs.Sent.{sent_as}
+use Rattle.shard_queue.specs.Outbox.{sent_as}
 use Rattle.program_defs.specs.declared.script.Script.{Script}
 use Rattle.program_defs.specs.declared.script.Step.TheVariants.{Deliver, Apply, Collect}
 use Rattle.report_rules.specs.declared.report.StepAnswer.TheVariants.{Ok}

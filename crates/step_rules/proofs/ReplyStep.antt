@@ -73,7 +73,7 @@ module _ (laws : LawsForSteps) (script : Script) (account : Account) (limits : I
     | inr other ↦ subst (AtEachEntry (P i)) (sym (session-there i other)) (each i)
   ]
 
-  -- replies stay
+  -- a reply that a session's log has is there after the new reply too
   pub reply-stays : (q i : ℕ) → IsTrue (has_reply_in q (session_log account i)) → IsTrue (has_reply_in q (session_log replied i))
   reply-stays q i h = elim (cases_eq i s) [
     | inl same ↦ subst (λ n. IsTrue (has_reply_in q (session_log replied n))) (sym same) (subst (λ l. IsTrue (has_reply_in q l)) (sym session-here) (more (subst (λ n. IsTrue (has_reply_in q (session_log account n))) same h)))

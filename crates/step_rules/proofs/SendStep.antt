@@ -27,6 +27,7 @@ use Rattle.weave_entries.specs.GateReplay.{BegunRequest, clocks_of_message, flig
 use Rattle.weave_entries.specs.GateRules.{Sends}
 use Rattle.weave_entries.specs.Sending.{message_to, messages_of, shards_named}
 use Rattle.weave_entries.specs.StoreReplay.{Judgement, judgement_of, judgements_of}
+use Rattle.weave_entries.proofs.OwnStamps.{program-begun}
 use Rattle.weave_account.specs.declared.account.Account.{Account}
 use Rattle.weave_account.specs.Account.{gate_log, all_begun}
 use Rattle.weave_account.specs.Channels.{SendsJudged}
@@ -36,7 +37,7 @@ use Rattle.step_rules.specs.Answers.{answer_of, answer_of_send}
 use Rattle.step_rules.specs.Entries.{after_send, judgement_in_flight, state_with}
 use Rattle.step_rules.specs.IsCore.{IsCore}
 use Rattle.step_rules.proofs.Basis.{Basis}
-use Rattle.step_rules.proofs.Begun.{all-in, flight-begun, inside-log, one-begun, program-begun}
+use Rattle.step_rules.proofs.Begun.{all-in, flight-begun, inside-log, one-begun}
 use Rattle.step_rules.proofs.QuietGateEntry.{known-after, gate-goes-on}
 use Rattle.step_rules.proofs.GateSteps.{deed-keeps}
 

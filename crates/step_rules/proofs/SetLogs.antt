@@ -21,7 +21,7 @@ abbrev pub shard-entry : ShardDeed → ShardEntry
 shard-entry deed = record { author = 0; deed = deed }
 
 module _ {E : Type 0} (logs : List (List E)) (i : ℕ) (within : i < length logs) (entry : E) where
-  -- the logs
+  -- the logs with the entry put at the end of log i
   abbrev pub set-logs : List (List E)
   set-logs = slice_set logs i (get_or logs i [] ++ entry ∷ [])
 

@@ -5,7 +5,7 @@ use Rattle.std.proofs.lemmas.List.{append-nil}
 use Rattle.weave_data.specs.declared.name.Name.{Name}
 use Rattle.weave_data.specs.Names.{shard_of}
 use Rattle.vector_stamp.specs.declared.clock.Clock.{Clock}
-use Rattle.shard_queue.specs.Sent.{sent_as}
+use Rattle.shard_queue.specs.Outbox.{sent_as}
 use Rattle.program_defs.specs.declared.script.Request.{Request}
 use Rattle.program_defs.specs.declared.script.Script.{Script}
 use Rattle.program_defs.specs.declared.script.Step.{Step}

@@ -85,7 +85,7 @@ step-goes script state step limits range core = at (is_ok (answer_of script stat
     at true = step-goes-on script state limits core step range
     at false = goes-same state.account
 
--- and so do the notices
+-- after a step, the notices begin with those before it
 pub notices-go : (script : Script) (state : CoreState) (step : Step) → IsBeginningOf state.notices (state_after script state step).notices
 notices-go script state step = at (is_ok (answer_of script state step))
   where

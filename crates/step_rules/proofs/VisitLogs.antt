@@ -1,4 +1,5 @@
--- What one more visit leaves of a shard's log: its updates stay, and there is one more read, and one more mark if the oracle made an entry.
+-- With one more visit, the updates of a shard's log stay, and there is one more read, and one more mark if the oracle
+-- made an entry.
 -- Used by VisitStep and crates weave_phase, weaver_core and workers_account.
 use Rattle.std.proofs.Common.{◌≡◌, ◌≢◌, ℕ, zero, suc, ◌<◌, ◌==◌, Bool, true, false, cond, List, [], ◌∷◌, ◌++◌, map, take, length, Contains, Some, inl, inr, refl, sym, ap, ◌∙◌, arith}
 use Rattle.std.specs.Prelude.{filter, slice_get, ◌&&◌}
@@ -80,11 +81,11 @@ module _ (log : List ShardEntry) (r : ℕ) (stamp : Stamp) (v : Name) (k : ℕ) 
       ∙ ap (map read-of) (filter-append (λ (w : Visit). w.request == q) (visits_of log) (visit ∷ []))
       ∙ map-append read-of (filter (λ (w : Visit). w.request == q) (visits_of log)) (filter (λ (w : Visit). w.request == q) (visit ∷ []))
 
-  -- the program has read one more
+  -- a program has read one more after the entry of its visit
   pub reads-more : reads_in r (log ++ entry ∷ []) ≡ reads_in r log ++ read-of visit ∷ []
   reads-more = reads-push r ∙ ap (λ b. reads_in r log ++ map read-of (cond b (visit ∷ []) [])) (eq-eqb r r refl)
 
-  -- any other has read the same
+  -- any other request than the visit's has read the same
   pub reads-stay : (q : ℕ) → q ≢ r → reads_in q (log ++ entry ∷ []) ≡ reads_in q log
   reads-stay q differ = reads-push q ∙ ap (λ b. reads_in q log ++ map read-of (cond b (visit ∷ []) [])) (ne_eqb r q (λ same. differ (sym same))) ∙ append-nil (reads_in q log)
 

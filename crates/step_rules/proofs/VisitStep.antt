@@ -36,6 +36,7 @@ use Rattle.weave_entries.specs.OracleReplay.{oracle_entry_of, settled_entry}
 use Rattle.weave_entries.specs.ShardReplay.{Update, Visit, first_unready, reads_in, updates_of, visit_by, visits_of}
 use Rattle.weave_entries.specs.StoreReplay.{Commit, Judgement, commits_naming, judgements_of, names_vertex}
 use Rattle.weave_entries.specs.StoreRule.{entries_of_settling}
+use Rattle.weave_entries.proofs.OwnStamps.{program-begun}
 use Rattle.weave_account.specs.declared.account.Account.{Account}
 use Rattle.weave_account.specs.Account.{Precedence, all_begun, commits_in, gate_log, is_ended, pairs_in, reads_of, shard_log}
 use Rattle.weave_account.specs.GoesOn.{GoesOn}
@@ -47,7 +48,7 @@ use Rattle.step_rules.specs.CoreState.{CoreState, with_shard_deed}
 use Rattle.step_rules.specs.Entries.{made_entry, seen_in, update_stamps_at}
 use Rattle.step_rules.specs.IsCore.{IsCore}
 use Rattle.step_rules.proofs.Basis.{Basis}
-use Rattle.step_rules.proofs.Begun.{all-in, inside-log, one-begun, program-begun}
+use Rattle.step_rules.proofs.Begun.{all-in, inside-log, one-begun}
 use Rattle.step_rules.proofs.Commits.{all-from, commit-judged}
 use Rattle.step_rules.proofs.FindLists.{pairs-into}
 use Rattle.step_rules.proofs.Frames.{ShardRule, deeds-stay, replies-stay, sends-stay, store-stays}

@@ -11,19 +11,19 @@ use Rattle.step_rules.specs.CoreState.{CoreState}
 use Rattle.step_rules.specs.IsCore.{IsCore}
 
 module _ {script : Script} {account : Account} (is : IsAccount script account) where
-  -- that of a gatekeeper
+  -- the account has the log of each gatekeeper of the script
   pub gate-within : (home : ℕ) → home < script.gates → home < length account.gates
   gate-within home inside = let many = is.gatekeepers.as_many in omega (arith, inside, many)
 
-  -- that of a shard
+  -- the account has the log of each shard of the script
   pub shard-within : (shard : ℕ) → shard < script.shards → shard < length account.shards
   shard-within shard inside = let many = is.shards.as_many in omega (arith, inside, many)
 
 module _ {script : Script} {state : CoreState} (limits : IsWithinLimits script) (core : IsCore script state) where
-  -- that of a request's gatekeeper
+  -- the account has the log of each request's gatekeeper
   pub home-within : (r : ℕ) (request : Request) → request_at script r ≡ Some request → request.gate < length state.account.gates
   home-within r request at = gate-within core.account request.gate (limits.homes r request at)
 
-  -- that of a request's session
+  -- the account has the log of each request's session
   pub session-within : (r : ℕ) (request : Request) → request_at script r ≡ Some request → request.session < length state.account.sessions
   session-within r request at = let many = core.sessions in let less = limits.sessions r request at in omega (arith, many, less)

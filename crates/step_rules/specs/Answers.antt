@@ -2,7 +2,7 @@
 use Rattle.std.specs.Prelude.{ℕ, not, ◌||◌, is_some, nat_lt, Option, None, Some, if◌then◌else◌}
 use Rattle.weave_data.specs.declared.name.Name.{Name}
 use Rattle.weave_data.specs.Names.{shard_of}
-use Rattle.shard_queue.specs.Sent.{sent_as}
+use Rattle.shard_queue.specs.Outbox.{sent_as}
 use Rattle.program_defs.specs.declared.script.Request.{Request}
 use Rattle.program_defs.specs.declared.script.Script.{Script}
 use Rattle.program_defs.specs.declared.script.Step.{Step}

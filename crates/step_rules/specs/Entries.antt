@@ -8,7 +8,7 @@ use Rattle.graph_ops.specs.declared.op.Op.{Op}
 use Rattle.vector_stamp.specs.declared.clock.Clock.{Clock}
 use Rattle.vector_stamp.specs.declared.clock.Stamp.{Stamp}
 use Rattle.vector_stamp.specs.Seeing.{seen_of, last_seen}
-use Rattle.shard_queue.specs.Sent.{sent_as}
+use Rattle.shard_queue.specs.Outbox.{sent_as}
 use Rattle.program_defs.specs.declared.script.Request.{Request}
 use Rattle.program_defs.specs.declared.script.Script.{Script}
 use Rattle.program_defs.specs.declared.script.Step.{Step}

@@ -16,15 +16,17 @@ use Rattle.weave_entries.specs.declared.store_log.StoreEntry.{StoreEntry}
 use Rattle.weave_entries.specs.GateReplay.{BegunRequest, txs_of}
 use Rattle.weave_entries.specs.StoreReplay.{Judgement, commits_of, judged_by, judgements_of}
 use Rattle.weave_entries.specs.StoreRule.{stamps_judged}
+use Rattle.weave_entries.proofs.OwnStamps.{tx-begun}
 use Rattle.backing_store.specs.Commits.{stamps_kept}
 use Rattle.weave_account.specs.declared.account.Account.{Account}
 use Rattle.weave_account.specs.Account.{IsBegunStamp, all_begun, gate_log}
-use Rattle.weave_account.proofs.Beginning.{all-in, tx-begun}
+use Rattle.weave_account.proofs.Beginning.{all-in}
+use Rattle.weave_account.proofs.SeenIds.{IdsDiffer}
 use Rattle.seen_logs.specs.References.{OracleRefersAs}
 use Rattle.seen_logs.specs.Seen.{GatesGoOn, StoreRefersWithin}
 use Rattle.oracle_lock.specs.Seen.{of_gates}
 use Rattle.seen_logs.specs.Entries.{store_entries, store_pairs}
-use Rattle.store_lock.specs.Seen.{store_seen, StoreIsKept}
+use Rattle.store_lock.specs.Seen.{store_seen, IsBegunTx, StoreIsKept}
 
 -- the stamp of a transaction was begun
 pub tx-stamp : (logs : List (List GateEntry)) (home : ℕ) (begun : BegunRequest) → Contains (txs_of (gate_log (of_gates logs) home)) begun
@@ -58,12 +60,6 @@ stamp-stays stays logs more on event h =
 abbrev pub kept_in : List StoreEntry → List Stamp
 kept_in log = stamps_kept (commits_of log)
 
--- a transaction of this author was begun with this stamp, in what these logs show
-abbrev pub IsBegunTx : List (List GateEntry) → ℕ → ℕ → Stamp → Type 0
-IsBegunTx gates author request stamp =
-    (home : ℕ) × Contains (txs_of (gate_log (of_gates gates) home))
-    (record { author = author; request = request; stamp = stamp })
-
 -- what the store keeps, and a stamp that was begun, were begun in what is seen by now
 pub kept-begun : StampsStay → ((log : List StoreEntry) (one : Stamp) → Contains (kept_in log) one → Contains (stamps_judged log) one)
     → (gates more : List (List GateEntry)) (oracle : List OracleEntry) (log : List StoreEntry) (author request : ℕ) (stamp : Stamp)
@@ -80,13 +76,9 @@ kept-begun stays judged gates more oracle log author request stamp refers on beg
 
 -- New stamps
 
--- of two begins, that their stamps have two ids
-abbrev pub OtherIds : BegunRequest → BegunRequest → Type 0
-OtherIds a b = id_of a.stamp ≢ id_of b.stamp
-
 module _ (ids : (shards : ℕ) (seen : Account) → length seen.gates ≤ 8
     → ((home : ℕ) → IsGateLog home shards (gate_log seen home))
-    → AllPairs (λ (a b : BegunRequest). id_of a.stamp ≢ id_of b.stamp) (all_begun seen)) where
+    → AllPairs IdsDiffer (all_begun seen)) where
   -- a transaction whose request its author hasn't had judged has a new stamp
   pub own-new : (shards : ℕ) (gates : List (List GateEntry)) (oracle : List OracleEntry) (log : List StoreEntry)
       (author request : ℕ)
@@ -106,7 +98,7 @@ module _ (ids : (shards : ℕ) (seen : Account) → length seen.gates ≤ 8
           let first : BegunRequest = record { author = its.author; request = its.request; stamp = its.stamp } in
           let second : BegunRequest = record { author = author; request = request; stamp = stamp } in
           let one_id : id_of first.stamp ≡ id_of second.stamp = ap id_of (ap (λ (j : Judgement). j.stamp) entry.2 ∙ judged.2) ∙ same in
-          elim (pairs_cases OtherIds (all_begun (of_gates gates)) (ids shards (of_gates gates) few kept.legal.gate_logs) first second
+          elim (pairs_cases IdsDiffer (all_begun (of_gates gates)) (ids shards (of_gates gates) few kept.legal.gate_logs) first second
           (all-in (of_gates gates) as_seen.home first (tx-begun (get_or gates as_seen.home []) first as_seen.begun))
           (all-in (of_gates gates) begun.0 second (tx-begun (get_or gates begun.0 []) second begun.1))) [
             | inl is ↦ others judged.0 judged.1 (ap (λ (j : Judgement). j.author) (sym entry.2) ∙ ap (λ (b : BegunRequest). b.author) is)

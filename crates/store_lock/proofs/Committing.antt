@@ -132,7 +132,7 @@ module _ (E : Type 0) (author request : ℕ) (stamp : Stamp) (ops : List Op) (ol
     refers (Err fault) judges =
         subst (λ (log : List StoreEntry). AtEachEntry Refers log) (sym judges.store) (older (goes-on (Err fault) judges) judges.begins)
 
-    -- all is still seen
+    -- if the logs are legal after a judgement or its refusal, the store has still seen what its log refers to
     pub commit-keeps : (result : Result Verdict E) → JudgesOver author request stamp ops old new had own has before result → IsStoreLog new
         → IsOracleLog (oracle_entries has) → StoreIsKept shards gates (oracle_entries has) new
     commit-keeps result judges right oracle_right = record {

@@ -6,13 +6,10 @@ ghost use Rattle.vector_stamp.specs.Order.{id_of};
 ghost use Rattle.weave_entries.specs.declared.gate_log.GateEntry.{GateEntry};
 ghost use Rattle.weave_entries.specs.declared.oracle_log.OracleEntry.{OracleEntry};
 ghost use Rattle.weave_entries.specs.declared.store_log.StoreEntry.{StoreEntry};
-ghost use Rattle.weave_entries.specs.GateReplay.{txs_of};
 ghost use Rattle.weave_entries.specs.StoreReplay.{Judgement, judgements_of};
 ghost use Rattle.backing_store.specs.Commits.{stamps_judged};
-ghost use Rattle.weave_account.specs.Account.{gate_log};
-ghost use Rattle.oracle_lock.specs.Seen.{of_gates};
 ghost use Rattle.seen_logs.specs.Entries.{store_entries, store_pairs};
-ghost use Rattle.store_lock.specs.Seen.{StoreIsKept};
+ghost use Rattle.store_lock.specs.Seen.{IsBegunTx, StoreIsKept};
 
 use weave_account::laws::begun_stamps_are_coherent;
 
@@ -21,8 +18,7 @@ use weave_account::laws::begun_stamps_are_coherent;
 pub fn own_transactions_are_new()
     ensures { (shards : ℕ) (gates : List (List GateEntry)) (oracle : List OracleEntry) (log : List StoreEntry)
         (author request : ℕ) (stamp : Stamp) → StoreIsKept shards gates oracle log → length gates ≤ most_gates
-        → ((home : ℕ) × Contains (txs_of (gate_log (of_gates gates) home))
-        (record { author = author; request = request; stamp = stamp }))
+        → IsBegunTx gates author request stamp
         → ((judged : Judgement) → Contains (judgements_of log) judged → judged.author ≡ author
         → judged.request ≢ request)
         → All (λ (judged : Stamp). id_of judged ≢ id_of stamp) (stamps_judged log) }

@@ -36,7 +36,7 @@ ends_after appended read of_earlier pairs earlier later stamp h =
           ])
     ]
 
--- and none is forgotten
+-- if the stamps of joined lists are joined, a stamp of the pairs is one of the pairs with others after them
 pub ends_stay : EndsAppend → (pairs others : List GivenPair) (stamp : Stamp) → Contains (ends_of pairs) stamp → Contains (ends_of (pairs ++ others)) stamp
 ends_stay appended pairs others stamp h = subst (λ (stamps : List Stamp). Contains stamps stamp) (sym (appended pairs others)) (Contains-append_left (ends_of pairs) (ends_of others) stamp h)
 

@@ -27,7 +27,7 @@ front-past front zero k below = absurd (omega (arith, below))
 front-past front (suc place) k below = omega (arith, below)
 
 module _ {A : Type 0} (test : A → Bool) where
-  -- its place has one that passes
+  -- if the last place of those that pass is some place, the element there passes
   pub place-passes : (xs : List A) (n : ℕ) → last_place test xs ≡ suc n → IsSomeAnd (slice_get xs n) (λ x. IsTrue (test x))
   place-passes [] n e = absurd (omega (arith, e))
   place-passes (x ∷ xs) n e = at (last_place test xs) (test x) refl (λ k is. place-passes xs k is) n e
@@ -41,7 +41,7 @@ module _ {A : Type 0} (test : A → Bool) where
       at (suc k) front passes rest zero e = absurd (omega (arith, e))
       at (suc k) front passes rest (suc n) e = rest n (omega (arith, e))
 
-  -- and none that passes is past it
+  -- no element that passes is past the last place
   pub place-past : (xs : List A) (k : ℕ) → IsSomeAnd (slice_get xs k) (λ x. IsTrue (test x)) → k < last_place test xs
   place-past [] k passes = absurd passes
   place-past (x ∷ xs) zero passes = omega (arith, front-first (test x) (last_place test xs) passes)
@@ -91,7 +91,7 @@ module _ (bound : Clock) (chain : ChainView) where
       by zero within some = let one = base (omega (arith, some)) in omega (arith, one)
       by (suc place) within some = omega (arith, within)
 
-  -- no update is forgotten
+  -- a collection leaves the number of updates of the chain, counted with the dropped ones, as it was
   pub same-count : update_count (collected_chain bound chain) ≡ update_count chain
   same-count = omega (arith, older-within, length-drop older chain.kept)
 
@@ -179,7 +179,7 @@ module _ (bound : Clock) (chain : ChainView) where
             settled = list_any (λ update. not (precedes pairs update program)) (same-last i);
           }
 
-    -- no view changes
+    -- a collection leaves what a program sees of the chain as it was
     pub view-stays : (pairs : List GivenPair) → view_of pairs program (collected_chain bound chain) ≡ view_of pairs program chain
     view-stays pairs = elim (cases_lt 0 older) [
       | inl some ↦ same-view pairs some

@@ -70,7 +70,7 @@ module _ (lists : Lists) where
 abbrev pub version_at : Lists → ℕ → Stamp → Version
 version_at lists number stamp = record { stamp = stamp; state = state_at number lists }
 
--- the last of them
+-- the kept versions are those of the stamps before the newest, and then the newest one's
 pub kept_split : (lists : Lists) (before : ℕ) (rest older : List Stamp) (newest : Stamp) → rest ≡ older ++ newest ∷ [] → kept_from before lists rest ≡ kept_from before lists older ++ version_at lists (before + length rest) newest ∷ []
 kept_split lists before rest older newest split =
     let same : before + length older + 1 ≡ before + length rest = omega (arith, ap length split, length-append older (newest ∷ [])) in
@@ -111,7 +111,7 @@ have_on dropped now_dropped before was now (ops ∷ updates) states counts have 
     )
 
 module _ (dropped : ℕ) (lists : Lists) where
-  -- one more update
+  -- if the parts fit the updates, they fit them with one more that isn't refused, gives the next state and is counted
   pub have_more : (before : ℕ) (updates : List (List Op)) (ops : List Op) (last : ℕ) → last ≡ before + length updates → HaveParts dropped before lists updates
       → IsTrue (none_refused ops (state_at last lists)) → state_at (last + 1) lists ≡ state_after_ops ops (state_at last lists) → IsCounted dropped (items_of lists (last + 1)) (changes ops)
       → HaveParts dropped before lists (updates ++ ops ∷ [])

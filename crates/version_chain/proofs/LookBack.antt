@@ -174,12 +174,12 @@ log_seen author (Some other) seen update program read old mid log was now is rea
     ∙ ap (λ (us : List Stamp). log ++ entries_of_call author us program (places_of (additions_from 0 old us program))) (sym read_is)
 log_seen author None seen update program read old mid log was now is read_is same same_log gained = absurd cc
 
--- and by one that skipped: nothing
+-- a look-back that skipped the update adds no pairs
 pub pairs_skipped : (result : Option Seen) (update program : Stamp) (old mid new : List GivenPair) → result ≡ None → mid ≡ old → new ≡ mid ++ pairs_of (additions_from 0 mid (read_of result update) program) program → new ≡ old
 pairs_skipped None update program old mid new is same gained = gained ∙ append-nil mid ∙ same
 pairs_skipped (Some seen) update program old mid new is same gained = absurd cc
 
--- the same of its log
+-- a look-back that skipped the update adds nothing to the judge's log
 pub log_skipped : (author : ℕ) (result : Option Seen) (update program : Stamp) (mid : List GivenPair) (log was now : List SettledEntry) → result ≡ None → was ≡ log → now ≡ was ++ entries_of_call author (read_of result update) program (places_of (additions_from 0 mid (read_of result update) program)) → now ≡ log
 log_skipped author None update program mid log was now is same gained = gained ∙ append-nil was ∙ same
 log_skipped author (Some seen) update program mid log was now is same gained = absurd cc

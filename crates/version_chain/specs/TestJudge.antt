@@ -12,8 +12,8 @@ abbrev pub ends : GivenPair → List Stamp
 ends pair = pair.0 ∷ pair.1 ∷ []
 
 -- each pair joins two of the stamps of the pairs
-pub ends_joined : (pairs : List GivenPair) → JoinsEvents (flat_map ends pairs) pairs
-ends_joined pairs a b has = (
+pub test_ends_joined : (pairs : List GivenPair) → JoinsEvents (flat_map ends pairs) pairs
+test_ends_joined pairs a b has = (
   has_flat ends pairs (a, b) a has (has_head a (b ∷ [])),
   has_flat ends pairs (a, b) b has
       (has_tail a (b ∷ []) b (has_head b [])),

@@ -37,7 +37,7 @@ impl Model for TestJudge {
 impl Judge for TestJudge {
     ghost use Rattle.std.specs.Prelude.{[], false};
     ghost use Rattle.std.specs.List.{flat_map};
-    ghost use Rattle.version_chain.specs.TestJudge.{ends, ends_joined};
+    ghost use Rattle.version_chain.specs.TestJudge.{ends, test_ends_joined};
 
     ghost pairs = { λ judge. judge };
 
@@ -47,7 +47,7 @@ impl Judge for TestJudge {
 
     ghost log_of = { λ judge. [] };
 
-    ghost pairs_known = { ends_joined };
+    ghost pairs_known = { test_ends_joined };
 
     fn settle(
         &mut self,

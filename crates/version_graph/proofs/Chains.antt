@@ -164,7 +164,7 @@ All-last P xs x all = All-contains P (xs ++ x ∷ []) x all (has_last xs x)
 All-front : {A : Type 0} (P : A → Type 0) (xs ys : List A) → All P (xs ++ ys) → All P xs
 All-front P xs ys all k d below = subst P (get_or_append_left xs ys d k below) (all k d (omega (arith, length-append xs ys, below)))
 
--- one part more
+-- if n parts were applied, and the next one is, to a vertex whose chain keeps one version, n + 1 were applied
 pub applied_on : (stamp : Stamp) (parts : List Part) (n : ℕ) (d : Part) (before now next : List (Name × ChainView)) → n < length parts → WereApplied stamp (take n parts) before now
     → ((v : Name) → chain_at v next ≡ after_part stamp v (chain_at v now) (get_or parts n d)) → KeepsOne (chain_or_new (chain_at (get_or parts n d).vertex before)) → WereApplied stamp (take (n + 1) parts) before next
 applied_on stamp parts n d before now next below so_far more base = record {
@@ -228,7 +228,7 @@ get_held (slot ∷ rest) q =
     ∙ ap (cond (same_name q slot.0) (with_updates (Some slot.1))) (get_held rest q)
     ∙ with_updates-cond (same_name q slot.0) slot.1 (lookup (same_name q) rest)
 
--- what the graph has at each vertex
+-- the table has at each vertex the chain that the graph has there
 pub seen_at : (table : List (Name × ChainView)) (chains : Chains) → chains_held table ≡ chains → (v : Name) → chain_at v table ≡ chain_of chains v
 seen_at table chains view v = sym (get_held table v) ∙ ap (λ (c : Chains). chain_of c v) view
 
@@ -286,7 +286,7 @@ pub none_left : (stamp : Stamp) (rest : List Part) (before now : List (Name × C
 none_left stamp [] before now none were = were.applied
 none_left stamp (part ∷ parts) before now none were = absurd (omega (arith, none))
 
--- what a look-up gives a caller
+-- what a look-up finds, with its updates, is the chain that the graph has there
 pub chain_found : (v : Name) (table : List (Name × ChainView)) (chains : Chains) (x : Option ChainView) → chains_held table ≡ chains → lookup (same_name v) table ≡ x → with_updates x ≡ chain_of chains v
 chain_found v table chains x view found = ap with_updates (sym found) ∙ seen_at table chains view v
 

@@ -29,7 +29,7 @@ module _ (bound : Clock) (same_count : (chain : ChainView) → update_count (col
       by true = refl
       by false = refl
 
-  -- what the table has at each vertex
+  -- after a collection of all slots, the table has at each vertex its chain collected
   pub collected-at : (before after : List (Name × ChainView)) → after ≡ map (λ (slot : Name × ChainView). (slot.0, collected_chain bound slot.1)) before → (v : Name) → chain_at v after ≡ option_map (collected_chain bound) (chain_at v before)
   collected-at before after is v =
       ap (chain_at v) is
@@ -41,7 +41,7 @@ pub collected-graph : (bound : Clock) (before after : List (Name × ChainView)) 
 collected-graph bound before after chains next view view_next is v =
     sym (seen_at after next view_next v) ∙ is v ∙ ap (option_map (collected_chain bound)) (seen_at before chains view v)
 
--- and so no view changes
+-- if a collection changes no view of a chain, it changes none of a vertex, present or not
 pub views-stay : (bound : Clock) (pairs : List GivenPair) (program : Stamp) → ((chain : ChainView) → view_of pairs program (collected_chain bound chain) ≡ view_of pairs program chain) → (before after : Option ChainView) → after ≡ option_map (collected_chain bound) before → view_of pairs program (chain_or_new after) ≡ view_of pairs program (chain_or_new before)
 views-stay bound pairs program same before after is = ap (λ (chain : Option ChainView). view_of pairs program (chain_or_new chain)) is ∙ by before
   where

@@ -79,7 +79,7 @@ total_ones : {A : Type 0} (es : List (Name × A)) → total (λ (value : A). 1) 
 total_ones [] = refl
 total_ones (e ∷ es) = let rest = total_ones es in omega (arith, rest)
 
--- the first of what is left of a list by name
+-- the total from a place on is the number of the element there and the total from the next place
 pub total_split : {A : Type 0} (f : A → ℕ) (es : List (Name × A)) (place : ℕ) (e : Name × A) → place < length es → e ≡ get_or es place e → total f (drop place es) ≡ f e.1 + total f (drop (place + 1) es)
 total_split {A} f es place e inside is =
     ap (total f) (drop-cons es place e inside)

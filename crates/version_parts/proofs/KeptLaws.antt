@@ -89,7 +89,7 @@ module _ {X : Type 0} (key : Name) where
         | false ↦ λ h. of_key P es value all.1 h
       ] there
 
-  -- and of all with one more
+  -- what holds of a value and of all values of a map holds of all of them when it is put in
   pub all_put : (P : X → Type 0) (value : X) (pairs : List (Name × X)) → P value → AllByRecursion (λ (pair : Name × X). P pair.1) pairs → AllByRecursion (λ (pair : Name × X). P pair.1) (put key value pairs)
   all_put P value [] here all = (here, tt)
   all_put P value (e ∷ es) here all =
@@ -164,7 +164,7 @@ module _ {A B : Type 0} (f : A → Option B) where
   kept_alike g same [] = refl
   kept_alike g same (e ∷ es) = let rest : kept_values f es ≡ kept_values g es = kept_alike g same es in λ i. with_value e.0 (same e.1 i) (rest i)
 
-  -- one function after another
+  -- to keep values by f and then by g is to keep them by f followed by g
   pub kept_twice : {C : Type 0} (g : B → Option C) (es : List (Name × A)) → kept_values g (kept_values f es) ≡ kept_values (λ (value : A). option_and_then g (f value)) es
   kept_twice g [] = refl
   kept_twice {C} g (e ∷ es) =

@@ -22,7 +22,7 @@ module _ {X : Type 0} (key : Name) (pairs held after : List (Name × X)) (empty 
   pub as_before : IsRising pairs → at_key key pairs ≡ Some was → after ≡ put key now held → now ≡ was → after ≡ pairs
   as_before rising there back_in same = put_again back_in ∙ ap (λ (value : X). put key value pairs) same ∙ put_same key was pairs rising there
 
--- a list of items
+-- a list of items swapped out, pushed to and put back gives the tracks with one more item at its key
 pub item_added : (key : Name) (item : Item Name) (tracks held after : Tracks) (empty was now : List (Item Name)) → held ≡ put key empty tracks → at_key key tracks ≡ Some was → after ≡ put key now held → now ≡ was ++ item ∷ [] → after ≡ with_item key item tracks
 item_added key item tracks held after empty was now out there back_in is =
     put_again key tracks held after empty was now out back_in

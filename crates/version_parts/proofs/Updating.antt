@@ -1,4 +1,4 @@
--- An update, item by item.
+-- An update under way: one item more, all items, and an update that is taken back.
 -- Used by `add_ops` and `add_update`.
 use Rattle.std.proofs.Common.{◌≡◌, ◌≤◌, ◌<◌, ◌+◌, inl, inr, ℕ, suc, Bool, true, false, ◌&&◌, cond, List, [], ◌∷◌, drop, length, get_or, IsTrue, is_ok, refl, sym, ap, ◌∙◌, subst, arith, add-one, drop-cons}
 use Rattle.std.specs.Prelude.{nat_le}

@@ -55,6 +55,6 @@ collected_state = refl
 pub hidden_is_dropped : collected_lists 1 made_again ≡ record { presence = record { time = record { update = 1; place = 3 }; value = Some tt } ∷ []; props = []; edges = [] }
 hidden_is_dropped = refl
 
--- and one that is taken back leaves what was before
+-- taking back the second update leaves the four items of the first
 pub taken_back : count_in_lists (lists_until 1 set_again) ≡ 4
 taken_back = refl

@@ -37,7 +37,7 @@ module _ (laws : LawsForAccounts) where
         | inr more ↦ rest (pairs ++ (first, later) ∷ []) (grows pairs ((first, later) ∷ []) event later before) more
       ]
 
-  -- so it is added for at its first place
+  -- an event is added for at its first place, never at a later one
   pub first-place : (n : ℕ) (pairs : List GivenPair) (events : List Stamp) (later event : Stamp) (place q : ℕ)
       → Contains (additions_from n pairs events later) (place, event) → slice_get events q ≡ Some event → n + q < place → ⊥
   first-place n pairs [] later event place q h e less = cc

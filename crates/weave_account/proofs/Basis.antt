@@ -18,11 +18,11 @@ pub record BasisWith (Laws : Type 0) (script : Script) (account : Account) : Typ
 abbrev pub Basis : Script → Account → Type 0
 Basis script account = BasisWith LawsForAccounts script account
 
--- so it is given by a law's premises
+-- what lemmas on an account are given follows from its script's limits and the laws of the crates below
 pub based : {Laws : Type 0} {script : Script} {account : Account} → Laws → IsWithinLimits script → IsAccount script account
     → BasisWith Laws script account
 based laws limits is = record { laws = laws; limits = limits; is = is }
 
--- nothing precedes itself
+-- in an account within the script's limits, no stamp precedes itself
 pub acyclic : (script : Script) (account : Account) → Basis script account → IsAcyclic (pairs_in account)
 acyclic script account basis = basis.laws.acyclic account.oracle basis.is.oracle.log

@@ -7,6 +7,7 @@ use Rattle.weave_data.proofs.Members.{has_head, has_tail, has_none, has_flat}
 use Rattle.vector_stamp.specs.declared.clock.Stamp.{Stamp}
 use Rattle.weave_entries.specs.declared.gate_log.GateEntry.{GateEntry}
 use Rattle.weave_entries.specs.GateReplay.{BegunRequest, tx_by, program_by, txs_of, programs_of, begun_in}
+use Rattle.weave_entries.proofs.OwnStamps.{program-begun, tx-begun}
 use Rattle.weave_account.specs.declared.account.Account.{Account}
 use Rattle.weave_account.specs.Account.{gate_log, all_begun, stamp_of}
 use Rattle.weave_data.proofs.Images.{flat-has}
@@ -18,20 +19,6 @@ pub list-there : {A : Type 0} (xss : List (List A)) (i : ℕ) (y : A) → Contai
 list-there [] i y h = absurd (has_none y h)
 list-there (xs ∷ xss) zero y h = has_head xs xss
 list-there (xs ∷ xss) (suc i) y h = has_tail xs xss (get_or xss i []) (list-there xss i y h)
-
--- what was begun as a transaction is among all that was begun
-pub tx-begun : (log : List GateEntry) (begun : BegunRequest) → Contains (txs_of log) begun → Contains (begun_in log) begun
-tx-begun log begun h =
-    let from = flat-has (λ (entry : GateEntry). tx_by entry.author entry.deed) log begun h in
-    has_flat (λ (entry : GateEntry). tx_by entry.author entry.deed ++ program_by entry.author entry.deed) log from.0 begun from.1.0
-    (Contains-append_left (tx_by (from.0).author (from.0).deed) (program_by (from.0).author (from.0).deed) begun from.1.1)
-
--- what was begun as a program is among all that was begun
-pub program-begun : (log : List GateEntry) (begun : BegunRequest) → Contains (programs_of log) begun → Contains (begun_in log) begun
-program-begun log begun h =
-    let from = flat-has (λ (entry : GateEntry). program_by entry.author entry.deed) log begun h in
-    has_flat (λ (entry : GateEntry). tx_by entry.author entry.deed ++ program_by entry.author entry.deed) log from.0 begun from.1.0
-    (Contains-append_right (tx_by (from.0).author (from.0).deed) (program_by (from.0).author (from.0).deed) begun from.1.1)
 
 -- what was begun at one gatekeeper was begun
 pub all-in : (account : Account) (home : ℕ) (begun : BegunRequest) → Contains (begun_in (gate_log account home)) begun
@@ -61,7 +48,7 @@ module _ (account : Account) (once : AllPairs (λ (a b : BegunRequest). a.reques
       → stamp_of account r ≡ Some stamp
   tx-stamp home author r stamp h = begun-stamp _ (all-has home _ (tx-begun (gate_log account home) _ h))
 
-  -- and so has a program
+  -- if a gatekeeper's log begins a program, the account has the stamp of that begin for its request
   pub program-stamp : (home author r : ℕ) (stamp : Stamp)
       → Contains (programs_of (gate_log account home)) (record { author = author; request = r; stamp = stamp })
       → stamp_of account r ≡ Some stamp

@@ -32,8 +32,9 @@ use Rattle.weave_account.specs.Seen.{IsMade}
 use Rattle.weave_account.specs.Store.{IsRightVerdict, Judges}
 use Rattle.weave_entries.specs.SessionReplay.{session_of}
 use Rattle.weave_entries.specs.StoreReplay.{commits_of}
+use Rattle.weave_entries.proofs.OwnStamps.{tx-begun}
 use Rattle.weave_account.proofs.Basis.{Basis}
-use Rattle.weave_account.proofs.Beginning.{all-in, tx-begun}
+use Rattle.weave_account.proofs.Beginning.{all-in}
 use Rattle.weave_account.proofs.Heads.{arrived-sent}
 use Rattle.weave_account.proofs.InSession.{last-begun}
 use Rattle.weave_data.proofs.Images.{flat-has, map-has}
@@ -69,13 +70,13 @@ module _ (script : Script) (account : Account) (basis : Basis script account) wh
       let b = begin-of script account basis r stamp e in
       subst (Contains (begun_stamps account)) b.3 (has_map (λ (b : BegunRequest). b.stamp) (all_begun account) b.0 b.1)
 
-  -- that of a judgement
+  -- the stamp of each judgement in the store's log is that of a begun request
   pub judged-stamp : (judged : Judgement) → Contains (judgements_of account.store) judged → IsBegunStamp account judged.stamp
   judged-stamp judged h =
       let b = judged-begun script account basis judged h in
       subst (Contains (begun_stamps account)) b.3 (has_map (λ (b : BegunRequest). b.stamp) (all_begun account) b.0 b.1)
 
-  -- that of what a session began last
+  -- the stamp that a session began last is that of a begun request
   pub last-stamped : (session : ℕ) (stamp : Stamp) → (session_of [] (session_log account session)).last ≡ Some stamp
       → IsBegunStamp account stamp
   last-stamped session stamp e = let r = last-begun script account basis session stamp e in stamped-begun r.0 stamp r.1
@@ -99,7 +100,7 @@ module _ (script : Script) (account : Account) (basis : Basis script account) wh
       ∙ ap (λ (m : Message). m.stamp) made.message_is in
       subst (IsBegunStamp account) stamp (judged-stamp made.judged made.is_judged)
 
-  -- that of an update
+  -- the stamp of each update applied at a shard is that of a begun request
   pub update-stamp : (v : Name) (shard : ℕ) (update : Update) → Contains (updates_of v (shard_log account shard)) update
       → IsBegunStamp account update.stamp
   update-stamp v shard update h =
@@ -124,7 +125,7 @@ module _ (script : Script) (account : Account) (basis : Basis script account) wh
       let place = cut_at account.store from.of from.has in
       (place.before, subst (Judges script account place.before) from.is (basis.is.store.judges place.before from.of place.after place.is))
 
-  -- it is the transaction of its request
+  -- what was judged is the transaction that the script has for that request
   pub judged-work : (judged : Judgement) → Contains (judgements_of account.store) judged
       → IsSomeAnd (request_at script judged.request) (λ (request : Request). request.work ≡ Change judged.ops)
   judged-work judged h = (judged-rule judged h).1.work
@@ -143,7 +144,7 @@ module _ (script : Script) (account : Account) (basis : Basis script account) wh
   right-counts before stamp ops (Conflict v newer) right = tt
   right-counts before stamp ops (Refused op reason at) right = tt
 
-  -- and its verdict counts the vertices that it names
+  -- the verdict of each judgement counts the vertices that its operations name
   pub judged-counts : (judged : Judgement) → Contains (judgements_of account.store) judged → IsCountsOf judged.ops judged.verdict
   judged-counts judged h =
       let rule = judged-rule judged h in right-counts (commits_of rule.0) judged.stamp judged.ops judged.verdict rule.1.verdict

@@ -272,7 +272,7 @@ module _ (laws : LawsForAccounts) (gates shards : ℕ) (seen : Account) (shard :
         laws.low_marks home shards shard (gate_log seen home) (omega (arith, inside, few)) (sent.logs home) message
         (arrived-there home (processed_count home log) message e) program running
 
-    -- so the bound of the shard is
+    -- the bound of the shard's collection is at most the stamp of each program that is running
     pub below-program : (bound : Clock) → bound_of gates log ≡ Some bound → IsTrue (is_at_most bound program.stamp.clock)
     below-program bound e =
         let low = all (map (low-of log) (range_with_len 0 gates)) low-eight e (low-of log home) own in

@@ -208,7 +208,7 @@ module _ (script : Script) (account : Account) (basis : Basis script account) (r
         convert (sym (same-precedence script account report reported.matches basis r newer)) precedes,
       )
 
-  -- the clause on conflicts
+  -- the report of an account satisfies the clause on conflicts
   pub conflicts : AllHold (conflicts_clause script report)
   conflicts =
       each-holds (λ (reply : Reply). IsConflictInPlace script report reply.request reply.state) report.replies

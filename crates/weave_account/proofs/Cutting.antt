@@ -42,8 +42,7 @@ module _ (P : ℕ → ℕ → Type 0) (not-both : (a b : ℕ) → P a b → P b 
   module _ (test : ℕ → Bool) (commits order : List ℕ) (sorted : IsSorted P (filter test commits)) (keeps : IsSorted (IsNotAfter P) order)
       (listed : (n : ℕ) → IsTrue (is_in n commits) → IsTrue (is_in n order))
       (committed : (n : ℕ) → IsTrue (is_in n order) → IsTrue (test n) → IsTrue (is_in n commits)) where
-    -- with c at its place in the order, and the commits that pass the test parted into those that precede c and the
-    -- others
+    -- if commits that pass are some preceding c, then c or some that c precedes, those listed before c are the former
     pub cut : (c : ℕ) (before after first rest : List ℕ) → order ≡ before ++ c ∷ after → filter test commits ≡ first ++ rest
         → ((n : ℕ) → IsTrue (is_in n first) → P n c) → ((n : ℕ) → IsTrue (is_in n rest) → (n ≡ c) ⊎ P c n)
         → filter test before ≡ first

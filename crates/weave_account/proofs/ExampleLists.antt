@@ -13,24 +13,24 @@ module _ {E : Type 0} (P : List E → E → Type 0) where
   pub one : (a : E) → P [] a → AtEachEntry P (a ∷ [])
   one a pa = each_push P [] a (each_none P) pa
 
-  -- a log of two
+  -- what holds of each of two entries, with those before it, holds at each entry of the log of the two
   pub two : (a b : E) → P [] a → P (a ∷ []) b → AtEachEntry P (a ∷ b ∷ [])
   two a b pa pb = each_push P (a ∷ []) b (one a pa) pb
 
-  -- a log of three
+  -- what holds of each of three entries, with those before it, holds at each entry of the log of the three
   pub three : (a b c : E) → P [] a → P (a ∷ []) b → P (a ∷ b ∷ []) c → AtEachEntry P (a ∷ b ∷ c ∷ [])
   three a b c pa pb pc = each_push P (a ∷ b ∷ []) c (two a b pa pb) pc
 
-  -- a log of four
+  -- what holds of each of four entries, with those before it, holds at each entry of the log of the four
   pub four : (a b c d : E) → P [] a → P (a ∷ []) b → P (a ∷ b ∷ []) c → P (a ∷ b ∷ c ∷ []) d → AtEachEntry P (a ∷ b ∷ c ∷ d ∷ [])
   four a b c d pa pb pc pd = each_push P (a ∷ b ∷ c ∷ []) d (three a b c pa pb pc) pd
 
-  -- a log of five
+  -- what holds of each of five entries, with those before it, holds at each entry of the log of the five
   pub five : (a b c d e : E) → P [] a → P (a ∷ []) b → P (a ∷ b ∷ []) c → P (a ∷ b ∷ c ∷ []) d → P (a ∷ b ∷ c ∷ d ∷ []) e
       → AtEachEntry P (a ∷ b ∷ c ∷ d ∷ e ∷ [])
   five a b c d e pa pb pc pd pe = each_push P (a ∷ b ∷ c ∷ d ∷ []) e (four a b c d pa pb pc pd) pe
 
-  -- a log of six
+  -- what holds of each of six entries, with those before it, holds at each entry of the log of the six
   pub six : (a b c d e f : E) → P [] a → P (a ∷ []) b → P (a ∷ b ∷ []) c → P (a ∷ b ∷ c ∷ []) d → P (a ∷ b ∷ c ∷ d ∷ []) e
       → P (a ∷ b ∷ c ∷ d ∷ e ∷ []) f → AtEachEntry P (a ∷ b ∷ c ∷ d ∷ e ∷ f ∷ [])
   six a b c d e f pa pb pc pd pe pf = each_push P (a ∷ b ∷ c ∷ d ∷ e ∷ []) f (five a b c d e pa pb pc pd pe) pf

@@ -86,7 +86,7 @@ empty-message stamp low = record { request = None; stamp = stamp; low = low; par
 
 -- A transaction that creates v, as request 0
 
--- its operations
+-- the operations of the transaction: it creates v
 abbrev pub creates : List Op
 creates = Create v ∷ []
 
@@ -98,15 +98,15 @@ change = transaction (codes "t") 0 0 creates
 abbrev pub creation : Part
 creation = record { vertex = v; before = 0; ops = creates }
 
--- its message
+-- the message that brings the transaction's one part to a shard
 abbrev pub creating : Stamp → Message
 creating stamp = record { request = Some 0; stamp = stamp; low = stamp.clock; parts = creation ∷ [] }
 
--- its verdict, as the first commit
+-- the verdict on the transaction, as the first commit
 abbrev pub created : Verdict
 created = Committed 1 [] (record { vertex = v; before = 0 } ∷ [])
 
--- the store judges it
+-- the store's entry that judges the transaction as committed
 abbrev pub judges-creation : Stamp → StoreEntry
 judges-creation stamp = at-store (Judged 0 stamp creates [] created)
 
@@ -138,16 +138,16 @@ two-known account a b la lb = clock-known account 0 a b 0 la lb (omega arith) (�
 
 -- Two gatekeepers that each began a transaction and sent it
 
--- what each does
+-- the log of a gatekeeper that begins a transaction and sends messages for it
 abbrev pub begins-and-sends : ℕ → Stamp → List Addressed → List GateEntry
 begins-and-sends r stamp messages = at-gate (BeganTx r stamp) ∷ at-gate (Sent r messages) ∷ []
 
 module _ (x y : Stamp) (of-x of-y : List Addressed) where
-  -- their logs
+  -- the logs of the two gatekeepers, which begin and send requests 0 and 1
   abbrev pub two-gates : List (List GateEntry)
   two-gates = begins-and-sends 0 x of-x ∷ begins-and-sends 1 y of-y ∷ []
 
-  -- they hear nothing
+  -- each of the two logs keeps the rule on hearing, as it hears no clock
   pub two-hear : (home : ℕ) → HearsNoMore home (get_or two-gates home [])
   two-hear zero = two (λ before (entry : GateEntry). HearsAs 0 before entry.deed) (at-gate (BeganTx 0 x)) (at-gate (Sent 0 of-x)) tt tt
   two-hear (suc zero) = two (λ before (entry : GateEntry). HearsAs 1 before entry.deed) (at-gate (BeganTx 1 y)) (at-gate (Sent 1 of-y)) tt tt

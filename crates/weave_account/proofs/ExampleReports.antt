@@ -130,7 +130,7 @@ module _ (laws : LawsForAccounts) where
   pub report-of-writers : IsReportOfAccount writers.script writers.account (report-of of-writers (first-then-second ∷ []) (0 ∷ 1 ∷ []))
   report-of-writers = record { matches = writers-match (0 ∷ 1 ∷ []); order = writers-printed (0 ∷ 1 ∷ []) }
 
-  -- no other order is its printed one
+  -- the two exchanged are not its printed order
   pub other-order : ¬ IsReportOfAccount writers.script writers.account (report-of of-writers (first-then-second ∷ []) (1 ∷ 0 ∷ []))
   other-order is =
       let first : 0 ≡ 1 = same-first 0 1 (1 ∷ []) (0 ∷ []) (laws.one_order _ (0 ∷ 1 ∷ []) (1 ∷ 0 ∷ []) (writers-printed (1 ∷ 0 ∷ [])) is.order) in

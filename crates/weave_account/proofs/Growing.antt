@@ -1,4 +1,4 @@
--- What is said of an entry stays true while other logs go on.
+-- What is said of an entry, a stamp, a clock or a pair stays true when the logs go on.
 -- Used by `facts_stay_true`, PhasePrecedence, Ticking and VisitsStay.
 use Rattle.std.proofs.Common.{zero, suc, ◌≡◌, ℕ, List, ◌++◌, Contains, sym, ap, subst, ◌∙◌, AllPairs, ◌≢◌, [], ◌∷◌, Option, None, Some, refl, inl, inr, ◌-◌, ◌==◌, append_assoc, Bool, IsTrue, ◌+◌, ◌<◌, arith}
 use Rattle.std.specs.List.{flat_map, find, range_with_len}
@@ -64,7 +64,7 @@ use Rattle.weave_account.proofs.Additions.{more-precedes}
 use Rattle.weave_data.proofs.Counting.{count-more}
 
 module _ (script : Script) (account next : Account) (on : GoesOn account next) where
-  -- precedence grows
+  -- if one stamp precedes another, it still does when the account goes on
   pub precedence-stays : (a b : Stamp) → Precedence account a b → Precedence next a b
   precedence-stays a b h =
       let pairs : pairs_in next ≡ pairs_in account ++ pairs_of_log (on.oracle).0 =
@@ -78,7 +78,7 @@ module _ (script : Script) (account next : Account) (on : GoesOn account next) w
       subst (λ xs. Contains xs x) (sym (ap (flat_map f) more.1 ∙ flat_map-append f (gate_log account home) more.0))
       (Contains-append_left (flat_map f (gate_log account home)) (flat_map f more.0) x h)
 
-  -- what a gatekeeper's log has, the logs of all have
+  -- what the gatekeepers' logs had, they still have
   all-stays : {B : Type 0} (f : GateEntry → List B) (x : B) → Contains (flat_map (flat_map f) account.gates) x
       → Contains (flat_map (flat_map f) next.gates) x
   all-stays f x h =
@@ -93,7 +93,7 @@ module _ (script : Script) (account next : Account) (on : GoesOn account next) w
   ended-stays r done =
       in-has (flat_map ended_in next.gates) r (all-stays (λ (e : GateEntry). ended_by e.deed) r (has-in (flat_map ended_in account.gates) r done))
 
-  -- a reply stays right
+  -- a session's entry that replies rightly still does when the account goes on
   pub reply-stays : (deed : SessionDeed) → RepliesAs account deed → RepliesAs next deed
   reply-stays (session.Begun r stamp) right = tt
   reply-stays (session.Replied r) right = ended-stays r right
@@ -140,7 +140,7 @@ module _ (script : Script) (account next : Account) (on : GoesOn account next) w
       record { named = right.named; last = right.last; last_is = right.last_is; newer_is = right.newer_is; precedes = precedence-stays stamp (right.last).stamp right.precedes }
   verdict-stays before stamp ops (Refused op reason at) right = record { at_is = right.at_is; refused = right.refused }
 
-  -- a judgement stays right
+  -- a right judgement of the store is still right when the account goes on
   pub judges-stay : (before : List StoreEntry) (judged : Judgement) → Judges script account before judged
       → Judges script next before judged
   judges-stay before judged rule =
@@ -152,7 +152,7 @@ module _ (script : Script) (account next : Account) (on : GoesOn account next) w
         verdict = verdict-stays (commits_of before) judged.stamp judged.ops judged.verdict rule.verdict;
       }
 
-  -- the same holds of what was sent
+  -- a gatekeeper's entry that sends rightly still does when the account goes on
   pub sends-stay : (before : List GateEntry) (author : ℕ) (deed : GateDeed) → SendsAs account script.shards before author deed
       → SendsAs next script.shards before author deed
   sends-stay before author (Sent r messages) sends =
@@ -169,7 +169,7 @@ module _ (script : Script) (account next : Account) (on : GoesOn account next) w
   sends-stay before author (Raised epoch) sends = tt
   sends-stay before author (Finished r) sends = tt
 
-  -- and what was done at a shard
+  -- a shard's entry that fits the account still does when the account goes on
   pub shard-stays : (shard : ℕ) (before : List ShardEntry) (deed : ShardDeed) → ShardFitsAs script account shard before deed
       → ShardFitsAs script next shard before deed
   shard-stays shard before (Arrived home number message) fits =
@@ -188,7 +188,7 @@ module _ (script : Script) (account next : Account) (on : GoesOn account next) w
       }
   shard-stays shard before (Collected bound) fits = fits
 
-  -- what was begun stays begun, with its stamp, if each request is begun at most once
+  -- what was begun stays begun, with its stamp
   pub begun-stays : (b : BegunRequest) → Contains (all_begun account) b → Contains (all_begun next) b
   begun-stays b h =
       let log = flat-has begun_in account.gates b h in
@@ -290,7 +290,7 @@ module _ (script : Script) (account next : Account) (on : GoesOn account next) w
           small = own.small;
         }
 
-    -- a begin stays right
+    -- if sessions' requests rise, an entry that begins rightly, with the request's stamp, still does when logs go on
     pub begins-stay : SessionsRise script account → (home : ℕ) (before : List GateEntry) (deed : GateDeed)
         → ((r : ℕ) (stamp : Stamp) → (deed ≡ BeganTx r stamp) ⊎ (deed ≡ BeganProgram r stamp) → stamp_of account r ≡ Some stamp)
         → BeginsAs script account home before deed → BeginsAs script next home before deed
@@ -304,7 +304,7 @@ module _ (script : Script) (account next : Account) (on : GoesOn account next) w
     begins-stay rise home before (Raised epoch) begun begins = tt
     begins-stay rise home before (Finished r) begun begins = tt
 
--- the begin of an entry has its stamp
+-- a request that an entry begins has that entry's stamp, if each request is begun at most once
 pub entry-begun : (account : Account) → AllPairs (λ (a b : BegunRequest). a.request ≢ b.request) (all_begun account)
     → (home : ℕ) (before : List GateEntry) (entry : GateEntry) (after : List GateEntry)
     → gate_log account home ≡ before ++ entry ∷ after

@@ -1,5 +1,5 @@
--- A head whose counts agree passes on the newest states of its vertices. It rests on the clauses on channels, the
--- store and shards, and of these on what a hand can have seen, and on "the updates applied are the first commits".
+-- A head whose counts agree passes on the newest states of its vertices. It rests on the clauses on channels, store and
+-- shards, on what a hand can have seen, and on "the updates applied are the first commits".
 -- Used by `accounts_were_seen`, `collections_leave_what_programs_see`, `heads_pass` and 5 more.
 use Rattle.std.proofs.Common.{◌≡◌, ℕ, true, false, cond, List, [], ◌∷◌, ◌++◌, map, take, length, Contains, IsTrue, Some, None, inl, inr, refl, sym, ap, subst, ◌∙◌, arith}
 use Rattle.std.specs.Prelude.{Ok, is_ok}
@@ -226,14 +226,14 @@ module _ (laws : LawsForAccounts) (shards : ℕ) (store : List StoreEntry) (shar
         | inr update ↦ by-update v here m part update (waits-none store v WasMade (brings-of v here) m log waits part h (same_name-refl v)) in-filter
       ]
 
-  -- so a head passes whole
+  -- a message that has arrived passes as a whole, if it waits for no update
   pub head-passes-at : (home n : ℕ) (m : Message) → arrived_at home n log ≡ Some m → waits_at m log ≡ None → PassesAt log m
   head-passes-at home n m arrived waits =
       All-from_recursion (λ (part : Part). IsTrue (none_refused part.ops (state_of_updates (updates_of part.vertex log)))) m.parts
       (all-from (λ (part : Part). IsTrue (none_refused part.ops (state_of_updates (updates_of part.vertex log)))) m.parts
       (λ part h. head-passes home n m arrived waits part h))
 
-  -- and its vertices are kept in the shard
+  -- the vertex of each part of a message that has arrived is kept at the shard
   pub head-kept : (home n : ℕ) (m : Message) → arrived_at home n log ≡ Some m → (part : Part) → Contains m.parts part
       → shard_of part.vertex shards ≡ shard
   head-kept home n m arrived part h = made-kept shards store shard m (arrived-was-sent WasMade log takes home n m arrived) part h

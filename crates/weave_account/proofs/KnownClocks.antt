@@ -82,7 +82,7 @@ module _ (laws : LawsForAccounts) (account : Account) where
       meet-epoch : (a b : Clock) → a.epoch ≡ b.epoch → (meet_of a b).epoch ≡ a.epoch
       meet-epoch a b same = rw (not-less a.epoch b.epoch same, not-less b.epoch a.epoch (sym same)) refl
 
-  -- the same holds of a known clock that heard another known one
+  -- a known clock of a gatekeeper below 8 that hears another known one is known
   pub hearing-known : (home : ℕ) → home < 8 → (clock heard : Clock) → IsKnown account clock → IsKnown account heard
       → IsKnown account (clock_after_hearing home clock heard)
   hearing-known home below clock heard kc kh =
@@ -144,7 +144,7 @@ module _ (laws : LawsForAccounts) (account : Account) where
           max-less : (a b : ℕ) → a < b → max a b ≡ b
           max-less a b less = omega (arith, less)
 
-  -- the same holds of the low mark of a known stamp and known running programs
+  -- the meet of a known clock with those of known running programs is known
   pub low-known : (clock : Clock) (running : List BegunRequest) → IsKnown account clock
       → ((begun : BegunRequest) → Contains running begun → IsKnown account begun.stamp.clock)
       → IsKnown account (fold (λ low (begun : BegunRequest). meet_of low begun.stamp.clock) clock running)
@@ -221,19 +221,19 @@ module _ (script : Script) (account : Account) (basis : Basis script account) wh
 
   -- Other logs
 
-  -- the clock of a begun request
+  -- the clock of the stamp of each begun request is known
   pub begun-known : (b : BegunRequest) → Contains (all_begun account) b → IsKnown account b.stamp.clock
   begun-known b h =
       let right = begun-rightly script account basis b h in
       basis.is.clocks.known right.home b.stamp.clock (clock-there (gate_log account right.home) b right.there)
 
-  -- that of a judgement
+  -- the clock of the stamp of each judgement in the store's log is known
   pub judged-known : (judged : Judgement) → Contains (judgements_of account.store) judged → IsKnown account judged.stamp.clock
   judged-known judged h =
       let b = judged-begun script account basis judged h in
       subst (λ (s : Stamp). IsKnown account s.clock) b.3 (begun-known b.0 b.1)
 
-  -- that of a visit
+  -- the clock of the stamp of each visit in a shard's log is known
   pub visit-known : (shard : ℕ) (visit : Visit) → Contains (visits_of (shard_log account shard)) visit
       → IsKnown account visit.stamp.clock
   visit-known shard visit h =
@@ -251,7 +251,7 @@ module _ (script : Script) (account : Account) (basis : Basis script account) wh
   deed-clocks (Raised epoch) a h clock k = absurd (has_none a h)
   deed-clocks (Finished r) a h clock k = absurd (has_none a h)
 
-  -- those of a message that was sent, wherever it is
+  -- the clocks of a message that was sent to a shard are known
   pub sent-known : (shard home : ℕ) (a : Addressed) → Contains (addressed_to shard (gate_log account home)) a → (clock : Clock)
       → Contains (clocks_of_message a) clock → IsKnown account clock
   sent-known shard home a h clock k =
@@ -266,7 +266,7 @@ module _ (script : Script) (account : Account) (basis : Basis script account) wh
       let b = begin-of script account basis r stamp e in subst (λ (s : Stamp). IsKnown account s.clock) b.3 (begun-known b.0 b.1)
 
   module _ (shard : ℕ) (log : List ShardEntry) (each : AreShardDeeds script account shard log) where
-    -- those of a message that arrived: its stamp's, and its low mark
+    -- the clock of the stamp of a message that arrived is known, and so is its low mark
     pub message-known : (home number : ℕ) (message : Message) → arrived_at home number log ≡ Some message
         → IsKnown account message.stamp.clock × IsKnown account message.low
     message-known home number message e =
@@ -369,14 +369,14 @@ module _ (script : Script) (account : Account) (basis : Basis script account) wh
       at (inr visit) (inr earlier) =
           seen-begun visit.shard visit.visit visit.visited stamp (subst (λ xs. Contains xs stamp) visit.earlier_is earlier)
 
-  -- so their clocks are known
+  -- the clocks of the stamps that an entry of the oracle names, later and earlier ones, are known
   pub settled-known : (entry : OracleEntry) → Contains account.oracle entry → (stamp : Stamp)
       → Contains ((settled_entry entry).later ∷ (settled_entry entry).earlier) stamp → IsKnown account stamp.clock
   settled-known entry h stamp k = let found = settled-begun entry h stamp k in stamped-known found.0 stamp found.1
 
   -- Sessions, and collections in the middle of a log
 
-  -- that of a begin in a session's log
+  -- the clock of the stamp of each begin in a session's log is known
   pub session-known : (session r : ℕ) (stamp : Stamp) → Contains (begins_in (session_log account session)) (r, stamp)
       → IsKnown account stamp.clock
   session-known session r stamp h = stamped-known r stamp (session-begun script account basis session r stamp h)

@@ -104,7 +104,7 @@ module _ (script : Script) (account : Account) (basis : Basis script account) (r
           (from replies (λ e k. all e (has_tail reply replies e k))) h
 
   module _ (printed : IsPrintedOrder report report.order) where
-    -- the clause on listing
+    -- the report of an account satisfies the clause on listing
     pub listing : AllHold (listing_clause report)
     listing =
         hold-append _ _
@@ -123,7 +123,7 @@ module _ (script : Script) (account : Account) (basis : Basis script account) (r
 
     -- Order
 
-    -- the clause on the order
+    -- the report of an account satisfies the clause on the order
     pub in-order : AllHold (order_clause script report)
     in-order =
         facts-hold (IsListedInOrder script report) report.order (λ before r after is.

@@ -109,7 +109,7 @@ module _ (script : Script) (account : Account) (basis : Basis script account) wh
       let place = cut_at (shard_log account number) entry.0 entry.1.0 in
       record { before = place.before; rest = entry.0 ∷ place.after; is = place.is; fits = visited-deed script account number place.before (entry.0).author (entry.0).deed visit entry.1.1 (basis.is.shards.deeds number place.before entry.0 place.after place.is) }
 
-  -- it has its program's stamp
+  -- a visit in a shard's log has the stamp that the account has for its request
   pub visit-stamp : (number : ℕ) (visit : Visit) → Contains (visits_of (shard_log account number)) visit
       → stamp_of account visit.request ≡ Some visit.stamp
   visit-stamp number visit h =
@@ -129,7 +129,7 @@ module _ (script : Script) (account : Account) (basis : Basis script account) wh
       subst (λ r. HasVisit script account r read.0) (eqb-true (image.of).request p parts.1)
       (subst (λ w. HasVisit script account (image.of).request w) (ap (λ (q : Name × State). q.0) image.is) there)
 
-  -- and so for each vertex that it read
+  -- each vertex that was read for a program has a visit by it
   pub key-visited : (p : ℕ) (v : Name) → IsTrue (is_among (keys_of (reads_of account p)) v) → HasVisit script account p v
   key-visited p v h = from (reads_of account p) (λ read k. read-visited p read k) h
     where
@@ -202,7 +202,7 @@ module _ (script : Script) (account : Account) (basis : Basis script account) (r
       subst (λ (g : PlainGraph). IsListOfVisits g program.program (visits_over (reads_of account p) program.program)) (sym place.graph)
       (basis.laws.visits_alike (graph_read (reads_of account p)) (graph_after_all empty_graph script place.before) program.program _ agree (basis.laws.visits_whole (reads_of account p) program.program))
 
-  -- so each vertex visited there was read
+  -- each vertex that a listed program visits, in the graph at its place in the order, was read for it
   pub visited-read : (p : ℕ) → IsTrue (is_in p report.order) → (program : IsListedProgram script account report p) → (v : Name)
       → IsVisited (graph_at_place script report p) program.program v → IsTrue (is_among (keys_of (reads_of account p)) v)
   visited-read p h program v visited =

@@ -79,7 +79,7 @@ in-numbered (first ∷ replies) (suc i) reply number e is =
 module _ (script : Script) (account : Account) (basis : Basis script account) (report : Report) (reported : IsReportOfAccount script account report) where
   -- How many commits there are
 
-  -- no request commits twice
+  -- if a log judges no request twice, no request commits twice in it
   pub once-from : (log : List StoreEntry) → AllPairs (λ (a b : Judgement). a.request ≢ b.request) (judgements_of log)
       → IsOnce (requests_of_commits (commits_of log))
   once-from [] pairs = tt
@@ -192,7 +192,7 @@ module _ (script : Script) (account : Account) (basis : Basis script account) (r
       → IsVerdictOf (judged_by (at.entry).author (at.entry).deed).verdict
   verdict-at at is = subst (λ (j : Judgement). IsVerdictOf j.verdict) (sym at.judged_is) is
 
-  -- and its request
+  -- the entry at a judgement's place is of the request that was judged
   pub request-at : {r : ℕ} {judged : Judgement} (at : IsJudgedAt script account basis r judged)
       → (judged_by (at.entry).author (at.entry).deed).request ≡ r
   request-at at = ap (λ (j : Judgement). j.request) at.judged_is ∙ at.request_is
@@ -220,7 +220,7 @@ module _ (script : Script) (account : Account) (basis : Basis script account) (r
       let e = ap (λ l. length (commits_of l)) (a.at).is in
       (omega (arith, n), omega (arith, n, more, e))
 
-  -- the clause on numbers
+  -- the report of an account satisfies the clause on numbers
   pub numbers : AllHold (numbers_clause report)
   numbers =
       facts-hold (λ before (reply : Reply). IsTrue (is_number_in_place (commits report) before (committed_number reply.state))) report.replies

@@ -167,7 +167,7 @@ module _ (script : Script) (account : Account) (basis : Basis script account) (r
           got (y ∷ xs) zero x e = let same : y ≡ x = cc in subst (λ k. Contains (y ∷ xs) k) same (has_head y xs)
           got (y ∷ xs) (suc i) x e = has_tail y xs x (got xs i x e)
 
-  -- the clause on pairs
+  -- the report of an account satisfies the clause on pairs
   pub pairs : AllHold (pairs_clause script report)
   pairs = each-holds (IsPairInPlace script report) report.pairs (λ pair h.
       let of = pair-of account report.pairs (pairs_in account) pair reported.matches.pairs h in

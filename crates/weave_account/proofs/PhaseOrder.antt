@@ -25,6 +25,7 @@ use Rattle.weave_entries.specs.GateReplay.{BegunRequest, begun_by, begun_in, pro
 use Rattle.weave_entries.specs.GateRules.{EndsAs}
 use Rattle.weave_entries.specs.SessionReplay.{reply_by, replied_in, has_reply_in}
 use Rattle.weave_entries.specs.StoreReplay.{Judgement, judged_by, judgements_of}
+use Rattle.weave_entries.proofs.OwnStamps.{tx-begun, program-begun as program-begun-in}
 use Rattle.report_rules.specs.Lookups.{request_at}
 use Rattle.report_rules.specs.Meetings.{phase_of}
 use Rattle.weave_account.specs.declared.account.Account.{Account}
@@ -33,7 +34,7 @@ use Rattle.weave_account.specs.Channels.{SendsAs}
 use Rattle.weave_account.specs.Phases.{EndsPhase, IsRunByPhases}
 use Rattle.weave_account.specs.Sessions.{RepliesAs}
 use Rattle.weave_account.proofs.Basis.{Basis}
-use Rattle.weave_account.proofs.Beginning.{all-in, tx-begun, program-begun as program-begun-in}
+use Rattle.weave_account.proofs.Beginning.{all-in}
 use Rattle.weave_data.proofs.Images.{flat-has, map-has}
 use Rattle.weave_data.proofs.Numbers.{has-in}
 use Rattle.weave_data.proofs.Counting.{First, Same, Second, apart}

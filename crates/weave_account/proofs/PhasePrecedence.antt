@@ -1,5 +1,5 @@
--- No request of a later phase precedes one of an earlier phase. It rests on the clauses on gatekeepers, clocks and
--- the oracle.
+-- In a run by phases no request of a later phase precedes one of an earlier phase. It rests on the clauses on
+-- gatekeepers, clocks, sessions and the oracle.
 -- Used by `stamps_are_begun` and PhasesKept.
 use Rattle.std.proofs.Common.{◌≡◌, ◌≢◌, ℕ, ◌+◌, ◌<◌, ◌≤◌, ◌==◌, ◌&&◌, Bool, cond, List, [], ◌∷◌, ◌++◌, map, Contains, IsTrue, Option, Some, None, ◌⊎◌, inl, inr, refl, sym, ap, subst, ◌∙◌, append_assoc, arith}
 use Rattle.std.specs.List.{count_by}
@@ -235,7 +235,7 @@ module _ (script : Script) (account : Account) (basis : Basis script account) wh
     late-stays _ _ (AmongByPair s t hs ht h) late = by-pair s t h late
     late-stays _ _ (AmongThrough s t u first second) late = late-stays t u second (late-stays s t first late)
 
--- no request of a later phase precedes one of an earlier phase
+-- in a run by phases no request of a later phase precedes one of an earlier phase
 pub later-never-precedes : (script : Script) (account : Account) (basis : Basis script account) → IsRunByPhases script account
     → (a b : ℕ) (x y : Stamp) → phase_of script a < phase_of script b
     → stamp_of account a ≡ Some x → stamp_of account b ≡ Some y → ¬ Precedence account y x

@@ -182,7 +182,7 @@ module _ (script : Script) (account : Account) (basis : Basis script account) (r
   refusal-kept reply h (Conflict v newer) is = tt
   refusal-kept reply h (Finished answer) is = tt
 
-  -- the phases are kept
+  -- the report of a run by phases keeps the phases
   pub phases-kept : PhasesAreKept script report
   phases-kept = record {
     later_never_precedes = later-never;

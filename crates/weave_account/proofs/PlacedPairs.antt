@@ -31,6 +31,7 @@ use Rattle.weave_entries.specs.OracleRules.{IsRightEntry, IsRightFrom}
 use Rattle.weave_entries.specs.ShardReplay.{Update, Visit, visit_by, visits_of, updates_of}
 use Rattle.weave_entries.specs.StoreReplay.{Commit, Judgement, judged_by, judgements_of, commit_by, commits_of, commits_naming, last_naming, names_vertex as names}
 use Rattle.weave_entries.specs.StoreRule.{LastCommit, lasts_of, asked_of, asked_vertices}
+use Rattle.weave_entries.proofs.OwnStamps.{tx-begun}
 use Rattle.report_rules.specs.declared.report.Pair.{Pair}
 use Rattle.report_rules.specs.Lookups.{is_some_and, request_at}
 use Rattle.weave_account.specs.declared.account.Account.{Account}
@@ -41,7 +42,7 @@ use Rattle.weave_account.specs.PairsByPlace.{request_stamped, vertex_asked, adde
 use Rattle.weave_account.specs.Shards.{update_of}
 use Rattle.weave_account.proofs.Additions.{first-place}
 use Rattle.weave_account.proofs.Basis.{Basis}
-use Rattle.weave_account.proofs.Beginning.{all-in, list-there, tx-begun}
+use Rattle.weave_account.proofs.Beginning.{all-in, list-there}
 use Rattle.weave_account.proofs.Meeting.{visit-fits, visit-stamp}
 use Rattle.weave_data.proofs.Images.{flat-has, get-has, map-has}
 use Rattle.weave_account.proofs.RepliesClause.{begin-of, stamps-apart}

@@ -69,7 +69,7 @@ module _ (report : Report) where
         let parts = filter-in (may_be_listed report) n printed.taken (subst (λ xs. IsTrue (is_in n xs)) printed.listed h) in
         (taken-in printed.taken _ n printed.in_turn parts.0, parts.1)
 
-    -- and all that was is listed
+    -- each begun request that may be listed is in the printed order
     pub has-order : (n : ℕ) → IsTrue (is_in n (begun_requests report)) → IsTrue (may_be_listed report n) → IsTrue (is_in n order)
     has-order n h g =
         subst (λ xs. IsTrue (is_in n xs)) (sym printed.listed)

@@ -53,7 +53,7 @@ use Rattle.graph_ops.specs.VertexOps.{state_after_ops}
 
 -- States
 
--- the state after updates
+-- the state of a vertex after the updates of a list, from a given state
 abbrev pub state_from : State → List Update → State
 state_from s us = fold (λ state (update : Update). state_after_ops update.ops state) s us
 

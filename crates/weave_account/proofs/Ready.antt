@@ -33,7 +33,7 @@ pub record WasSent (log : List GateEntry) (begun : BegunRequest) : Type 0 where
   pub after : List GateEntry
   pub is : log ≡ before ++ record { author = author; deed = Sent begun.request messages } ∷ after
 
--- in flight or sent
+-- a begun transaction is in flight, or was sent
 abbrev pub IsGone : List GateEntry → Option BegunRequest → BegunRequest → Type 0
 IsGone log flight begun = (flight ≡ Some begun) ⊎ WasSent log begun
 

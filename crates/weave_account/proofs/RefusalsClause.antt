@@ -310,7 +310,7 @@ module _ (script : Script) (account : Account) (basis : Basis script account) (r
       refused-work None ops graph work is = absurd work
       refused-work (Some request) ops graph work is = subst (λ w. IsWorkRefused graph w op reason) (sym work) is
 
-  -- the clause on refusals
+  -- the report of an account satisfies the clause on refusals
   pub refusals : AllHold (refusals_clause script report)
   refusals =
       each-holds (λ (reply : Reply). IsRefusalInPlace script report reply.request reply.state) report.replies (λ reply h. at reply h reply.state refl)

@@ -1,6 +1,5 @@
--- The clause on replay. A finished program, at its place in the printed order, answers what its reply says: each
--- vertex of its list of visits was read, in the state that it has there. It rests on the clauses on shards, channels
--- and programs; for transactions on that on the store.
+-- A finished program answers in its place in the printed order as its reply says, from states that were read there. It
+-- rests on the clauses on shards, channels and programs and, for transactions, on that on the store.
 -- Used by Meeting and RightReport.
 use Rattle.std.proofs.Common.{◌≡◌, ℕ, not, List, ◌∷◌, ◌++◌, IsTrue, Some, None, inl, inr, sym, subst}
 use Rattle.std.specs.Map.{keys_of}
@@ -67,7 +66,7 @@ module _ (script : Script) (account : Account) (basis : Basis script account) (r
       (subst (λ w. MatchesReply (graph_after_all empty_graph script before) w (program.reply).state) (sym program.work)
       (subst (λ s. AnswerMatchesReply (graph_after_all empty_graph script before) program.program s) (sym program.state) answers)))
 
-  -- and so does each listed request
+  -- each request in the printed order results in its reply, if all before it pass
   pub each-comes : (before : List ℕ) (r : ℕ) (after : List ℕ) → report.order ≡ before ++ r ∷ after
       → AllPass empty_graph script before → ComesToReply script report (graph_after_all empty_graph script before) r
   each-comes before r after is passes =
@@ -76,6 +75,6 @@ module _ (script : Script) (account : Account) (basis : Basis script account) (r
         | inr program ↦ program-comes before r after is passes program
       ]
 
-  -- the replay clause, with programs
+  -- the report of an account satisfies the clause on replay
   pub replay : AllHold (right.replay_clause script report)
   replay = replay-clause script report each-comes

@@ -48,7 +48,7 @@ module _ (script : Script) (report : Report)
       (both-pass (graph_after_all empty_graph script before) (request_at script r) (reply_at report r) here, tt) in
       (here, subst (λ (graph : PlainGraph). AllHold (replay_from graph script report rest)) (after-append script before (r ∷ []) empty_graph) (from (before ++ r ∷ []) rest (is ∙ append-step before r rest) next))
 
-  -- the clause on replay
+  -- the report of an account satisfies the clause on replay
   pub replay-clause : AllHold (replay_from empty_graph script report report.order)
   replay-clause = from [] report.order refl tt
 

@@ -49,7 +49,7 @@ abbrev pub Passes : PlainGraph → Option Request → Type 0
 Passes graph None = ⊤
 Passes graph (Some request) = PassesWork graph request.work
 
--- and so do all, one after another
+-- each request of a list passes on the graph that the ones before it leave
 abbrev pub AllPass : PlainGraph → Script → List ℕ → Type 0
 AllPass graph script [] = ⊤
 AllPass graph script (r ∷ rest) =
@@ -137,11 +137,11 @@ module _ (laws : LawsForAccounts) where
 
 -- A transaction on graphs that are alike at the vertices that it names
 
--- it passes with these answers
+-- a transaction passes on a graph, and answers its `get`s with these answers
 abbrev pub PassesWith : PlainGraph → List Op → List Got → Type 0
 PassesWith graph ops gots = (passed : PassedTx) × (transaction ops graph ≡ Ok passed) × (passed.gots ≡ gots)
 
--- it then passes with the same answers
+-- a transaction that passes on one of two graphs alike at the vertices that it names passes so on the other one
 pub pass-alike : LawsForAccounts → (ops : List Op) (g h : PlainGraph) (gots : List Got)
     → ((v : Name) → IsTrue (is_among (named_by ops) v) → g v ≡ h v) → PassesWith g ops gots → PassesWith h ops gots
 pass-alike laws ops g h gots alike passes =

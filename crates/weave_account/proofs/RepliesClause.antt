@@ -187,7 +187,7 @@ module _ (script : Script) (account : Account) (basis : Basis script account) wh
                 let first = sessions-rise script account basis earlier.request reply.request y less same ey in
                 subst (λ o. IsTrue (is_some_and (λ s. stamp_before s y) o)) (sym first.1 ∙ ex) first.2
 
-    -- the clause on replies
+    -- the report of an account satisfies the clause on replies
     pub replies : AllHold (replies_clause script report)
     replies =
         hold-append _ _ (facts-hold (λ before reply. IsTrue (is_reply_in_place script before reply)) report.replies in-place)

@@ -87,7 +87,7 @@ module _ (script : Script) (account : Account) (basis : Basis script account) wh
       let as-many = basis.is.gatekeepers.as_many in
       omega (arith, within, as-many)
 
-  -- and so it is one of eight
+  -- a gatekeeper where a request was begun has a number below 8
   pub home-below : (home : ℕ) (begun : BegunRequest) → Contains (begun_in (gate_log account home)) begun → home < 8
   home-below home begun h =
       let within = home-within home begun h in

@@ -175,7 +175,7 @@ module _ (script : Script) (account : Account) (basis : Basis script account) wh
   program-by-own home before author (Raised epoch) b h rule = absurd (has_none b h)
   program-by-own home before author (Finished r) b h rule = absurd (has_none b h)
 
-  -- and so was a program
+  -- a program that was begun at a gatekeeper is a program of the script, for that gatekeeper
   pub program-own : (home : ℕ) (b : BegunRequest) → Contains (programs_of (gate_log account home)) b → IsOwn home b.request is_look
   program-own home b h =
       let entry = flat-has (λ (e : GateEntry). program_by e.author e.deed) (gate_log account home) b h in
@@ -251,7 +251,7 @@ module _ (script : Script) (account : Account) (basis : Basis script account) wh
   flight-begun home flight flies =
       ((basis.laws.flight home script.shards (gate_log account home) (basis.is.gatekeepers.logs home) (each-once home) flight).0 flies).0
 
-  -- and has not ended anywhere
+  -- a transaction that is in flight has not ended at any gatekeeper
   pub flies-still : (home : ℕ) (flight : BegunRequest) → flight_of (gate_log account home) ≡ Some flight
       → Contains (flat_map ended_in account.gates) flight.request → ⊥
   flies-still home flight flies ended =

@@ -26,7 +26,7 @@ use Rattle.weave_account.proofs.VisitedPairs.{visited-pair}
 use Rattle.weave_account.proofs.Basis.{Basis}
 
 module _ (script : Script) (account : Account) (basis : Basis script account) (report : Report) (reported : IsReportOfAccount script account report) where
-  -- all eight clauses hold
+  -- the report of an account satisfies all clauses of a right report
   pub right : IsRightReport script report
   right = (
     replies script account basis report reported.matches,

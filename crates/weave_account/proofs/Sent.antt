@@ -1,5 +1,5 @@
--- What is sent to a shard: empty messages, and for each commit that names a vertex of the shard one message, with the
--- vertex's update. It rests on the clauses on channels and the store, and of these on what a hand can have seen.
+-- A shard is sent empty messages, and for each commit that names a vertex of it one message, with the vertex's update.
+-- It rests on the clauses on channels and the store, and on what a hand can have seen.
 -- Used by `accounts_were_seen`, `collections_leave_what_programs_see`, `messages_can_be_taken`, Applying and 4 more.
 use Rattle.std.proofs.Common.{◌≡◌, ℕ, cond, ◌==◌, List, [], ◌∷◌, ◌++◌, Contains, IsTrue, ◌⊎◌, inl, inr, refl, sym, ap, subst, ◌∙◌}
 use Rattle.std.specs.List.{filter}
@@ -148,7 +148,7 @@ verdict-passes account before stamp ops (Committed number answers counts) right 
 verdict-passes account before stamp ops (Conflict v newer) right = tt
 verdict-passes account before stamp ops (Refused op reason at) right = tt
 
--- and so does each commit of an account
+-- each commit of an account has passed
 pub commits-pass : (script : Script) (account : Account) (basis : Basis script account)
     → HavePassed account.store
 commits-pass script account basis before entry after is =

@@ -67,7 +67,7 @@ module _ (script : Script) where
   none-ended r done =
       let none : IsTrue (is_in r []) = subst (λ ended. IsTrue (is_in r ended)) (none-flat ended_in refl script.gates) done in cc
 
-  -- each clause holds of empty logs
+  -- empty logs are an account of the script
   pub starts : IsAccount script (no_logs script)
   starts =
       record {

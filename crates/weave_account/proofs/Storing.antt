@@ -35,7 +35,7 @@ use Rattle.weave_account.proofs.Replaying.{graph_after_all, PassesWork, Passes, 
 use Rattle.weave_account.proofs.Beginning.{tx-stamp}
 use Rattle.weave_data.proofs.Images.{flat-has}
 
--- the commits as requests
+-- the request numbers of commits, in their order
 abbrev pub requests_of_commits : List Commit → List ℕ
 requests_of_commits commits = map (λ (commit : Commit). commit.request) commits
 

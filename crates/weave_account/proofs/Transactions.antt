@@ -63,7 +63,7 @@ matches-committed account r stamp work ops state stamped e is reported =
     (subst (λ w. IsStateOf account r stamped w state) is reported)
 
 module _ (script : Script) (account : Account) (basis : Basis script account) (report : Report) (reported : IsReportOfAccount script account report) where
-  -- the commits as requests
+  -- the request numbers of the commits in the account
   abbrev pub committed-requests : List ℕ
   committed-requests = requests_of_commits (commits_in account)
 
@@ -85,7 +85,7 @@ module _ (script : Script) (account : Account) (basis : Basis script account) (r
       subst (IsSorted (RequestBefore script account)) (sym (naming-requests script account v (commits_in account) known))
       (sorted-requests script account (commits_naming v (commits_in account)) (λ c h. known c (filter_has _ (commits_in account) c h).0) (ordered script account v account.store basis.is.store.judges))
 
-  -- each commit is listed
+  -- each committed request is in the printed order
   pub commits-listed : (r : ℕ) → IsTrue (is_in r committed-requests) → IsTrue (is_in r report.order)
   commits-listed r h =
       let from = map-has (λ (c : Commit). c.request) (commits_in account) r (has-in committed-requests r h) in
@@ -191,7 +191,7 @@ module _ (script : Script) (account : Account) (basis : Basis script account) (r
       subst (λ q. IsTrue (is_some_and (λ (request : Request). work_names v request.work) q)) (sym tx.request_is)
       (subst (λ w. IsTrue (work_names v w)) (sym tx.work) h)
 
-  -- it results in its reply
+  -- a listed transaction results in its reply at its place in the order, if all requests before it pass
   pub tx-comes : (before : List ℕ) (r : ℕ) (after : List ℕ) → report.order ≡ before ++ r ∷ after
       → AllPass empty_graph script before → IsListedTx script account report r
       → ComesToReply script report (graph_after_all empty_graph script before) r

@@ -1,6 +1,5 @@
--- Nothing unprocessed at a visit precedes the program: a commit whose update the shard hasn't applied is still in
--- flight, or its message is on the channel after what made the channel ready, or is that. It rests on the clauses on
--- gatekeepers, channels, the store and shards.
+-- The stamp of a program for which a shard is ready is before that of each commit whose update the shard hasn't
+-- applied. This rests on the clauses on gatekeepers, channels, the store and shards.
 -- Used by OnTheWay and Visiting.
 use Rattle.std.proofs.Common.{◌≡◌, ◌≢◌, ℕ, ◌<◌, ◌≤◌, cond, ◌==◌, List, [], ◌∷◌, ◌++◌, map, length, Contains, AllPairs, IsTrue, Some, None, ◌⊎◌, inl, inr, refl, sym, ap, subst, ◌∙◌, arith}
 use Rattle.std.specs.List.{filter, list_any, range_with_len}

@@ -124,7 +124,7 @@ module _ (script : Script) (account : Account) (basis : Basis script account)
             | inr here' ↦ elim (has_read last.0 [] c here') [ inl same ↦ subst (λ (d : Commit). Precedence account d.stamp stamp) same p | inr none ↦ absurd (has_none c none) ]
           ]
 
-  -- and the program precedes all others
+  -- the program precedes each commit at the vertex after those whose updates its visit saw
   pub others-follow : (c : Commit) → Contains (drop k naming) c → Precedence account stamp c.stamp
   others-follow c h =
       elim (cases_lt k (length (updates_of v log))) [

@@ -38,7 +38,7 @@ module _ (script : Script) (account : Account) (basis : Basis script account) (s
       → Precedence account commit.stamp stamp
   seen = seen-precede script account basis shard inside before each r stamp v updates visit
 
-  -- and the program precedes all others
+  -- the program precedes each commit at the vertex after those whose updates its visit saw
   pub others : (commit : Commit) → Contains (drop updates (commits_naming v (commits_in account))) commit
       → Precedence account stamp commit.stamp
   others = others-follow script account basis shard inside before each r stamp v updates visit

@@ -112,13 +112,13 @@ module _ (script : Script) (account next : Account) (basis : Basis script accoun
     earlier_is = asked.earlier_is ∙ sym (seen-stays asked.shard asked.visit asked.visited);
   }
 
-  -- so an entry stays one that was asked for
+  -- an entry that a commit or a visit asked for is asked for still when the account goes on
   pub asked-for-stays : (settled : SettledEntry) → IsAskedByCommit account settled ⊎ IsAskedByVisit account settled
       → IsAskedByCommit next settled ⊎ IsAskedByVisit next settled
   asked-for-stays settled (inl commit) = inl (asked-stays script account next on settled commit)
   asked-for-stays settled (inr visit) = inr (by-visit settled visit)
 
-  -- and a marked visit keeps its entry
+  -- a visit that has its entry of the oracle still has it when the account goes on
   pub entry-stays : (shard : ℕ) (visit : Visit) → Contains (visits_of (shard_log account shard)) visit
       → HasItsEntry account (shard_log account shard) visit → HasItsEntry next (shard_log next shard) visit
   entry-stays shard visit h its =

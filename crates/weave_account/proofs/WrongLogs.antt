@@ -303,11 +303,11 @@ elsewhere = record { author = 0; deed = Visited 1 (marks.at-second 0 1) marks.a 
 pub at-another-shard : ¬ IsAccount marks.script (record marks.account { shards = (elsewhere ∷ []) ∷ marks.shard-a ∷ [] })
 at-another-shard is = let here : 1 ≡ 0 = (is.shards.deeds 0 [] elsewhere [] refl).kept_here in absurd (omega (arith, here))
 
--- a transaction is judged twice
+-- logs in which a transaction is judged twice are no account
 pub judged-twice : ¬ IsAccount reader.script (record reader.account { store = reader.judged ∷ reader.judged ∷ [] })
 judged-twice is = is.store.once 0 1 (judged_by 0 reader.judged.deed) (omega arith) (omega arith) refl
 
--- it begins twice
+-- logs in which a transaction begins twice are no account
 pub begun-twice : ¬ IsAccount reader.script (record reader.account { gates = (reader.g1 ∷ reader.g1 ∷ []) ∷ [] })
 begun-twice is =
     is.gatekeepers.once 0 1 (record { author = 0; request = 0; stamp = reader.stamp 1 }) (omega arith) (omega arith) refl

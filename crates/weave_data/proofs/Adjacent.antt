@@ -1,6 +1,6 @@
 -- Pairs whose neighbours rise.
 -- Used by `are_rising`.
-use Rattle.std.proofs.Common.{arith, ◌≡◌, ℕ, zero, suc, true, true≢false, ◌<◌, ◌≤◌, ◌+◌, ◌-◌, length, get_or, map, List, [], ◌∷◌, refl, sym, ap, ◌∙◌, subst}
+use Rattle.std.proofs.Common.{arith, ◌≡◌, ℕ, zero, suc, true, true≢false, ◌<◌, ◌≤◌, ◌+◌, ◌-◌, length, get_or, List, [], ◌∷◌, ap, ◌∙◌}
 use Rattle.std.specs.declared.cmp.Ordering.TheVariants.{Less}
 use Rattle.std.specs.Cmp.Lexicographic.{nat_list_cmp_total}
 use Rattle.std.specs.Ordering.{is_ge}

@@ -1,6 +1,6 @@
 -- Members of mapped lists, the last element that passes a test, the element at a place, and lists of lists.
 -- Used by 8 crates above.
-use Rattle.std.proofs.Common.{◌≡◌, ℕ, zero, suc, ◌<◌, Bool, length, get_or, arith, List, [], ◌∷◌, map, Contains, IsTrue, None, Some, inl, inr, sym, subst}
+use Rattle.std.proofs.Common.{◌≡◌, ℕ, zero, suc, ◌<◌, Bool, length, get_or, arith, List, [], ◌∷◌, map, Contains, None, Some, inl, inr, sym, subst}
 use Rattle.std.specs.Prelude.{reverse, slice_get}
 use Rattle.std.specs.List.{filter, find, flat_map}
 use Rattle.std.proofs.lemmas.List.{reverse-append}

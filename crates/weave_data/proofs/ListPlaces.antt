@@ -1,6 +1,6 @@
 -- Facts in turn and of each, from what holds at each place.
 -- Used by 5 crates above.
-use Rattle.std.proofs.Common.{◌≡◌, ℕ, Bool, true, false, not, ◌||◌, List, [], ◌∷◌, ◌++◌, Contains, IsTrue, refl, ◌∙◌}
+use Rattle.std.proofs.Common.{◌≡◌, Bool, true, false, not, ◌||◌, List, [], ◌∷◌, ◌++◌, Contains, IsTrue, refl, ◌∙◌}
 use Rattle.std.specs.List.{AllByRecursion, list_all}
 use Rattle.std.proofs.lemmas.Bool.{and_from}
 use Rattle.weave_data.proofs.Members.{has_head, has_tail}

@@ -1,12 +1,12 @@
 -- Lists in which each element has a relation to each later one.
 -- Used by 16 crates above.
-use Rattle.std.proofs.Common.{◌≡◌, ◌≢◌, ℕ, zero, suc, ◌<◌, Bool, nat_eq, ◌==◌, cond, List, [], ◌∷◌, ◌++◌, length, get_or, Contains, AllPairs, Some, ◌⊎◌, inl, inr, refl, sym, ap, subst, ◌∙◌, arith}
+use Rattle.std.proofs.Common.{◌≡◌, ◌≢◌, ℕ, zero, suc, ◌<◌, nat_eq, ◌==◌, cond, List, [], ◌∷◌, ◌++◌, get_or, Contains, AllPairs, Some, ◌⊎◌, inl, inr, refl, sym, ap, subst, ◌∙◌, arith}
 use Rattle.std.specs.List.{find}
 use Rattle.std.proofs.lemmas.Bool.{cases_order, eq-eqb, ne_eqb}
 use Rattle.std.proofs.lemmas.List.{length-append, get_or_append_left, get_or_default}
-use Rattle.std.proofs.lemmas.List.Elements.{Contains-get_or, Contains-append_left, Contains-append_right}
+use Rattle.std.proofs.lemmas.List.Elements.{Contains-get_or, Contains-append_right}
 use Rattle.std.proofs.lemmas.List.Quantifiers.{all_pairs_push}
-use Rattle.weave_data.proofs.Members.{has_none, has_read, has_head, has_last}
+use Rattle.weave_data.proofs.Members.{has_none, has_read, has_head}
 
 module _ {A : Type 0} (R : A → A → Type 0) where
   -- the empty list is so

@@ -19,6 +19,12 @@ most_sessions = 64
 abbrev pub last_session : ℕ
 last_session = most_sessions - 1
 
+-- Names
+
+-- how many letters a name has at most
+abbrev pub most_letters : ℕ
+most_letters = 32
+
 -- Records
 
 -- how many properties a record has at most

@@ -7,6 +7,7 @@ use Rattle.std.specs.declared.cmp.Ordering.TheVariants.{Less, Equal, Greater}
 use Rattle.std.specs.Ordering.{nat_cmp, is_eq, eq_by_cmp}
 use Rattle.std.specs.FinMap.{nat_cmp-IsAntisymmetric, slice_cmp-IsAntisymmetric}
 use Rattle.std.specs.Cmp.Lexicographic.{slice_cmp}
+use Rattle.weave_data.specs.Limits.{most_letters}
 
 -- a to z, 0 to 9, or the underscore
 abbrev pub is_name_byte : ℕ → Bool
@@ -14,7 +15,7 @@ is_name_byte b = (nat_le 97 b && nat_le b 122) || (nat_le 48 b && nat_le b 57) |
 
 -- 1 to 32 such bytes
 abbrev pub is_name : List ℕ → Bool
-is_name bytes = nat_le 1 (length bytes) && nat_le (length bytes) 32 && list_all is_name_byte bytes
+is_name bytes = nat_le 1 (length bytes) && nat_le (length bytes) most_letters && list_all is_name_byte bytes
 
 -- the order of names: by their bytes, a prefix first
 abbrev pub name_cmp : List ℕ → List ℕ → Ordering
@@ -39,7 +40,7 @@ shard_of name shards = sum name % shards
 
 -- 32 bytes that begin with these, and are 0 after them
 abbrev pub padded_bytes : List ℕ → List ℕ
-padded_bytes bytes = bytes ++ replicate (32 - length bytes) 0
+padded_bytes bytes = bytes ++ replicate (most_letters - length bytes) 0
 
 -- the first `len` of the 32 bytes are a name, and the others are 0
 abbrev pub IsStored : ℕ → List ℕ → Type 0

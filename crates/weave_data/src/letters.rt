@@ -3,11 +3,13 @@ ghost use Rattle.std.specs.Prelude.{◌≡◌, ◌≤◌, ◌+◌, ◌*◌, take
 ghost use Rattle.std.specs.Ordering.{nat_cmp};
 ghost use Rattle.std.specs.Cmp.Lexicographic.{slice_cmp};
 ghost use Rattle.std.specs.Slice.Scan.{big_endian};
+ghost use Rattle.weave_data.specs.Limits.{most_letters};
 
+use crate::limits::MOST_LETTERS;
 use std::cmp::Ordering;
 
 // The order of the letters: that of the first eight that differ, read as one number.
-pub(crate) fn order(letters: &[u8; 32], others: &[u8; 32]) -> Ordering
+pub(crate) fn order(letters: &[u8; MOST_LETTERS], others: &[u8; MOST_LETTERS]) -> Ordering
     ensures { result ≡ slice_cmp nat_cmp letters.now others.now }
 {
     for step in 0..4 {
@@ -21,8 +23,8 @@ pub(crate) fn order(letters: &[u8; 32], others: &[u8; 32]) -> Ordering
 }
 
 // Eight letters as one number, the first the most significant.
-fn word(letters: &[u8; 32], at: usize) -> u64
-    requires { at + 8 ≤ 32 }
+fn word(letters: &[u8; MOST_LETTERS], at: usize) -> u64
+    requires { at + 8 ≤ most_letters }
     ensures { result ≡ big_endian 0 (take 8 (drop at letters.now)) }
 {
     u64::from_be_bytes([

@@ -21,8 +21,8 @@ pub use change::Undo;
 pub use copied::Copied;
 pub use items::Items;
 pub use limits::{
-    MOST_BYTES, MOST_GATES, MOST_GETS, MOST_OPS, MOST_PROGRAMS, MOST_REQUESTS, MOST_SESSIONS,
-    MOST_SHARDS,
+    MOST_BYTES, MOST_GATES, MOST_GETS, MOST_LETTERS, MOST_OPS, MOST_PROGRAMS, MOST_REQUESTS,
+    MOST_SESSIONS, MOST_SHARDS,
 };
 pub use name::Name;
 pub use name_map::{NameMap, are_rising};

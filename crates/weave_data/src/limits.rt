@@ -9,6 +9,9 @@ pub const MOST_SHARDS: u32 = 16;
 /// The number of sessions, which are numbered from 0.
 pub const MOST_SESSIONS: u32 = 64;
 
+/// The most letters of a name.
+pub const MOST_LETTERS: usize = 32;
+
 /// The most bytes of an input.
 pub const MOST_BYTES: usize = 4_194_304;
 

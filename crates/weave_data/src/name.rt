@@ -11,6 +11,7 @@ ghost use Rattle.weave_data.specs.Names.{is_name, is_name_byte, name_cmp, same_n
 
 use crate::copied::Copied;
 use crate::letters::order;
+use crate::limits::MOST_LETTERS;
 use std::alloc::{AllocError, Global};
 use std::cmp::Ordering;
 use std::hash::{Hash, Hasher};
@@ -19,7 +20,7 @@ use std::marker::Model;
 /// 1 to 32 bytes of `a-z`, `0-9` and `_`, seen by contracts as the list of these bytes.
 pub struct Name {
     len: u8,
-    letters: [u8; 32],
+    letters: [u8; MOST_LETTERS],
 }
 
 impl Model for Name {
@@ -111,7 +112,7 @@ impl Name {
         if !names(bytes) {
             return None;
         }
-        let mut letters = [0; 32];
+        let mut letters = [0; MOST_LETTERS];
         letters[..bytes.len()].copy_from_slice(bytes);
         Some(Name {
             len: bytes.len() as u8,
@@ -145,7 +146,7 @@ impl Name {
 fn names(bytes: &[u8]) -> bool
     ensures { result ≡ is_name bytes.now }
 {
-    if bytes.is_empty() || bytes.len() > 32 {
+    if bytes.is_empty() || bytes.len() > MOST_LETTERS {
         return false;
     }
     only_letters(bytes)

@@ -41,7 +41,7 @@ set-there [] n log less = absurd (omega (arith, less))
 set-there (x ∷ logs) zero log less = refl
 set-there (x ∷ logs) (suc n) log less = set-there logs n log (omega (arith, less))
 
--- and each log of another number is as before
+-- after one of many logs is replaced, each log of another number is as before
 pub set-other : {E : Type 0} (logs : List (List E)) (n k : ℕ) (log : List E) → (k ≡ n → ⊥) → slice_index_or (slice_set logs n log) k [] ≡ slice_index_or logs k []
 set-other [] n k log differ = refl
 set-other (x ∷ logs) zero zero log differ = absurd (differ refl)
@@ -78,7 +78,7 @@ still-arrived old new on shard gate n some =
     let more = on.shards shard in
     ap (λ log. is_some (arrived_at gate n log)) more.1 ∙ arrived-longer (shard_log old shard) more.0 gate n some
 
--- and it is the same message
+-- a message that has arrived at a shard is the same message when the account goes on
 pub still-message : (old new : Account) → GoesOn old new → (shard gate n : ℕ) (m : Message) → arrived_at gate n (shard_log old shard) ≡ Some m → arrived_at gate n (shard_log new shard) ≡ Some m
 still-message old new on shard gate n m is =
     let more = on.shards shard in

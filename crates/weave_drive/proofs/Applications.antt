@@ -110,11 +110,11 @@ apply-done laws old new shard gate answer cores gate-inside inside did = record 
         (λ g. ap (processed_count g) log ∙ processed-longer (shard_log account shard) gate _ g)
         numbers.1 old.script.gates gate-inside
 
--- with the gatekeepers of the script at the start
+-- applying a channel, by the script at the middle of a drive, is doing so by the script at its start
 pub applied-at : (shard gate : ℕ) (old middle new : CoreView) (moved : Bool) → Drives 0 old middle → AppliesChannel middle.script.gates shard gate middle.state new.state moved → AppliesChannel old.script.gates shard gate middle.state new.state moved
 applied-at shard gate old middle new moved d a = subst (λ (s : Script). AppliesChannel s.gates shard gate middle.state new.state moved) d.script_is a
 
--- the same of a round
+-- a round of a shard's channels, by the script at the middle of a drive, is one by the script at its start
 pub round-at : (shard : ℕ) (old middle new : CoreView) (moved : Bool) → Drives 0 old middle → AppliesRound middle.script.gates shard middle.script.gates middle.state new.state moved → AppliesRound old.script.gates shard old.script.gates middle.state new.state moved
 round-at shard old middle new moved d a = subst (λ (s : Script). AppliesRound s.gates shard s.gates middle.state new.state moved) d.script_is a
 

@@ -123,6 +123,6 @@ module _ (upto : ℕ) where
       gates-through state.account (state_after script state step).account (fold (state_after script) (state_after script state step) steps).account
       (after-step script state step are.0) (after-steps script steps (state_after script state step) are.3)
 
-  -- the same of what driving steps add, one after another
+  -- driving steps add at gatekeepers only what a driving step may add
   pub driven-gates : (script : Script) (old new : CoreState) → IsDriven script upto old new → DrivesGates upto old.account new.account
   driven-gates script old new driven = subst (λ (s : CoreState). DrivesGates upto old.account s.account) (sym driven.is) (after-steps script driven.steps old driven.are)

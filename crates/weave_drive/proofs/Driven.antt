@@ -111,6 +111,6 @@ drives-more m n below old new d = record {
 pub drives-core : (upto : ℕ) (old new : CoreView) → IsCore old.script old.state → Drives upto old new → IsCore old.script new.state
 drives-core upto old new core d = core-after old.script upto old.state new.state core d.driven
 
--- and its logs go on from the old ones
+-- when a core is driven, its logs go on from the old ones
 pub drives-on : (upto : ℕ) (laws : LawsForDriving) (old new : CoreView) → IsWithinLimits old.script → IsCore old.script old.state → Drives upto old new → GoesOn old.state.account new.state.account
 drives-on upto laws old new limits core d = driven-goes-on old.script upto laws limits old.state new.state core d.driven

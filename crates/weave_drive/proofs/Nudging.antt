@@ -1,4 +1,5 @@
--- A gatekeeper that heard what a program's home says, and then sends an empty message, has sent one after the program's stamp. Once all is delivered and applied the shard is ready.
+-- A gatekeeper that heard what a program's home says, and then sends an empty message, has sent one after the program's
+-- stamp. Once all is delivered and applied the shard is ready.
 -- Used by `make_ready`, `nudge`, `nudge_all` and Reading.
 use Rattle.std.proofs.Common.{◌≡◌, ℕ, ◌+◌, ◌-◌, ◌<◌, is_some, cond, ◌==◌, List, [], ◌∷◌, ◌++◌, length, Contains, IsTrue, Some, None, inl, inr, refl, sym, ap, subst, ◌∙◌, arith}
 use Rattle.std.specs.Prelude.{slice_get, slice_index_or}
@@ -8,7 +9,7 @@ use Rattle.std.proofs.lemmas.List.Concat.{flat_map-append}
 use Rattle.std.proofs.lemmas.List.Elements.{Contains-append_left, Contains-append_right}
 use Rattle.std.proofs.lemmas.List.Sums.{fold-append}
 use Rattle.weave_data.proofs.Members.{has_filter, has_head}
-use Rattle.shard_queue.specs.Sent.{sent_as}
+use Rattle.shard_queue.specs.Outbox.{sent_as}
 use Rattle.vector_stamp.specs.declared.clock.Clock.{Clock}
 use Rattle.vector_stamp.specs.declared.clock.Stamp.{Stamp}
 use Rattle.vector_stamp.specs.Order.{stamp_before}
@@ -132,7 +133,7 @@ module _ (laws : LawsForDriving) (script : Script) (limits : IsWithinLimits scri
     later = subst (λ (c : Clock). IsTrue (stamp_before p (next_stamp g c))) (sym clock-second) (laws.after_its_home script old.account limits core.account g home g-inside home-inside p begun);
   }
 
--- the same of a core that did these three steps
+-- if a quiet core does `say` of a home, then `hear` and `nop` of g, g has sent after each stamp of that home
 pub nudge-done : (laws : LawsForDriving) (old first second third : CoreView) (home g shard notice : ℕ) (a b c : StepAnswer) → AreCores old first → IsQuiet old.state.account → home < old.script.gates → g < old.script.gates
     → notice ≡ length first.state.notices → DoesStep (Say home) old first a → DoesStep (Hear g notice) first second b → DoesStep (Nop g shard) second third c → Nudges home g shard old.state.account third.state.account
 nudge-done laws old first second third home g shard notice a b c cores quiet home-inside g-inside notice-is said heard sent =

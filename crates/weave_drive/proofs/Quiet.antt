@@ -121,11 +121,11 @@ stays-quiet old new drives home quiet =
     none [] fine = refl
     none (entry ∷ log) fine = ap (λ o. fold (λ flight (entry : GateEntry). flight_after flight entry.author entry.deed) o log) (one entry.author entry.deed (fine entry (has_head entry log))) ∙ none log (λ k h. fine k (has_tail entry log k h))
 
--- the same of a core that is driven and begins no request
+-- if nothing is in flight at a gatekeeper, nothing is after the core is driven without begins
 pub drives-quiet-at : (old new : CoreView) → Drives 0 old new → (home : ℕ) → flight_of (gate_log old.state.account home) ≡ None → flight_of (gate_log new.state.account home) ≡ None
 drives-quiet-at old new d = stays-quiet old.state.account new.state.account (driven-gates 0 old.script old.state new.state d.driven)
 
--- and of all gatekeepers
+-- a quiet core that is driven and begins no request stays quiet at all gatekeepers
 pub drives-quiet : (old new : CoreView) → Drives 0 old new → IsQuiet old.state.account → IsQuiet new.state.account
 drives-quiet old new d quiet home = drives-quiet-at old new d home (quiet home)
 

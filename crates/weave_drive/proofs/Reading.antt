@@ -169,7 +169,7 @@ shard-there script limits v = let some = limits.some_shard in omega (arith, some
 
 -- ReadsOnward
 
--- neither `ok` nor `again`
+-- whether an answer is neither `ok` nor `again`
 abbrev pub is_other : StepAnswer → Bool
 is_other Ok = false
 is_other (Again shard gate) = false
@@ -285,7 +285,7 @@ module _ (laws : LawsForDriving) (old new : CoreView) (r home : ℕ) (answer : S
     whole = λ f. cc;
   }
 
-  -- the same of a core that was driven to make it ready
+  -- if a core was driven to make that shard ready, there are fewer left to wait for
   pub visit-after : (s : ℕ) (readied : CoreView) → IsAgain s → Drives 0 new readied → MakesReady new.script home s new.state.account readied.state.account → ReadsOnward old.script r home old.state.account readied.state.account true
   visit-after s readied again drives made =
       let core-new : IsCore new.script new.state = subst (λ (k : Script). IsCore k new.state) (sym did.script_is) cores.after in
@@ -332,6 +332,6 @@ other-of Repeat not-ok not-again = refl
 other-of Empty not-ok not-again = refl
 other-of (Waits v) not-ok not-again = refl
 
--- with the script at the start
+-- reading on, by the script at the middle of a drive, is reading on by the script at its start
 pub visits-at : (r home : ℕ) (old middle new : CoreView) (more : Bool) → Drives 0 old middle → ReadsOnward middle.script r home middle.state.account new.state.account more → ReadsOnward old.script r home middle.state.account new.state.account more
 visits-at r home old middle new more d v = subst (λ (s : Script). ReadsOnward s r home middle.state.account new.state.account more) d.script_is v

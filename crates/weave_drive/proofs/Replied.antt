@@ -112,7 +112,7 @@ module _ (laws : LawsForDriving) (script : Script) (limits : IsWithinLimits scri
           let has : has_reply_in q (session_log account request.session) ≡ true = subst (λ s. has_reply_in q (session_log account s) ≡ true) (eqb-true k.session request.session own) (replied q k less e) in
           let clash : not true ≡ true = sym (ap not has) ∙ waits in cc
 
-  -- after `begin` it has begun, and no transaction is in flight but at its own gatekeeper; there neither, if it is a program
+  -- after `begin` it has begun, and nothing is in flight but at its own gatekeeper; nor there, if it is a program
   pub record Begins (new : Account) : Type 0 where
     pub has : has_begun new r request ≡ true
     pub others : (g : ℕ) → (g ≡ request.gate → ⊥) → flight_of (gate_log new g) ≡ None
@@ -347,7 +347,7 @@ module _ (laws : LawsForDriving) (old first : CoreView) (r : ℕ) (request : Req
       by (Change ops) e f = cc
       by (Look program) e f = first-begins.program program e
 
-  -- and the program is to be read
+  -- after a program's begin, the program is to be read at its gatekeeper
   pub first-reading : is_change request.work ≡ false → IsReading first.script r request.gate first.state.account
   first-reading look = subst (λ s. IsReading s r request.gate first.state.account) (sym did.script_is) (by request.work refl look)
     where
@@ -355,7 +355,7 @@ module _ (laws : LawsForDriving) (old first : CoreView) (r : ℕ) (request : Req
       by (Change ops) e f = cc
       by (Look program) e f = is-reading laws old.script cores.limits r request request-is first.state.account cores.after.account program e first-begins.has
 
-  -- and the logs go on from those before
+  -- after `begin` in its turn the logs go on from those before
   pub first-on : GoesOn old.state.account first.state.account
   first-on = subst (λ (s : CoreState). GoesOn old.state.account s.account) (sym did.state_is) (laws.goes_on old.script old.state (Begin r) cores.limits (get-inside old.script.requests r request request-is) cores.before)
 
@@ -376,15 +376,15 @@ module _ (laws : LawsForDriving) (old first : CoreView) (r : ℕ) (request : Req
     middle-begun : has_begun middle.state.account r request ≡ true
     middle-begun = still-begun first.state.account middle.state.account middle-on r request first-begins.has
 
-    -- a transaction was sent
+    -- once the core is quiet, a begun transaction counts as answered
     pub middle-sent : IsTrue (is_change request.work) → IsQuiet middle.state.account → is_answered middle.state.account r request request.work ≡ true
     middle-sent change quiet = sent-when-quiet laws old.script cores.limits r request request-is middle.state middle-core quiet change middle-begun
 
-    -- a program was read
+    -- a program that has no next vertex to read counts as answered
     pub middle-read : is_change request.work ≡ false → HasNoNextVertex middle.script r middle.state.account → is_answered middle.state.account r request request.work ≡ true
     middle-read look whole = read-when-whole laws old.script cores.limits r request request-is middle.state.account (subst (λ s. HasNoNextVertex s r middle.state.account) (drives.script_is ∙ did.script_is) whole) look
 
-    -- so it has its reply
+    -- in a quiet core, once a request counts as answered, `reply` leaves all requests up to it answered
     pub last-answered : (last : CoreView) (b : StepAnswer) → IsQuiet middle.state.account → is_answered middle.state.account r request request.work ≡ true
         → DoesStep (Reply r) middle last b → Drives 0 middle last → AreAnsweredBelow old.script (r + 1) last.state.account
     last-answered last b quiet ended replied on-drives =

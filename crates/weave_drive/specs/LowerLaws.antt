@@ -13,7 +13,7 @@ use Rattle.program_defs.specs.Limits.{IsWithinLimits}
 use Rattle.program_defs.specs.Visits.{next_visit}
 use Rattle.program_defs.specs.Works.{is_change}
 use Rattle.report_rules.specs.Lookups.{is_some_and, request_at}
-use Rattle.shard_queue.specs.Sent.{sent_as}
+use Rattle.shard_queue.specs.Outbox.{sent_as}
 use Rattle.weave_entries.specs.declared.message.Addressed.{Addressed}
 use Rattle.weave_entries.specs.declared.message.Message.{Message}
 use Rattle.weave_entries.specs.GateReplay.{BegunRequest, addressed_to, channel_of, clock_of, flight_of, has_ended_in, next_stamp, stamps_of}

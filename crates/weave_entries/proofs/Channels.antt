@@ -28,7 +28,7 @@ use Rattle.weave_entries.proofs.Rising.{before_is_at_most, begun-before, rises}
 use Rattle.weave_entries.proofs.Picked.{OneAtMost, NoMessage, OneMessage, one_at_most}
 
 module _ (laws : ClockLaws) where
-  -- the stamps of messages
+  -- the stamps of the messages sent
   abbrev pub stamps_in : List Addressed → List Stamp
   stamps_in sent = map (λ (message : Message). message.stamp) (map (λ (addressed : Addressed). addressed.message) sent)
 

@@ -1,4 +1,4 @@
--- What a program reads of the updates that are kept, and of all.
+-- A program reads of the updates that are kept what it would read of all, if what is kept reaches back far enough.
 -- Used by `kept_updates_are_read_like_all`.
 use Rattle.std.proofs.Common.{◌≡◌, ℕ, zero, suc, ◌+◌, ◌≤◌, Bool, true, List, [], ◌∷◌, drop, slice_get, IsTrue, inl, inr, refl, sym, ◌∙◌, arith}
 use Rattle.std.specs.Option.{IsSomeAnd}

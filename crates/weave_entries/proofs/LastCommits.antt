@@ -1,4 +1,4 @@
--- The last commits at the vertices that a transaction names.
+-- `lasts_of` has the last commit at each named vertex, and no others.
 -- Used by crates backing_store, step_rules and store_lock.
 use Rattle.std.proofs.Common.{◌≡◌, List, Contains, Option, None, Some, refl, ap, subst}
 use Rattle.std.specs.Option.{option_map}

@@ -70,7 +70,7 @@ module _ (laws : ClockLaws) where
     below-each : (clock : Clock) → Contains (stamp.clock ∷ map (λ (begun : BegunRequest). begun.stamp.clock) (running_of log)) clock → IsTrue (is_at_most (low_mark stamp (running_of log)) clock)
     below-each clock has = subst (λ (c : Clock). IsTrue (is_at_most c clock)) (sym (low-meet stamp.clock (running_of log))) (laws.meet_below_each stamp.clock (map (λ (begun : BegunRequest). begun.stamp.clock) (running_of log)) all-eight clock has)
 
-    -- it is at most the stamp
+    -- the low mark made with a stamp is at most the stamp
     pub low-stamp : IsTrue (is_at_most (low_mark stamp (running_of log)) stamp.clock)
     low-stamp = below-each stamp.clock (has_head stamp.clock _)
 

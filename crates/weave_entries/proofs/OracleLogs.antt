@@ -14,13 +14,13 @@ use Rattle.weave_entries.specs.declared.oracle_log.OracleEntry.{OracleEntry}
 use Rattle.weave_entries.specs.OracleReplay.{settled_entry, pairs_of_entry, pairs_of_log}
 use Rattle.weave_entries.specs.OracleRules.{IsRightEntry, IsRightFrom}
 
--- one more right entry
+-- a right log with one more right entry is right
 pub right-push : (pairs : List GivenPair) (log : List OracleEntry) (entry : OracleEntry) → IsRightFrom pairs log → IsRightEntry (pairs ++ pairs_of_log log) (settled_entry entry) → IsRightFrom pairs (log ++ entry ∷ [])
 right-push pairs [] entry right last = (subst (λ (ps : List GivenPair). IsRightEntry ps (settled_entry entry)) (append-nil pairs) last, tt)
 right-push pairs (first ∷ log) entry right last =
     (right.0, right-push (pairs ++ pairs_of_entry (settled_entry first)) log entry right.1 (subst (λ (ps : List GivenPair). IsRightEntry ps (settled_entry entry)) (sym (append_assoc pairs (pairs_of_entry (settled_entry first)) (pairs_of_log log))) last))
 
--- and a beginning of the log
+-- each beginning of a right log is right
 pub right-before : (pairs : List GivenPair) (log rest : List OracleEntry) → IsRightFrom pairs (log ++ rest) → IsRightFrom pairs log
 right-before pairs [] rest right = tt
 right-before pairs (first ∷ log) rest right = (right.0, right-before (pairs ++ pairs_of_entry (settled_entry first)) log rest right.1)
@@ -69,7 +69,7 @@ module _ (laws : SettlingLaws) where
         | inr later ↦ all_open (pairs ++ pairs_of_entry first) log right.1 a b later
       ]
 
-  -- and of two events
+  -- the two stamps of each pair of a log that follows the rules have different ids
   pub all_apart : (pairs : List GivenPair) (log : List OracleEntry) → IsRightFrom pairs log → (a b : Stamp) → Contains (pairs_of_log log) (a, b) → id_of a ≢ id_of b
   all_apart pairs [] right a b has = absurd (has_none (a, b) has)
   all_apart pairs (entry ∷ log) right a b has =

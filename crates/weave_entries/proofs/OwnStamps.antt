@@ -42,7 +42,7 @@ tx-begun log b has =
     let at = flat_has (λ (entry : GateEntry). tx_by entry.author entry.deed) log b has in
     has_flat (λ (entry : GateEntry). begun_by entry.author entry.deed) log at.0 b at.1 (Contains-append_left (tx_by at.0.author at.0.deed) (program_by at.0.author at.0.deed) b at.2)
 
--- the same of a program
+-- a program that was begun is one of the requests that were begun
 pub program-begun : (log : List GateEntry) (b : BegunRequest) → Contains (programs_of log) b → Contains (begun_in log) b
 program-begun log b has =
     let at = flat_has (λ (entry : GateEntry). program_by entry.author entry.deed) log b has in
@@ -52,7 +52,7 @@ program-begun log b has =
 pub flight-stamp : (log : List GateEntry) (b : BegunRequest) → flight_of log ≡ Some b → Contains (stamps_of log) b.stamp
 flight-stamp log b is = begun-stamp log b (tx-begun log b (flight_begun log b is))
 
--- the same of a running program
+-- the stamp of a program that runs is one of the log's stamps
 pub running-stamp : (log : List GateEntry) (b : BegunRequest) → Contains (running_of log) b → Contains (stamps_of log) b.stamp
 running-stamp log b has = begun-stamp log b (program-begun log b (running_begun log b has))
 

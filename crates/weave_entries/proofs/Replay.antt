@@ -15,15 +15,15 @@ module _ (log : List GateEntry) (entry : GateEntry) where
   pub clock-push : (home : ℕ) → clock_of home (log ++ entry ∷ []) ≡ clock_after home (clock_of home log) entry.deed
   clock-push home = fold-append _ _ log (entry ∷ [])
 
-  -- the transaction in flight
+  -- the transaction in flight with one more entry
   pub flight-push : flight_of (log ++ entry ∷ []) ≡ flight_after (flight_of log) entry.author entry.deed
   flight-push = fold-append _ _ log (entry ∷ [])
 
-  -- the programs that run
+  -- the programs that run with one more entry
   pub running-push : running_of (log ++ entry ∷ []) ≡ running_after (running_of log) entry.author entry.deed
   running-push = fold-append _ _ log (entry ∷ [])
 
-  -- the stamps
+  -- the stamps made with one more entry
   pub stamps-push : stamps_of (log ++ entry ∷ []) ≡ stamps_of log ++ stamps_by entry.deed
   stamps-push = flat_push _ log entry
 
@@ -35,19 +35,19 @@ module _ (log : List GateEntry) (entry : GateEntry) where
   pub programs-push : programs_of (log ++ entry ∷ []) ≡ programs_of log ++ program_by entry.author entry.deed
   programs-push = flat_push _ log entry
 
-  -- all that was begun
+  -- the requests that were begun with one more entry
   pub begun-push : begun_in (log ++ entry ∷ []) ≡ begun_in log ++ begun_by entry.author entry.deed
   begun-push = flat_push _ log entry
 
-  -- what was ended
+  -- the requests that were ended with one more entry
   pub ended-push : ended_in (log ++ entry ∷ []) ≡ ended_in log ++ ended_by entry.deed
   ended-push = flat_push _ log entry
 
-  -- what was sent
+  -- the messages that were sent with one more entry
   pub sent-push : sent_in (log ++ entry ∷ []) ≡ sent_in log ++ messages_by entry.deed
   sent-push = flat_push _ log entry
 
-  -- the clocks
+  -- the clocks of the log with one more entry
   pub clocks-push : clocks_in (log ++ entry ∷ []) ≡ clocks_in log ++ clocks_by entry.deed
   clocks-push = flat_push _ log entry
 
@@ -55,7 +55,7 @@ module _ (log : List GateEntry) (entry : GateEntry) where
   pub addressed-push : (shard : ℕ) → addressed_to shard (log ++ entry ∷ []) ≡ addressed_to shard log ++ to_shard shard (messages_by entry.deed)
   addressed-push shard = flat_push _ log entry
 
-  -- and without them
+  -- the messages that were sent to a shard, without their numbers, with one more entry
   pub channel-push : (shard : ℕ) → channel_of shard (log ++ entry ∷ []) ≡ channel_of shard log ++ map (λ (addressed : Addressed). addressed.message) (to_shard shard (messages_by entry.deed))
   channel-push shard = rw (addressed-push shard) (map-append _ (addressed_to shard log) (to_shard shard (messages_by entry.deed)))
 

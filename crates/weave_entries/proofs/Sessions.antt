@@ -24,7 +24,7 @@ take_more xs n x at = rw (add-one n) (from xs n x at)
     from (y ∷ xs) zero x at = let same : y ≡ x = cc in ap (λ z. z ∷ []) same
     from (y ∷ xs) (suc n) x at = ap (λ zs. y ∷ zs) (from xs n x at)
 
--- the stamps of begins
+-- the stamps of the requests that a session's log begins
 abbrev pub stamps_begun : List SessionEntry → List Stamp
 stamps_begun log = map (λ (begun : ℕ × Stamp). begun.1) (begins_in log)
 

@@ -44,7 +44,7 @@ module _ (log : List ShardEntry) (entry : ShardEntry) where
       ∙ ap (option_map (λ (arrival : Arrival). arrival.message)) (find-append (λ (arrival : Arrival). (arrival.gate == gate) && (arrival.number == number)) (arrivals_of log) (arrival_by entry.deed))
       ∙ map-or (λ (arrival : Arrival). arrival.message) (find (λ (arrival : Arrival). (arrival.gate == gate) && (arrival.number == number)) (arrivals_of log)) (find (λ (arrival : Arrival). (arrival.gate == gate) && (arrival.number == number)) (arrival_by entry.deed))
 
-  -- what arrived stays
+  -- a message that has arrived is still found under its number with one more entry
   pub arrived-stays : (gate number : ℕ) → is_some (arrived_at gate number log) ≡ true → arrived_at gate number (log ++ entry ∷ []) ≡ arrived_at gate number log
   arrived-stays gate number there = arrived-push gate number ∙ or_there (arrived_at gate number log) (arrived_in gate number (arrival_by entry.deed)) there
 
@@ -62,7 +62,7 @@ module _ (log : List ShardEntry) (author gate number : ℕ) (message : Message) 
       ∙ ap (λ (before : Option Message). option_or before (arrived_in gate number (arrival_by (Arrived gate number message)))) none
       ∙ ap (λ (b : Bool). option_map (λ (arrival : Arrival). arrival.message) (cond b (Some (record { gate = gate; number = number; message = message })) None)) here
 
-  -- and the others are as before
+  -- what arrived under any other number or gatekeeper is as before the arrival
   pub arrived-others : (at_gate at_number : ℕ) → ((gate ≡ at_gate) × (number ≡ at_number) → ⊥) → arrived_at at_gate at_number (log ++ record { author = author; deed = Arrived gate number message } ∷ []) ≡ arrived_at at_gate at_number log
   arrived-others at_gate at_number other =
       let off : ((gate == at_gate) && (number == at_number)) ≡ false = elim (eqb_tells gate at_gate) [
@@ -106,7 +106,7 @@ module _ (log : List ShardEntry) (entry : ShardEntry) where
       ap is_some (arrived-stays log entry of.0 of.1 there) ∙ there
 
 module _ (log : List ShardEntry) (author gate number : ℕ) where
-  -- its gatekeeper's processed number is one more
+  -- a message that is processed adds one to its gatekeeper's processed number, and nothing to the others'
   pub count-applied : (at_gate : ℕ) → processed_count at_gate (log ++ record { author = author; deed = Applied gate number } ∷ []) ≡ processed_count at_gate log + cond (gate == at_gate) 1 0
   count-applied at_gate =
       ap (count_by (λ (of : ℕ × ℕ). of.0 == at_gate)) (processed-push log (record { author = author; deed = Applied gate number }))

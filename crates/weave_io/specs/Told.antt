@@ -1,7 +1,8 @@
 -- The bytes that a source has left and those that a sink has taken. They are known of a source or a sink, or they
 -- aren't, and that never changes.
-use Rattle.std.specs.Prelude.{◌≡◌, ◌⊎◌, ⊤, ℕ, ◌≤◌, List, [], ◌++◌, take, drop, length, Option, None, Some, IfSome}
+use Rattle.std.specs.Prelude.{◌≡◌, ◌⊎◌, ⊤, ℕ, ◌+◌, ◌≤◌, List, [], ◌++◌, take, drop, length, Option, None, Some, IfSome}
 use Rattle.std.specs.Option.{option_map}
+use Rattle.weave_data.specs.Limits.{most_bytes}
 
 -- the bytes, if they are known
 abbrev pub ToldBytes : Type 0
@@ -38,7 +39,7 @@ KeepsWritten before after = (more : List ℕ) × Appends before after more
 
 -- the input was read whole, or as far as shows that it is too long
 abbrev pub IsReadWhole : ToldBytes → ToldBytes → Type 0
-IsReadWhole before after = Tells after [] ⊎ TakesCount before after 4194305
+IsReadWhole before after = Tells after [] ⊎ TakesCount before after (most_bytes + 1)
 
 -- if the bytes that the source had left are known, a text that fits them was put at the end of what was written
 abbrev pub Writes : (List ℕ → List ℕ → Type 0) → ToldBytes → ToldBytes → ToldBytes → Type 0

@@ -1,4 +1,4 @@
--- Which of the numbers below a bound pass a test, with the bound one higher.
+-- With a bound one higher, the numbers below it that pass a test are those before, and the old bound if it passes.
 -- Used by `sessions_of`.
 use Rattle.std.proofs.Common.{◌≡◌, ℕ, suc, ◌+◌, Bool, true, false, cond, [], ◌∷◌, ◌++◌, ap, ◌∙◌, arith}
 use Rattle.std.specs.List.{filter, range_with_len}
@@ -14,11 +14,11 @@ one-more p n =
     ∙ ap (filter p) (range_more 0 n ∙ ap (λ k. range_with_len 0 n ++ k ∷ []) last)
     ∙ filter-append p (range_with_len 0 n) (n ∷ [])
 
--- it passes
+-- if the bound passes the test, the passing numbers with the bound one higher have it at the end
 pub passes-too : (p : ℕ → Bool) (n : ℕ) → p n ≡ true → filter p (range_with_len 0 (n + 1)) ≡ filter p (range_with_len 0 n) ++ n ∷ []
 passes-too p n is = one-more p n ∙ ap (λ b. filter p (range_with_len 0 n) ++ cond b (n ∷ []) []) is
 
--- it doesn't
+-- if the bound doesn't pass the test, the passing numbers with the bound one higher are the same
 pub passes-not : (p : ℕ → Bool) (n : ℕ) → p n ≡ false → filter p (range_with_len 0 (n + 1)) ≡ filter p (range_with_len 0 n)
 passes-not p n is =
     one-more p n ∙ ap (λ b. filter p (range_with_len 0 n) ++ cond b (n ∷ []) []) is ∙ append-nil (filter p (range_with_len 0 n))

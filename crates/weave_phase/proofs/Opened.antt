@@ -1,4 +1,4 @@
--- Lists that a phase's functions hand on.
+-- Clients that were each put in a slot are in their places, and a row that was written anew is what was written.
 -- Used by `run_parts`.
 use Rattle.std.proofs.Common.{◌≡◌, ℕ, ◌<◌, List, ◌++◌, length, map, take, drop, Option, Some, ap, ◌∙◌, arith}
 use Rattle.std.specs.Prelude.{slice_get}

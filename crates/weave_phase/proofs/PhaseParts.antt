@@ -47,7 +47,7 @@ client-kept shared script phase (ClientWork hand c) (ShardWork after shard) ende
 client-kept shared script phase (GateWork hand gate) is ended client works has = absurd (none-some client has)
 client-kept shared script phase (ShardWork hand shard) is ended client works has = absurd (none-some client has)
 
--- and one without has none
+-- a worker without a client still has none after it works
 pub none-kept : (shared : Shared) (script : Script) (phase : ℕ) (was is : Worker) (ended : Ended) → Works shared script phase was is ended
     → client_in was ≡ None → client_in is ≡ None
 none-kept shared script phase (ClientWork hand c) is ended works has = absurd (none-some c (sym has))
@@ -74,7 +74,7 @@ module _ (laws : StartLaws) (phase : ℕ) (split : Split) (parts : AreReadyParts
       laws.may_start script start split.gates.items split.store split.oracle split.shards.items parts.joined.limits parts.joined.core.account
       (laws.logs split parts.joined) counts.0 counts.1 (laws.order split parts.joined) parts.store (laws.shards split parts.joined parts.shards)
 
-  -- and there are 64 clients
+  -- a split core has 64 clients
   pub many-clients : length split.clients.items ≡ 64
   many-clients = sym (length-map split.clients.items requests_in) ∙ ap length parts.joined.parts.requests
       ∙ length-map (range_with_len 0 64) (requests_of_session script) ∙ length-range_with_len 0 64
@@ -144,7 +144,7 @@ module _ (laws : StartLaws) (phase : ℕ) (split : Split) (parts : AreReadyParts
             let did = works k seat at in
             client-kept shared script phase before.0.worker seat.worker did.0 of.client did.1 (ap client_in of.worker_is)
 
-        -- and one at a later place has none
+        -- a seat at a place past the sessions has no client
         pub client-none : (k : ℕ) (seat : Seat) → slice_get after k ≡ Some seat → length sessions ≤ k → client_in seat.worker ≡ None
         client-none k seat at high =
             let before = was k seat at in
@@ -195,7 +195,7 @@ module _ (laws : StartLaws) (phase : ℕ) (split : Split) (parts : AreReadyParts
               back = subst (ArePutBack sessions after between) (sym left_is) back;
             }
 
-            -- there are 64 clients after it
+            -- there are 64 clients after a phase
             pub many-left : length left ≡ 64
             many-left = sym (length-map left Some) ∙ ap length left_is ∙ back.many ∙ taken.many
                 ∙ length-map split.clients.items Some ∙ many-clients
@@ -214,6 +214,6 @@ module _ (laws : StartLaws) (phase : ℕ) (split : Split) (parts : AreReadyParts
                 is-hand : (hand : Hand) → Contains (hands-after laws shared script phase start split.clients.items sessions hands seats seated left after many-left run-is) hand → IsHand shared hand
                 is-hand hand h = part-is-hand hand (whole-run.parts hand h).from (whole-run.parts hand h).did
 
-            -- and there are as many as the locks have
+            -- there are as many hands after a phase as the locks have
             pub hands-count : length (hands-after laws shared script phase start split.clients.items sessions hands seats seated left after many-left run-is) ≡ hands_of shared
             hands-count = length-map after (λ (seat : Seat). hand_in seat.worker) ∙ ran.many ∙ dealt.many ∙ sym opened.of_locks

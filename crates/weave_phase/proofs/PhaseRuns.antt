@@ -17,7 +17,7 @@ use Rattle.workers_account.specs.Pairs.{AddsOpenPairs, GainBelow}
 use Rattle.weave_phase.specs.Parts.{PartsGoOn}
 use Rattle.weave_phase.specs.RunsPhase.{RunsPhase}
 
--- nothing was done
+-- if nothing is in flight in a core, doing nothing runs a phase of it
 pub runs-none : (upto : ℕ) (core : CoreView) → NoneInFlight core.state.account → RunsPhase upto core core
 runs-none upto core landed =
     let account = core.state.account in
@@ -40,7 +40,7 @@ runs-none upto core landed =
       pairs = λ earlier later h. inl h;
     }
 
--- the parts went on
+-- if the parts of a core went on as a phase does, the core ran the phase
 pub runs-parts : (phase : ℕ) (core next : CoreView) (split left : Split) → split.script ≡ core.script → state_of split ≡ core.state
     → PartsGoOn phase split left → next.script ≡ left.script → next.state ≡ state_of left → RunsPhase (phase_end core.script phase) core next
 runs-parts phase core next split left script_is state_is parts next_script next_state =

@@ -31,7 +31,7 @@ once xs rising j k n at_j at_k less =
 
 -- Loops that take a list apart
 
--- the first of what is left
+-- what is left of a list at a place begins with the list's element there, and goes on from the next place
 pub next_at : {A : Type 0} (xs : List A) (place : ℕ) (x : A) (rest : List A) → x ∷ rest ≡ drop place xs
     → (slice_get xs place ≡ Some x) × (rest ≡ drop (place + 1) xs)
 next_at xs place x rest is = elim (cases_lt place (length xs)) [
@@ -41,13 +41,13 @@ next_at xs place x rest is = elim (cases_lt place (length xs)) [
   | inr over ↦ absurd (let long = ap length is ∙ length-drop place xs in omega (arith, long, over))
 ]
 
--- nothing is left
+-- if nothing is left from a place on, the list is at most that long
 pub all_gone : {A : Type 0} (xs : List A) (place : ℕ) (rest : List A) → rest ≡ drop place xs → length rest ≡ 0 → length xs ≤ place
 all_gone xs place rest is none =
     let long = ap length is ∙ length-drop place xs in
     omega arith
 
--- one more is changed, of which the rest waits
+-- if those done and the image of what is left are all, they still are with the next one's image among those done
 pub map_more : {A B : Type 0} (f : A → B) (done : List B) (all : List B) (left : List A) (x : A) (rest : List A) (y : B)
     → done ++ map f left ≡ all → x ∷ rest ≡ left → y ≡ f x → (done ++ y ∷ []) ++ map f rest ≡ all
 map_more f done all left x rest y so_far is new =

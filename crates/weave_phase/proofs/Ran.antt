@@ -1,4 +1,4 @@
--- Seats by their places.
+-- What a call did of the seats, place by place, it did of the row.
 -- Used by `run_all`.
 use Rattle.std.proofs.Common.{◌≡◌, ℕ, ◌<◌, length, List, get_or, subst}
 use Rattle.std.proofs.lemmas.Option.{get_or_from_slice_get, slice_get_within}

@@ -1,4 +1,5 @@
--- When the workers of a phase have run, each hand has carried or followed a session, and each session was left or followed.
+-- When the workers of a phase have run, each hand has carried or followed a session, and each session was left or
+-- followed.
 -- Used by `run_parts` and PhaseParts.
 use Rattle.std.proofs.Common.{◌≡◌, ℕ, zero, suc, ◌+◌, ◌-◌, ◌<◌, ◌≤◌, Bool, List, [], ◌∷◌, length, map, AllPairs, Contains, Option, None, Some, ◌⊎◌, inl, inr, refl, sym, ap, subst, ◌∙◌, cond, eqb, eq-eqb, arith}
 use Rattle.std.specs.Prelude.{slice_get}

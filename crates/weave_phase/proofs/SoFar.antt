@@ -1,4 +1,5 @@
--- The workers so far: those that are seated, and those that are unseated.
+-- If the next worker is seated, or unseated, one more is; in the end all have their seats, or all clients are back in
+-- their places.
 -- Used by `seat_all` and `unseat_all`.
 use Rattle.std.proofs.Common.{◌≡◌, ℕ, ◌+◌, ◌<◌, ◌≤◌, false, List, [], ◌∷◌, ◌++◌, AllPairs, Contains, length, map, get_or, slice_get, slice_set, Option, None, Some, inl, inr, refl, sym, ap, subst, ◌∙◌, arith, length-set}
 use Rattle.std.specs.Option.{option_map}

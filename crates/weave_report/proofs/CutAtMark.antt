@@ -44,6 +44,6 @@ module _ (is_mark : ℕ → Bool) where
       let rest : take (length text - (at + 1)) (drop (at + 1) text) ≡ drop (suc at) text = take_all _ _ (omega (arith, length-drop (at + 1) text)) ∙ ap (λ k. drop k text) (add-one at) in
       cut_there text (ltb-true _ _ found.0) ∙ ap (λ k. Some (cut_at text k)) found.1 ∙ ap (λ behind. Some (take at text, get_or text at 0, behind)) (sym rest)
 
-  -- and nowhere without one
+  -- a text without a mark isn't cut
   pub cut_first-none : (text : List ℕ) → position is_mark text ≡ None → cut_first is_mark text ≡ None
   cut_first-none text e = cut_nowhere text (ltb-false _ _ (test_failed (ltb (position_or_len is_mark text) (length text)) (position_or_len is_mark text) e))

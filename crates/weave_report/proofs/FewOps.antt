@@ -1,4 +1,4 @@
--- A transaction of a script with distinct names has few operations.
+-- A transaction of a script with distinct names has fewer than 2^32 operations.
 -- Used by `ops` and ReportRead.
 use Rattle.std.proofs.Common.{ℕ, zero, suc, ◌<◌, ◌^◌, List, [], ◌∷◌, length, lit<}
 use Rattle.std.specs.Prelude.{slice_get}

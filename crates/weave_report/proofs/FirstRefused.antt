@@ -81,7 +81,7 @@ first_refused script n from (line ∷ lines) refusal e = go (λ next e. first_re
         let told = told_at n why refusal e in
         at_once script n from (line ∷ lines) refusal told.0 (line_refused script from line refusal.1 (is_skipped line) refl (step ∙ ap (λ why. Err why) (sym told.1)))
 
--- of a whole text
+-- if the text of a report is refused, the refusal is of its first line that is refused
 pub first_refused_of_text : (script : Script) (first_line : ℕ) (bytes : Bytes) (refusal : Refusal) → report_in script first_line bytes ≡ Err refusal → IsFirstRefusal script first_line report_start (lines_of bytes) refusal
 unfolding report_in
 first_refused_of_text script first_line bytes refusal e = first_refused script first_line report_start (lines_of bytes) refusal e

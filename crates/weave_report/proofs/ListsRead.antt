@@ -1,4 +1,4 @@
--- Lists that are read as their words are cut are those that are read of all their words.
+-- Counts past the eighth need not be read, and an order is read the same word by word.
 -- Used by `counted_stamp` and `order_in`.
 use Rattle.std.proofs.Common.{◌≡◌, ℕ, ◌≤◌, ◌==◌, Bool, true, false, cond, List, [], ◌∷◌, ◌++◌, length, refl, sym, ap, ◌∙◌, arith, length-append}
 use Rattle.std.specs.Prelude.{◌&&◌, Option, None, Some, Ok, Err, min, nat_lt, option_map}

@@ -111,7 +111,7 @@ module _ (laws : TextLaws) where
 
   -- ---- several lines
 
-  -- lines after lines
+  -- if lines are read up to a reading, and more lines from there, they are read so one after the other
   pub kept_append : (script : Script) (before middle : Reading) (xs ys : List Line) (last : ReadResult Reading) → (after_kept laws) script before xs ≡ Ok middle → (after_kept laws) script middle ys ≡ last → (after_kept laws) script before (xs ++ ys) ≡ last
   kept_append script before middle [] ys last e k = ap (λ one. one >>= λ before. (after_kept laws) script before ys) e ∙ k
   kept_append script before middle (x ∷ xs) ys last e k = through (after_report_line script before x) e (λ next e. kept_append script next middle xs ys last e k)

@@ -56,7 +56,7 @@ module _ (laws : TextLaws) where
   abbrev pub reply_part : Script → Report → List Line
   reply_part script report = first_line ∷ [] ++ flat_map (reply_lines script) report.replies
 
-  -- and the pairs
+  -- the lines of the replies, and then those of the pairs
   abbrev pub pair_part : Script → Report → List Line
   pair_part script report = reply_part script report ++ map (pair_line script) report.pairs
 

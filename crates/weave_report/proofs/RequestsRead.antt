@@ -137,7 +137,7 @@ all_again script before (r ∷ order) h k =
     then_ok (any_named script (name_at script r)) (λ r. named_from script (before ++ r ∷ []) (map (name_at script) order)) r _ (any_again script r h (request_within script r k.0))
     (all_again script (before ++ r ∷ []) order h k.1 ∙ ap (λ (order : List ℕ). Ok order) (append_assoc before (r ∷ []) order))
 
--- requests' names are names
+-- if a script is typed, the names of requests of it are names
 pub names_told : (script : Script) (order : List ℕ) → IsTypedScript script → AllByRecursion (λ r. IsTrue (is_request_of script r)) order → AllByRecursion IsName (map (name_at script) order)
 names_told script [] h k = tt
 names_told script (r ∷ order) h k = (name_is_name script r h (request_within script r k.0), names_told script order h k.1)

@@ -32,7 +32,7 @@ module _ (laws : TextLaws) where
   unset true h = absurd cc
   unset false h = refl
 
-  -- words that are told to be empty are none
+  -- words that pass the test of emptiness are none
   pub no_words : (words : List Word) → is_empty words ≡ true → words ≡ []
   no_words [] h = refl
   no_words (word ∷ words) h = absurd cc

@@ -22,9 +22,9 @@ use Rattle.weave_script.specs.Reading.{start, after_line}
 use Rattle.weave_script.specs.ScriptLines.{IsTextOf}
 use Rattle.weave_script.specs.declared.fault.Cause.{Cause}
 use Rattle.weave_script.specs.declared.fault.Cause.TheVariants as causes
-use Rattle.weave_script.specs.declared.read.reading.Place.{Place}
-use Rattle.weave_script.specs.declared.read.reading.Place.TheVariants.{Start, Between, Inside, Behind}
-use Rattle.weave_script.specs.declared.read.reading.Reading.{Reading}
+use Rattle.weave_script.specs.declared.read.partial_script.Place.{Place}
+use Rattle.weave_script.specs.declared.read.partial_script.Place.TheVariants.{Start, Between, Inside, Behind}
+use Rattle.weave_script.specs.declared.read.partial_script.Reading.{Reading}
 use Rattle.weave_script.proofs.CheckLaws.{finish, told_behind}
 use Rattle.weave_script.proofs.FieldLaws.{NumberLaws}
 use Rattle.weave_script.proofs.FirstFault.{same_fault, told_at, further, at_once}
@@ -140,13 +140,13 @@ module _ (laws : NumberLaws) (refuses : RefusesFirst) (bytes : Bytes) (fault : F
       let fails = line_fails 1 start (lines_of bytes) fault (is ∙ ap (λ f. Err f) (same_fault {A = Script × Report} other fault e)) in
       InScript fault fails.first fails.plain
 
-  -- of a text that isn't too long
+  -- if a text that isn't too long has a fault by the check, it is the first one
   pub first_check_fault : length bytes ≤ 4194304 → check_text bytes ≡ Err fault → IsFirstCheckFault bytes fault
   first_check_fault short e =
       by_reading (read_on true 1 start (lines_of bytes)) refl
       (sym (ap (λ part. (part >>= finish) >>= told_behind) (cond-false (nat_lt 4194304 (length bytes)) (Err (record { line = 0; cause = causes.TooLong })) (read_on true 1 start (lines_of bytes)) (le-ltb 4194304 (length bytes) short))) ∙ e)
 
--- one that is too long
+-- a text that is too long is refused by the check for its length
 pub too_long_check : (bytes : Bytes) → 4194304 < length bytes → check_text bytes ≡ Err (record { line = 0; cause = causes.TooLong })
 too_long_check bytes long =
     ap (λ part. (part >>= finish) >>= told_behind) (cond-true (nat_lt 4194304 (length bytes)) (Err (record { line = 0; cause = causes.TooLong })) (read_on true 1 start (lines_of bytes)) (lt-ltb 4194304 (length bytes) long))

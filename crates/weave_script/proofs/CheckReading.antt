@@ -10,13 +10,13 @@ use Rattle.weave_text.specs.Cutting.{lines_of, words_of, is_skipped, kept_lines}
 use Rattle.weave_text.specs.Lines.{Bytes, Word, Line}
 use Rattle.weave_script.specs.declared.fault.Cause.{Cause}
 use Rattle.weave_script.specs.declared.fault.Cause.TheVariants as causes
-use Rattle.weave_script.specs.declared.read.reading.Place.{Place}
-use Rattle.weave_script.specs.declared.read.reading.Place.TheVariants.{Start, Between, Inside, Behind}
-use Rattle.weave_script.specs.declared.read.reading.Reading.{Reading}
+use Rattle.weave_script.specs.declared.read.partial_script.Place.{Place}
+use Rattle.weave_script.specs.declared.read.partial_script.Place.TheVariants.{Start, Between, Inside, Behind}
+use Rattle.weave_script.specs.declared.read.partial_script.Reading.{Reading}
 use Rattle.weave_data.specs.Steps.{◌>>=◌}
 use Rattle.weave_script.specs.ReadText.{Fault, Part, at_line, is_open, is_report, read_on}
 use Rattle.weave_script.specs.Reading.{after_line_at, within_limits, after_line}
-use Rattle.weave_script.specs.StepLines.{place_of, step_of}
+use Rattle.weave_script.specs.Steps.{place_of, step_of}
 use Rattle.weave_data.proofs.Steps.{bind_ok, ok_is}
 use Rattle.weave_report.proofs.ReadSteps.{is_word}
 use Rattle.weave_script.proofs.Reached.{after_lines}

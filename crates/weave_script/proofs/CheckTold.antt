@@ -20,7 +20,7 @@ use Rattle.weave_script.specs.ReadText.{Fault, Part, at_line, is_open, is_report
 use Rattle.weave_script.specs.Reading.{start}
 use Rattle.weave_script.specs.ScriptLines.{IsTextOf}
 use Rattle.weave_script.specs.declared.fault.Cause.TheVariants as causes
-use Rattle.weave_script.specs.declared.read.reading.Reading.{Reading}
+use Rattle.weave_script.specs.declared.read.partial_script.Reading.{Reading}
 use Rattle.weave_script.proofs.CheckLaws.{finish, told_behind, open_last}
 use Rattle.weave_script.proofs.CheckReading.{reads_past}
 use Rattle.weave_script.proofs.FieldLaws.{NumberLaws}
@@ -109,7 +109,7 @@ module _ (laws : NumberLaws) where
   fault_told tells bytes _ (InReport script left line cause head begins first) =
       report_reached bytes script left head begins ∙ ap (with_script_read script) (tells script (1 + length head.front) left (line, cause) first)
 
-  -- of a text that isn't too long
+  -- the check gives the first fault of a text that isn't too long, if it does so of lines
   pub first_fault_told : TellsFirst → (bytes : Bytes) (fault : Fault) → length bytes ≤ 4194304 → IsFirstCheckFault bytes fault → check_text bytes ≡ Err fault
   first_fault_told tells bytes fault short first =
       ap told (cond-false (nat_lt 4194304 (length bytes)) (Err (record { line = 0; cause = causes.TooLong })) (read_on true 1 start (lines_of bytes)) (le-ltb 4194304 (length bytes) short))

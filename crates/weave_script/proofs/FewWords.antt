@@ -8,9 +8,9 @@ use Rattle.weave_script.specs.declared.fault.LineFault.TheVariants as line_fault
 use Rattle.weave_script.specs.declared.read.part.Taken.{Taken}
 use Rattle.weave_script.specs.declared.read.part.Taken.TheVariants as taken
 use Rattle.weave_script.specs.declared.read.lines.Reader.{Reader}
-use Rattle.weave_script.specs.declared.read.reading.Place.{Place}
-use Rattle.weave_script.specs.declared.read.reading.Place.TheVariants.{Start, Between, Inside, Behind}
-use Rattle.weave_script.specs.declared.read.reading.Reading.{Reading}
+use Rattle.weave_script.specs.declared.read.partial_script.Place.{Place}
+use Rattle.weave_script.specs.declared.read.partial_script.Place.TheVariants.{Start, Between, Inside, Behind}
+use Rattle.weave_script.specs.declared.read.partial_script.Reading.{Reading}
 use Rattle.weave_data.specs.Steps.{◌>>=◌}
 use Rattle.weave_script.specs.Parts.{TakesLine, ends_before}
 use Rattle.weave_script.specs.ReadText.{is_open, is_report}

@@ -1,4 +1,4 @@
--- A field that is read is the one word of what is read.
+-- A name or a number is read only from its one word, and that word is read as it.
 -- Used by CheckFaults, CheckLaws, CheckTold, HeadTexts, HeaderLaws, Reached, ReadAgain, RequestLaws and 2 more.
 use Rattle.std.proofs.Common.{◌≡◌, ℕ, ◌≤◌, ◌<◌, ◌^◌, Ok, Err, ap, ◌∙◌, subst}
 use Rattle.std.specs.Prelude.{nat_lt}

@@ -8,7 +8,7 @@ use Rattle.weave_text.specs.Cutting.{lines_of, words_of, is_skipped}
 use Rattle.weave_text.specs.Lines.{Bytes}
 use Rattle.weave_script.specs.declared.fault.Cause.{Cause}
 use Rattle.weave_script.specs.declared.fault.Cause.TheVariants as causes
-use Rattle.weave_script.specs.declared.read.reading.Reading.{Reading}
+use Rattle.weave_script.specs.declared.read.partial_script.Reading.{Reading}
 use Rattle.weave_data.specs.Steps.{◌>>=◌}
 use Rattle.weave_script.specs.Fields.{ReadOrCause}
 use Rattle.weave_script.specs.Faults.{IsScriptRefusedAt, IsFirstScriptFault}
@@ -91,7 +91,7 @@ first_fault n from (line ∷ lines) fault e = go (λ next e. first_fault (suc n)
     go rest true skipped e = further n from from line lines fault (λ more. cond-true (is_skipped line) _ _ skipped) (rest from e)
     go rest false kept e = taken rest kept (after_line from (words_of line)) refl e
 
--- of a text that isn't too long
+-- if a text that isn't too long is refused, it is for its first fault
 pub first_fault_of_text : (bytes : Bytes) (fault : Fault) → length bytes ≤ 4194304 → read_text bytes ≡ Err fault → IsFirstScriptFault 1 start (lines_of bytes) fault
 first_fault_of_text bytes fault short e =
     first_fault 1 start (lines_of bytes) fault
@@ -120,7 +120,7 @@ refused_there n reading (line ∷ lines) fault number refused =
     ap (λ part. part >>= finish) (cond-false (is_skipped line) _ _ refused.0 ∙ ap (λ read. at_line n read >>= λ next. read_on false (suc n) next lines) refused.1)
     ∙ ap (λ k. Err (record { line = k; cause = fault.cause })) (sym number)
 
--- of a text that isn't too long
+-- a text that isn't too long and has a first fault is refused for it
 pub first_fault_told : (bytes : Bytes) (fault : Fault) → length bytes ≤ 4194304 → IsFirstScriptFault 1 start (lines_of bytes) fault → read_text bytes ≡ Err fault
 first_fault_told bytes fault short first =
     ap (λ part. part >>= finish)
@@ -129,7 +129,7 @@ first_fault_told bytes fault short first =
     ∙ past 1 start first.before first.rest (record { reading = first.reading; line = 1 + length first.before; left = [] }) first.accepted)
     ∙ refused_there (1 + length first.before) first.reading first.rest fault first.number first.refused
 
--- one that is too long
+-- a text that is too long is refused for its length
 pub too_long_text : (bytes : Bytes) → 4194304 < length bytes → read_text bytes ≡ Err (record { line = 0; cause = causes.TooLong })
 too_long_text bytes long =
     ap (λ part. part >>= finish) (cond-true (nat_lt 4194304 (length bytes)) (Err (record { line = 0; cause = causes.TooLong })) (read_on false 1 start (lines_of bytes)) (lt-ltb 4194304 (length bytes) long))

@@ -11,7 +11,7 @@ use Rattle.weave_script.specs.declared.fault.Cause.{Cause}
 use Rattle.weave_script.specs.declared.fault.Cause.TheVariants as causes
 use Rattle.weave_data.specs.Steps.{◌>>=◌}
 use Rattle.weave_script.specs.Fields.{number_in}
-use Rattle.weave_script.specs.HeaderLine.{header_of, sizes_of}
+use Rattle.weave_script.specs.Header.{header_of, sizes_of}
 use Rattle.weave_script.specs.ScriptLines.{header_line}
 use Rattle.weave_data.proofs.Steps.{bind_ok, bind_at, ok_is}
 use Rattle.weave_report.proofs.ReadSteps.{is_word}

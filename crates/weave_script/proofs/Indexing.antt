@@ -18,9 +18,9 @@ use Rattle.program_defs.specs.declared.script.Work.TheVariants.{Change}
 use Rattle.program_defs.specs.Works.{is_look}
 use Rattle.weave_script.specs.Indexed.{IsSetOf, IsPlaces, IsNewRequest}
 use Rattle.weave_script.specs.Limits.{with_names, vertices_of, vertices_of_work, vertices_of_op, count_programs, count_gets, gets_of_work}
-use Rattle.weave_script.specs.RequestLines.{request_of}
-use Rattle.weave_script.specs.StepLines.{place_of}
-use Rattle.weave_script.specs.declared.read.reading.Opening.{Opening}
+use Rattle.weave_script.specs.Requests.{request_of}
+use Rattle.weave_script.specs.Steps.{place_of}
+use Rattle.weave_script.specs.declared.read.partial_script.Opening.{Opening}
 use Rattle.weave_script.proofs.Keys.{same_both_ways, position_from-push_yes, position_from-push_no, position_from-last}
 
 -- the second table is the first with this value at a name
@@ -61,7 +61,7 @@ module _ {X : Type 0} where
       length_one_more [] = refl
       length_one_more (x ∷ xs) = ap suc (length_one_more xs)
 
-  -- the name was there
+  -- a map of a set of names that has a name already is of the set with this name added
   pub set_same : (pairs : List (List ℕ × X)) (names : List Name) (name : Name) → IsSetOf pairs names → has name pairs ≡ true → IsSetOf pairs (with_name name names)
   set_same pairs names name set there = subst (IsSetOf pairs) (ap (λ b. cond b names (names ++ name ∷ [])) (sym (sym (set.among name) ∙ there))) set
 

@@ -15,9 +15,9 @@ use Rattle.program_defs.specs.declared.script.Request.{Request}
 use Rattle.program_defs.specs.declared.script.Work.TheVariants.{Change}
 use Rattle.program_defs.specs.Works.{is_look}
 use Rattle.weave_script.specs.declared.fault.Cause.{Cause}
-use Rattle.weave_script.specs.declared.read.reading.Opening.{Opening}
+use Rattle.weave_script.specs.declared.read.partial_script.Opening.{Opening}
 use Rattle.weave_script.specs.Limits.{over_limit, counts_of_script, with_names, vertices_of, vertices_of_op, vertices_of_work, count_gets, gets_of_work, count_programs}
-use Rattle.weave_script.specs.RequestLines.{request_of}
+use Rattle.weave_script.specs.Requests.{request_of}
 use Rattle.weave_script.proofs.Indexing.{vertices_of-push, gets_of-push, programs_of-push}
 
 -- requests by themselves meet no limit

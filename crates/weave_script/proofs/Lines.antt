@@ -1,4 +1,4 @@
--- What a line leads to.
+-- A line of a program or a transaction with a new name is accepted.
 -- Used by `after_prog`, `after_tx` and ReadAgain.
 use Rattle.std.proofs.Common.{◌≡◌, ℕ, false, List, [], ◌∷◌, ◌++◌, Option, Some, None, Ok, Err, refl, sym, ap, ◌∙◌}
 use Rattle.std.specs.Prelude.{is_some, if◌then◌else◌}
@@ -9,13 +9,13 @@ use Rattle.program_defs.specs.declared.program.Program.{Program}
 use Rattle.program_defs.specs.declared.script.Request.{Request}
 use Rattle.program_defs.specs.declared.script.Work.TheVariants.{Look}
 use Rattle.weave_text.specs.Lines.{Line}
-use Rattle.weave_script.specs.declared.read.reading.Opening.{Opening}
-use Rattle.weave_script.specs.declared.read.reading.Reading.{Reading}
+use Rattle.weave_script.specs.declared.read.partial_script.Opening.{Opening}
+use Rattle.weave_script.specs.declared.read.partial_script.Reading.{Reading}
 use Rattle.weave_data.specs.Steps.{◌>>=◌}
 use Rattle.weave_script.specs.Indexed.{IsPlaces}
 use Rattle.weave_script.specs.Reading.{after_prog, unless_taken}
-use Rattle.weave_script.specs.RequestLines.{request_of, prog_of}
-use Rattle.weave_script.specs.StepLines.{place_of}
+use Rattle.weave_script.specs.Requests.{request_of, prog_of}
+use Rattle.weave_script.specs.Steps.{place_of}
 
 nothing : (found : Option ℕ) → is_some found ≡ false → found ≡ None
 nothing None e = refl

@@ -1,4 +1,4 @@
--- What a word is as a number of at most so much.
+-- A word read as a number is at most the limit, and a word is told as a number exactly if it is one.
 -- Used by `is_number`, `number_in` and HeaderLaws.
 use Rattle.std.proofs.Common.{◌≡◌, ℕ, ◌≤◌, Bool, true, false, cond, refl, subst}
 use Rattle.std.proofs.lemmas.Bool.{leb-true}
@@ -13,14 +13,14 @@ found true true value n e = (refl, cc)
 found true false value n e = absurd cc
 found false small value n e = absurd cc
 
--- it is at most so much
+-- a word that is read as a number up to a limit gives one that is at most the limit
 pub number_up_to-most : (most : ℕ) (word : Word) (n : ℕ) → number_up_to most word ≡ Number n → n ≤ most
 unfolding number_up_to
 number_up_to-most most word n e =
     let h = found (is_number word) (nat_le (value_of word) most) (value_of word) n e in
     subst (λ m. m ≤ most) h.1 (leb-true (value_of word) most h.0)
 
--- it is one
+-- a word was told as a number, be it too large or not
 abbrev pub is_told : Numeral → Bool
 is_told NoNumber = false
 is_told TooLarge = true

@@ -12,7 +12,7 @@ use Rattle.weave_text.specs.Lines.{Line}
 use Rattle.weave_script.specs.declared.fault.Cause.{Cause}
 use Rattle.weave_script.specs.declared.fault.Cause.TheVariants as causes
 use Rattle.weave_script.specs.Fields.{ReadOrCause, or_refused}
-use Rattle.weave_script.specs.OpLines.{op_of, is_end}
+use Rattle.weave_script.specs.Ops.{op_of, is_end}
 use Rattle.weave_script.specs.ScriptLines.{op_line, end_line}
 use Rattle.weave_script.specs.Scripts.{IsName, IsOperation}
 use Rattle.weave_data.proofs.Lists.{each_from, list_all-from}

@@ -1,4 +1,4 @@
--- Phases that rise.
+-- Phases that rise still rise with one more at the end, and so do those that are due and the later ones.
 -- Used by Reached and ReadAgain.
 use Rattle.std.proofs.Common.{◌≡◌, ℕ, ◌+◌, ◌≤◌, Bool, true, false, cond, List, [], ◌∷◌, ◌++◌, refl, ap, arith}
 use Rattle.std.specs.Prelude.{nat_le}
@@ -7,12 +7,12 @@ use Rattle.weave_script.specs.ScriptLines.{due_phases, later_phases}
 use Rattle.weave_script.specs.Scripts.{RiseTo}
 use Rattle.weave_script.proofs.Items.{are_at_most}
 
--- to a higher end
+-- phases that rise up to an end rise up to each higher one
 pub rise_further : (low high more : ℕ) (phases : List ℕ) → high ≤ more → RiseTo low high phases → RiseTo low more phases
 rise_further low high more [] above h = tt
 rise_further low high more (phase ∷ phases) above h = (h.0, omega (arith, h.1), rise_further phase high more phases above h.2)
 
--- and one more at the end
+-- phases that rise up to an end still do with one more phase at this end
 pub rise-push : (low high : ℕ) (phases : List ℕ) → low ≤ high → RiseTo low high phases → RiseTo low high (phases ++ high ∷ [])
 rise-push low high [] some h = (some, omega arith, tt)
 rise-push low high (phase ∷ phases) some h = (h.0, h.1, rise-push phase high phases h.1 h.2)

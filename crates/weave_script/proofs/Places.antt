@@ -8,7 +8,7 @@ use Rattle.weave_data.specs.declared.name.Name.{Name}
 use Rattle.program_defs.specs.declared.script.Request.{Request}
 use Rattle.weave_script.specs.ScriptLines.{name_of_request}
 use Rattle.weave_script.specs.Scripts.{IsName, IsRequest, request_names}
-use Rattle.weave_script.specs.StepLines.{place_of}
+use Rattle.weave_script.specs.Steps.{place_of}
 use Rattle.graph_ops.proofs.Vertices.{itself}
 
 -- none of these requests has the name

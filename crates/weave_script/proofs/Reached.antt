@@ -16,21 +16,21 @@ use Rattle.program_defs.specs.declared.script.Work.TheVariants.{Change, Look}
 use Rattle.weave_text.specs.Lines.{Word, Line}
 use Rattle.weave_script.specs.declared.fault.Cause.{Cause}
 use Rattle.weave_script.specs.declared.fault.Cause.TheVariants as causes
-use Rattle.weave_script.specs.declared.read.reading.Opening.{Opening}
-use Rattle.weave_script.specs.declared.read.reading.Place.{Place}
-use Rattle.weave_script.specs.declared.read.reading.Place.TheVariants.{Start, Between, Inside, Behind}
-use Rattle.weave_script.specs.declared.read.reading.Reading.{Reading}
+use Rattle.weave_script.specs.declared.read.partial_script.Opening.{Opening}
+use Rattle.weave_script.specs.declared.read.partial_script.Place.{Place}
+use Rattle.weave_script.specs.declared.read.partial_script.Place.TheVariants.{Start, Between, Inside, Behind}
+use Rattle.weave_script.specs.declared.read.partial_script.Reading.{Reading}
 use Rattle.weave_data.specs.Steps.{◌>>=◌}
 use Rattle.weave_script.specs.Fields.{ReadOrCause}
-use Rattle.weave_script.specs.HeaderLine.{header_of}
+use Rattle.weave_script.specs.Header.{header_of}
 use Rattle.weave_script.specs.Limits.{over_limit}
-use Rattle.weave_script.specs.OpLines.{op_of}
+use Rattle.weave_script.specs.Ops.{op_of}
 use Rattle.weave_script.specs.ReadText.{script_at, script_with}
 use Rattle.weave_script.specs.Reading.{counts_so_far, unless_taken, after_tx, after_prog, after_phase, after_steps, after_item, after_header, after_line_inside, after_step, after_line_at, unless_met, within_limits, after_line}
-use Rattle.weave_script.specs.RequestLines.{request_of, tx_of, prog_of}
+use Rattle.weave_script.specs.Requests.{request_of, tx_of, prog_of}
 use Rattle.weave_script.specs.ScriptLines.{header_line, op_line, opening_line, end_line, request_lines, phase_line, item_lines, step_line, steps_line, script_lines}
 use Rattle.weave_script.specs.Scripts.{IsOperation, IsRequest, IsStep, RiseTo, IsScript, request_names}
-use Rattle.weave_script.specs.StepLines.{place_of, step_of}
+use Rattle.weave_script.specs.Steps.{place_of, step_of}
 use Rattle.weave_data.proofs.Steps.{bind_ok, ok_is}
 use Rattle.weave_report.proofs.ReadSteps.{is_word}
 use Rattle.weave_script.proofs.Binds.{pick}
@@ -44,7 +44,7 @@ use Rattle.weave_script.proofs.Places.{IsFree, free-from_place_of, distinct-push
 use Rattle.weave_script.proofs.RequestLaws.{IsOpening, tx_of-ok, prog_of-ok}
 use Rattle.weave_script.proofs.StepLaws.{step_of-ok}
 
--- a script so far
+-- the reading of a script at this place, with what was read so far
 abbrev pub at : ℕ → ℕ → List Request → List ℕ → Place → Reading
 at gates shards requests phases place = record { gates = gates; shards = shards; requests = requests; phases = phases; place = place }
 
@@ -117,7 +117,7 @@ none_good : (n m : ℕ) → AreSizes n m → AreGood n m [] []
 unfolding IsDistinct
 none_good n m sizes = record { sizes = sizes; each = tt; distinct = tt; rising = tt }
 
--- after all these lines
+-- the reading after all of these lines, or the cause at the first that is refused
 abbrev pub after_lines : Reading → List Line → ReadOrCause Reading
 after_lines reading [] = Ok reading
 after_lines reading (line ∷ lines) = after_line reading line >>= λ next. after_lines next lines

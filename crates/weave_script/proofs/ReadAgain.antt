@@ -14,21 +14,21 @@ use Rattle.program_defs.specs.declared.script.Step.{Step}
 use Rattle.program_defs.specs.declared.script.Work.{Work}
 use Rattle.program_defs.specs.declared.script.Work.TheVariants.{Change, Look}
 use Rattle.weave_text.specs.Lines.{Line}
-use Rattle.weave_script.specs.declared.read.reading.Opening.{Opening}
-use Rattle.weave_script.specs.declared.read.reading.Place.{Place}
-use Rattle.weave_script.specs.declared.read.reading.Place.TheVariants.{Start, Between, Inside, Behind}
-use Rattle.weave_script.specs.declared.read.reading.Reading.{Reading}
+use Rattle.weave_script.specs.declared.read.partial_script.Opening.{Opening}
+use Rattle.weave_script.specs.declared.read.partial_script.Place.{Place}
+use Rattle.weave_script.specs.declared.read.partial_script.Place.TheVariants.{Start, Between, Inside, Behind}
+use Rattle.weave_script.specs.declared.read.partial_script.Reading.{Reading}
 use Rattle.weave_data.specs.Steps.{◌>>=◌}
 use Rattle.weave_script.specs.Fields.{ReadOrCause}
-use Rattle.weave_script.specs.HeaderLine.{header_of}
+use Rattle.weave_script.specs.Header.{header_of}
 use Rattle.weave_script.specs.Limits.{over_limit}
-use Rattle.weave_script.specs.OpLines.{is_end, op_of}
+use Rattle.weave_script.specs.Ops.{is_end, op_of}
 use Rattle.weave_script.specs.ReadText.{script_at}
 use Rattle.weave_script.specs.Reading.{start, counts_so_far, unless_taken, after_line_at, unless_met, within_limits, after_line}
-use Rattle.weave_script.specs.RequestLines.{request_of, tx_of}
+use Rattle.weave_script.specs.Requests.{request_of, tx_of}
 use Rattle.weave_script.specs.ScriptLines.{header_line, op_line, opening_line, end_line, program_words, work_lines, request_lines, phase_line, phase_lines, due_phases, later_phases, item_lines, step_line, steps_line, steps_lines, script_lines}
 use Rattle.weave_script.specs.Scripts.{IsOperation, IsWork, IsRequest, IsStep, RiseTo, IsScript, request_names, steps_of}
-use Rattle.weave_script.specs.StepLines.{place_of, step_of}
+use Rattle.weave_script.specs.Steps.{place_of, step_of}
 use Rattle.weave_data.proofs.Steps.{bind_at}
 use Rattle.weave_script.proofs.FieldLaws.{NumberLaws}
 use Rattle.weave_script.proofs.HeaderLaws.{AreSizes, header_of-line}

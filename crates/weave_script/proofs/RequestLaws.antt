@@ -11,10 +11,10 @@ use Rattle.program_defs.specs.declared.program.Program.TheVariants.{Show, Reach,
 use Rattle.weave_text.specs.Lines.{Word, Line}
 use Rattle.weave_script.specs.declared.fault.Cause.{Cause}
 use Rattle.weave_script.specs.declared.fault.Cause.TheVariants as causes
-use Rattle.weave_script.specs.declared.read.reading.Opening.{Opening}
+use Rattle.weave_script.specs.declared.read.partial_script.Opening.{Opening}
 use Rattle.weave_data.specs.Steps.{◌>>=◌}
 use Rattle.weave_script.specs.Fields.{ReadOrCause, or_refused, name_word, number_in}
-use Rattle.weave_script.specs.RequestLines.{opening_of, tx_of, tag_of, filter_of, bound_word, show_program, reach_program, around_program, path_program, show_of, reach_of, around_of, path_of, program_of, prog_of}
+use Rattle.weave_script.specs.Requests.{opening_of, tx_of, tag_of, filter_of, bound_word, show_program, reach_program, around_program, path_program, show_of, reach_of, around_of, path_of, program_of, prog_of}
 use Rattle.weave_script.specs.ScriptLines.{filter_words, program_words}
 use Rattle.weave_script.specs.Scripts.{IsName, IsFilter, IsProgram}
 use Rattle.weave_data.proofs.Steps.{bind_ok, bind_at, ok_is}
@@ -28,7 +28,7 @@ pub record IsOpening (gates : ℕ) (opening : Opening) : Type 0 where
   pub session : opening.session ≤ 63
   pub gate : opening.gate < gates
 
--- its words
+-- the words of an opening: its name, its session and its gatekeeper
 abbrev pub opening_words : Opening → List Word
 opening_words opening = opening.name ∷ decimal opening.session ∷ decimal opening.gate ∷ []
 

@@ -1,4 +1,4 @@
--- How small scripts are.
+-- A valid script has at most 10,000 requests, and 64 operations in each transaction.
 -- Used by `scripts_are_small` and CheckLaws.
 use Rattle.std.proofs.Common.{◌≡◌, ℕ, zero, suc, ◌≤◌, ◌<◌, List, [], ◌∷◌, length, Some, subst, arith}
 use Rattle.std.specs.Prelude.{slice_get}

@@ -17,7 +17,7 @@ use Rattle.weave_data.specs.Steps.{◌>>=◌}
 use Rattle.weave_script.specs.Fields.{or_refused, name_word, number_in}
 use Rattle.weave_script.specs.ScriptLines.{step_line, name_of_request}
 use Rattle.weave_script.specs.Scripts.{IsRequest, IsStep, IsNotice, request_names}
-use Rattle.weave_script.specs.StepLines.{place_of, named_request, gate_word, shard_word, notice_word, epoch_word, of_gate, of_shard, of_request, hear_of, nop_of, apply_of, epoch_step_of, deliver_of, step_of, step_of_one, step_of_two, step_of_three}
+use Rattle.weave_script.specs.Steps.{place_of, named_request, gate_word, shard_word, notice_word, epoch_word, of_gate, of_shard, of_request, hear_of, nop_of, apply_of, epoch_step_of, deliver_of, step_of, step_of_one, step_of_two, step_of_three}
 use Rattle.weave_data.proofs.Steps.{bind_ok, bind_at, ok_is}
 use Rattle.weave_report.proofs.ReadSteps.{is_word}
 use Rattle.weave_script.proofs.Binds.{pick}

@@ -8,7 +8,7 @@ use Rattle.weave_text.specs.Cutting.{lines_of, words_of, is_skipped, kept_lines}
 use Rattle.weave_text.specs.Lines.{Bytes}
 use Rattle.weave_script.specs.declared.fault.Cause.{Cause}
 use Rattle.weave_script.specs.declared.fault.Cause.TheVariants as causes
-use Rattle.weave_script.specs.declared.read.reading.Reading.{Reading}
+use Rattle.weave_script.specs.declared.read.partial_script.Reading.{Reading}
 use Rattle.weave_data.specs.Steps.{◌>>=◌}
 use Rattle.weave_script.specs.Fields.{ReadOrCause}
 use Rattle.weave_script.specs.ReadText.{Fault, Part, at_line, read_on, read_part, read_text, script_at}

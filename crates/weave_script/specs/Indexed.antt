@@ -8,11 +8,11 @@ use Rattle.weave_script.specs.declared.fault.LineFault.{LineFault}
 use Rattle.weave_script.specs.declared.fault.LineFault.TheVariants.{Refused, Memory}
 use Rattle.weave_script.specs.declared.read.index.Index.{Index}
 use Rattle.weave_script.specs.declared.read.lines.Reader.{Reader}
-use Rattle.weave_script.specs.declared.read.reading.Reading.{Reading}
+use Rattle.weave_script.specs.declared.read.partial_script.Reading.{Reading}
 use Rattle.weave_script.specs.Fields.{ReadOrCause}
 use Rattle.weave_script.specs.Limits.{over_limit, vertices_of, count_programs, count_gets}
 use Rattle.weave_script.specs.Reading.{requests_so_far, counts_so_far}
-use Rattle.weave_script.specs.StepLines.{place_of}
+use Rattle.weave_script.specs.Steps.{place_of}
 
 -- the map has these names as its keys
 pub record IsSetOf {X : Type 0} (pairs : List (List ℕ × X)) (names : List Name) : Type 0 where

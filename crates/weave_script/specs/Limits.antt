@@ -14,7 +14,7 @@ use Rattle.program_defs.specs.declared.script.Work.TheVariants.{Change, Look}
 use Rattle.program_defs.specs.Works.{is_look}
 use Rattle.weave_script.specs.declared.fault.Cause.{Cause}
 use Rattle.weave_script.specs.declared.fault.Cause.TheVariants as causes
-use Rattle.weave_script.specs.declared.read.reading.Counts.{Counts}
+use Rattle.weave_script.specs.declared.read.partial_script.Counts.{Counts}
 
 -- a text that may be read, and one that is too long
 abbrev pub IsShort : List ℕ → Type 0

@@ -6,12 +6,12 @@ use Rattle.weave_script.specs.declared.fault.LineFault.{LineFault}
 use Rattle.weave_script.specs.declared.fault.LineFault.TheVariants as line_fault
 use Rattle.weave_script.specs.declared.fault.ScriptFault.{ScriptFault}
 use Rattle.weave_script.specs.declared.fault.ScriptFault.TheVariants.{Refused, Memory}
-use Rattle.weave_script.specs.declared.read.head.Head.{Head}
+use Rattle.weave_script.specs.declared.read.before_report.Head.{Head}
 use Rattle.weave_script.specs.declared.read.part.Part.{Part}
 use Rattle.weave_script.specs.declared.read.part.Taken.{Taken}
 use Rattle.weave_script.specs.declared.read.part.Taken.TheVariants as taken
 use Rattle.weave_script.specs.declared.read.lines.Reader.{Reader}
-use Rattle.weave_script.specs.declared.read.reading.Reading.{Reading}
+use Rattle.weave_script.specs.declared.read.partial_script.Reading.{Reading}
 use Rattle.weave_script.specs.Indexed.{IsReaderReady}
 use Rattle.weave_script.specs.ReadText.{Fault, is_open, is_report}
 use Rattle.weave_script.specs.ReadText as text

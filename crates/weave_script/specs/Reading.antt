@@ -9,18 +9,18 @@ use Rattle.weave_data.specs.declared.name.Name.{Name}
 use Rattle.weave_text.specs.Lines.{Line}
 use Rattle.weave_script.specs.declared.fault.Cause.{Cause}
 use Rattle.weave_script.specs.declared.fault.Cause.TheVariants as causes
-use Rattle.weave_script.specs.declared.read.reading.Counts.{Counts}
-use Rattle.weave_script.specs.declared.read.reading.Opening.{Opening}
-use Rattle.weave_script.specs.declared.read.reading.Place.{Place}
-use Rattle.weave_script.specs.declared.read.reading.Place.TheVariants.{Start, Between, Inside, Behind}
-use Rattle.weave_script.specs.declared.read.reading.Reading.{Reading}
+use Rattle.weave_script.specs.declared.read.partial_script.Counts.{Counts}
+use Rattle.weave_script.specs.declared.read.partial_script.Opening.{Opening}
+use Rattle.weave_script.specs.declared.read.partial_script.Place.{Place}
+use Rattle.weave_script.specs.declared.read.partial_script.Place.TheVariants.{Start, Between, Inside, Behind}
+use Rattle.weave_script.specs.declared.read.partial_script.Reading.{Reading}
 use Rattle.weave_data.specs.Steps.{◌>>=◌}
 use Rattle.weave_script.specs.Fields.{ReadOrCause}
-use Rattle.weave_script.specs.HeaderLine.{header_of}
+use Rattle.weave_script.specs.Header.{header_of}
 use Rattle.weave_script.specs.Limits.{over_limit, counts_of_script}
-use Rattle.weave_script.specs.OpLines.{is_end, op_of}
-use Rattle.weave_script.specs.RequestLines.{request_of, tx_of, prog_of}
-use Rattle.weave_script.specs.StepLines.{place_of, step_of}
+use Rattle.weave_script.specs.Ops.{is_end, op_of}
+use Rattle.weave_script.specs.Requests.{request_of, tx_of, prog_of}
+use Rattle.weave_script.specs.Steps.{place_of, step_of}
 
 -- before the first line
 abbrev pub start : Reading

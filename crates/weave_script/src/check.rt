@@ -6,7 +6,7 @@ ghost use Rattle.weave_script.specs.CheckReading.{cause_of, check_text};
 
 use crate::fault::{Cause, ScriptFault};
 use crate::laws::{heads_are_texts, scripts_are_small};
-use crate::read::head::{Head, read_head};
+use crate::read::before_report::{Head, read_head};
 use program_defs::Script;
 use std::alloc::Global;
 use weave_report::{Report, ReportCause, ReportFault, read_report};

@@ -2,7 +2,8 @@
 
 use std::alloc::{AllocError, AllocFailed};
 
-/// What is wrong with a line. Causes are checked in this order; fields are checked from left to right.
+/// What is wrong with a line. Its form is checked first, then its fields from left to right, each for these causes in
+/// this order.
 #[derive(Clone, Copy, PartialEq, Eq, Debug)]
 pub enum Cause {
     /// The input has more than 4,194,304 bytes. The line reported is 0.

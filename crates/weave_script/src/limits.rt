@@ -3,13 +3,19 @@ ghost use Rattle.std.specs.Prelude.{◌≡◌};
 ghost use Rattle.weave_script.specs.Limits.{over_limit};
 
 use crate::fault::Cause;
-use crate::read::reading::Counts;
+use crate::read::partial_script::Counts;
 use weave_data::{MOST_GETS, MOST_OPS, MOST_PROGRAMS, MOST_REQUESTS};
 
 /// The most names of vertices of a script.
 pub const MOST_VERTICES: usize = 10_000;
 /// The most steps of a script.
 pub const MOST_STEPS: usize = 100_000;
+/// The greatest bound on the edges that a program goes through.
+pub(crate) const MOST_BOUND: u32 = 1_000;
+/// The greatest number of a notice or a message.
+pub(crate) const MOST_NOTICE: u32 = 100_000;
+/// The greatest number of an epoch.
+pub(crate) const MOST_EPOCH: u32 = 1_000_000;
 
 /// The cause of the first limit that is met.
 pub(crate) fn over_limit(counts: Counts) -> Option<Cause>

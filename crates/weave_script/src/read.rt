@@ -6,21 +6,21 @@ ghost use Rattle.weave_script.specs.ReadText.{Fault, script_at, read_text};
 ghost use Rattle.weave_script.specs.ScriptLines.{IsTextOf};
 ghost use Rattle.weave_script.specs.Limits.{IsShort};
 
+pub mod before_report;
 mod fields;
-pub mod head;
 mod header;
 mod index;
 mod lines;
 mod ops;
 mod part;
-pub mod reading;
+pub mod partial_script;
 mod requests;
 mod steps;
 
 use crate::fault::{Cause, ScriptFault};
 use crate::laws::texts_are_read;
 use crate::read::part::{Part, read_part};
-use crate::read::reading::{Place, Reading};
+use crate::read::partial_script::{Place, Reading};
 use program_defs::Script;
 use std::alloc::Global;
 

@@ -1,6 +1,5 @@
 //! Worked lists of steps, whole: the script with its steps, and the report that `trace` writes. `check` says of each
-//! that
-//! it is right.
+//! that it is right.
 use crate::top_tests::{HONEST, call, gives};
 use std::alloc::{AllocError, Global};
 use std::sync::Wait;

@@ -1,4 +1,4 @@
--- The values of the sessions after what the machines did at a step of a request.
+-- After `begin`, `visit` and `reply` the values of the sessions are still those of the logs.
 -- Used by `begin_change`, `begin_program`, `reply_to_change`, `reply_to_program` and VisitWith.
 use Rattle.std.proofs.Common.{◌≡◌, ◌≢◌, ℕ, ◌<◌, Bool, true, false, List, [], ◌∷◌, ◌++◌, length, Some, inl, inr, refl, sym, ap, subst, ◌∙◌}
 use Rattle.std.specs.Prelude.{◌&&◌, ◌||◌, not, slice_index_or, if◌then◌else◌}
@@ -85,7 +85,7 @@ module _ (stay : StayLaws) (core : CoreLaws) (script : Script) (old new : Machin
     begun-other : is_ok a ≡ true → (t : ℕ) → t ≢ s → session_log new.state.account t ≡ session_log old.state.account t
     begun-other ok t other = ap (λ (logs : Account). session_log logs t) (begun-is ok) ∙ begin-other script old.state are.limits are.core.account are.core.sessions r request at t other
 
-    -- of a transaction
+    -- after `begin` of a transaction the values stay those of the logs
     pub change-values : is_look request.work ≡ false → AreAllByLog script new.state.account values
     change-values changes = elim (cases_Bool (is_ok a)) [
       | inl ok ↦
@@ -93,7 +93,7 @@ module _ (stay : StayLaws) (core : CoreLaws) (script : Script) (old new : Machin
       | inr fails ↦ left-as-it-was (Begin r) a did fails
     ]
 
-    -- of a program
+    -- after `begin` of a program they are so with the program running
     pub program-values : is_look request.work ≡ true → is_ok a ≡ true → (one : Running) → one.stamp ≡ stamp_to_begin old.state.account request → IsRunningIn script new.state.account r one → AreAllByLog script new.state.account (with_running values s (Some one))
     program-values looks ok one stamp-is runs =
         program-begun stay script old.state.account new.state.account are.limits are.core.account begun-after.0 begun-after.1 r request at values all begun-others (begun-other ok) (stamp_to_begin old.state.account request) (begun-log ok) looks one stamp-is runs
@@ -153,7 +153,7 @@ module _ (stay : StayLaws) (core : CoreLaws) (script : Script) (old new : Machin
         by true true e h = absurd (let f : answer.Idle ≡ answer.Ok = h in cc)
         by false w e h = absurd (let f : answer.Idle ≡ answer.Ok = h in cc)
 
-    -- of a transaction
+    -- after `reply` of a transaction they are so with its reply
     pub change-replied : is_change request.work ≡ true → new.values ≡ (if is_ok a then with_reply_at values s (reply_of_change old.state.account.store (last_begun old.state.account s) r) else values) → AreAllByLog script new.state.account new.values
     change-replied changes is = elim (cases_Bool (is_ok a)) [
       | inl ok ↦

@@ -1,4 +1,4 @@
--- A session with its log, and one of the sessions of a core.
+-- If a session gets one more entry, it goes on together with its log, and the table of a core's sessions has the entry.
 -- Used by `begin_next`, `begun`, `first_clients`, `first_unanswered`, `put`, `replied`, `reply_to_one` and 3 more.
 use Rattle.std.proofs.Common.{arith, ◌≡◌, ℕ, ◌+◌, ◌<◌, List, [], ◌∷◌, ◌++◌, length, map, get_or, AllPairs, Option, Some, refl, sym, ap, subst, ◌∙◌}
 use Rattle.std.specs.Prelude.{slice_get, slice_set}
@@ -38,7 +38,7 @@ client-more laws number session log deed is fits =
       rising = subst (λ (rs : List ℕ). AllPairs (λ (a b : ℕ). a < b) rs) (sym same) is.rising;
     }
 
--- and so does one more entry with its session
+-- if a right session is moved by a deed that fits, and its log gets the entry, both go on together
 pub client-adds : LogLaws → (number : ℕ) (old new : Client) (deed : SessionDeed) → IsClientOf number old.session old.log.items → FitsSession (session_of (requests_in old) (log_of_client old)) deed → new.session ≡ session_after old.session deed
     → new.log.items ≡ old.log.items ++ record { author = number; deed = deed } ∷ [] → AddsDeed number old new deed
 client-adds laws number old new deed is fits session log = record {
@@ -59,7 +59,7 @@ pub same-session : (old new : ClientTable) (s : ℕ) → AreSameClients old new 
 same-session old new s same = λ i. session_of (get_or (same.requests i) s []) (get_or (same.logs i) s [])
 
 module _ (clients : List Client) (s : ℕ) (before after : Client) (within : s < length clients) (at : slice_get clients s ≡ Some before) where
-  -- one more entry
+  -- if a session's log gets one more entry, the table of sessions does
   pub adds-at : (deed : SessionDeed) → AddsDeed s before after deed → AddsToSession (table_of clients) (table_of (slice_set clients s after)) s deed
   adds-at deed adds = record {
     logs = image-changes log_of_client clients s before at (λ (log : List SessionEntry). log ++ record { author = s; deed = deed } ∷ []) [] after adds.log;

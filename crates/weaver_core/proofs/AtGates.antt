@@ -1,4 +1,4 @@
--- One of the gatekeepers of a core.
+-- If one gatekeeper of a core gets one more entry, the table of their logs has it, and the gatekeepers stay in order.
 -- Used by `begin`, `finish`, `first_gates`, `hear`, `hear_at`, `new`, `nop`, `raise`, `raise_at` and `send`.
 use Rattle.std.proofs.Common.{◌≡◌, ℕ, ◌+◌, ◌<◌, List, [], ◌∷◌, ◌++◌, length, map, Some, refl, sym, ap, ◌∙◌, subst, arith}
 use Rattle.std.specs.Prelude.{slice_get, slice_set}
@@ -46,7 +46,7 @@ module _ (shards : ℕ) (gates : List GateView) (g : ℕ) (before after : GateVi
   pub adds-at : (author : ℕ) (deed : GateDeed) → Adds before after author deed → AddsToGate (table_of shards gates) (table_of shards (slice_set gates g after)) g author deed
   adds-at author deed adds = record { logs = image-changes log_of_gate gates g before at (λ (log : List GateEntry). log ++ record { author = author; deed = deed } ∷ []) [] after adds.log; shards = refl }
 
-  -- or stays
+  -- the table of gatekeepers stays the same if the log of the one that is set does
   pub table-rests : after.log ≡ before.log → table_of shards (slice_set gates g after) ≡ table_of shards gates
   table-rests same = ap (λ (logs : List (List GateEntry)). record { shards = shards; logs = logs }) (image-rests log_of_gate gates g before at after same)
 
@@ -58,11 +58,11 @@ module _ (shards : ℕ) (gates : List GateView) (g : ℕ) (before after : GateVi
     each_shards = each-set (λ n (gate : GateView). gate.shards ≡ shards) gates g after within are.each_shards (same.shards ∙ are.each_shards g before at);
   })
 
-  -- the same if one has one more entry
+  -- gatekeepers stay in order if one of them gets one more entry
   pub in-order-after : (author : ℕ) (deed : GateDeed) → AreGatesInOrder (length gates) shards gates → Adds before after author deed → AreGatesInOrder (length (slice_set gates g after)) shards (slice_set gates g after)
   in-order-after author deed are adds = still-in-order are (record { home = adds.home; gates = adds.gates; shards = adds.shards })
 
-  -- and if nothing but its room differs
+  -- gatekeepers stay in order if nothing but the room of one of them changes
   pub in-order-still : AreGatesInOrder (length gates) shards gates → IsSameGate before after → AreGatesInOrder (length (slice_set gates g after)) shards (slice_set gates g after)
   in-order-still are same = still-in-order are (record { home = same.home; gates = same.gates; shards = same.shards })
 
@@ -78,7 +78,7 @@ first-more first count shards made then_made gate are many new is =
       logs = image-push log_of_gate made gate [] first are.logs new.log_is;
     })
 
--- there are that many
+-- if these are the first gatekeepers up to a number, there are exactly that many
 pub first-count : (first count shards : ℕ) (made : List GateView) → AreFirstGates first count shards made → length made ≡ first
 first-count first count shards made are = sym (length-map made log_of_gate) ∙ ap length are.logs ∙ length-replicate first []
 

@@ -1,4 +1,4 @@
--- One of the shards of a core.
+-- If one shard of a core gets one more entry, the table of their logs has it, and the shards stay in order.
 -- Used by `apply`, `arrive`, `collect`, `first_shards`, `kept`, `next_number`, `visit` and AtVisits.
 use Rattle.std.proofs.Common.{◌≡◌, ℕ, ◌+◌, ◌<◌, List, [], ◌∷◌, ◌++◌, length, map, Option, None, Some, Result, Ok, Err, IfOk, OnErr, refl, sym, ap, ◌∙◌, subst}
 use Rattle.std.specs.Prelude.{is_some, slice_get, slice_set, IsSome, if◌then◌else◌}
@@ -24,11 +24,11 @@ pub record IsMadeAlike (before after : ShardView) : Type 0 where
   pub number : after.number ≡ before.number
   pub gates : after.gates ≡ before.gates
 
--- so it does if the shard is unchanged
+-- what a shard is made for stays if the shard is unchanged
 pub alike-if-same : (before after : ShardView) → after ≡ before → IsMadeAlike before after
 alike-if-same before after is = record { number = ap (λ (x : ShardView). x.number) is; gates = ap (λ (x : ShardView). x.gates) is }
 
--- and if its log has one more entry
+-- what a shard is made for stays if its log gets one more entry
 pub alike-if-adds : (before after : ShardView) (author : ℕ) (deed : ShardDeed) → AddsEntry before after author deed → IsMadeAlike before after
 alike-if-adds before after author deed adds = record { number = adds.number; gates = adds.gates }
 
@@ -57,7 +57,7 @@ module _ (gates : ℕ) (shards : List ShardView) (s : ℕ) (before after : Shard
   pub adds-at : (deed : ShardDeed) → AddsEntry before after 0 deed → AddsToShard (table_of gates shards) (table_of gates (slice_set shards s after)) s deed
   adds-at deed adds = record { logs = image-changes log_of_shard shards s before at (λ (log : List ShardEntry). log ++ record { author = 0; deed = deed } ∷ []) [] after adds.log; gates = refl }
 
-  -- or stays
+  -- the table of shards stays the same if the shard that is set is unchanged
   pub table-rests : after ≡ before → table_of gates (slice_set shards s after) ≡ table_of gates shards
   table-rests same = ap (λ (logs : List (List ShardEntry)). record { gates = gates; logs = logs }) (image-rests log_of_shard shards s before at after (ap log_of_shard same))
 
@@ -77,7 +77,7 @@ module _ (gates : ℕ) (shards : List ShardView) (s : ℕ) (before after : Shard
   arrives-at home number message Repeat is kept repeat =
       (subst (λ (log : List ShardEntry). IsSome (arrived_at home number log)) log-is (had-arrived (arrived_at home number before.log) is), table-rests (repeat refl))
 
-  -- and what was applied
+  -- if a shard that can apply the head of a channel does, the table says that it applied that head
   pub applies-at : (home : ℕ) → CanApplyHead home before.log → AddsEntry before after 0 (Applied home (processed_count home before.log + 1))
       → AppliesHead (table_of gates shards) (table_of gates (slice_set shards s after)) s home
   applies-at home next adds = record {
@@ -85,7 +85,7 @@ module _ (gates : ℕ) (shards : List ShardView) (s : ℕ) (before after : Shard
     adds = adds-at (Applied home (processed_count home (shard_log_at (table_of gates shards) s) + 1)) (subst (λ (log : List ShardEntry). AddsEntry before after 0 (Applied home (processed_count home log + 1))) log-is adds);
   }
 
--- one shard more, before anything arrived
+-- the first shards, and the next one before anything arrived, are the first shards up to one number higher
 pub first-more : (count gates : ℕ) (made then_made : List ShardView) (shard : ShardView) → AreFirstShards count gates made → length made ≡ count → shard ≡ record { number = count; gates = gates; log = [] } → then_made ≡ made ++ shard ∷ []
     → AreFirstShards (count + 1) gates then_made
 first-more count gates made then_made shard are many new is =
@@ -97,6 +97,6 @@ first-more count gates made then_made shard are many new is =
       logs = image-push log_of_shard made shard [] count are.logs (ap log_of_shard new);
     })
 
--- there are that many
+-- if these are the first shards up to a number, there are exactly that many
 pub first-count : (count gates : ℕ) (made : List ShardView) → AreFirstShards count gates made → length made ≡ count
 first-count count gates made are = sym (length-map made log_of_shard) ∙ ap length are.logs ∙ length-replicate count []

@@ -65,9 +65,9 @@ settled-made pairs stamp n updates = elim (last-cases n updates) [
 
 -- The laws of weave_entries that are cited
 pub record VisitLaws : Type 0 where
-  -- oracle_entries_are_a_judges
+  -- the entry of the oracle that has what an entry settled is this entry (`oracle_entries_are_a_judges`)
   pub back : (entry : OracleEntry) → oracle_entry_of (settled_entry entry) ≡ entry
-  -- kept_updates_are_read_like_all
+  -- updates kept for a program are read as those seen of all (`kept_updates_are_read_like_all`)
   pub updates : (pairs : List GivenPair) (program : Stamp) (v : Name) (log : List ShardEntry) → IsKeptFor program v log → updates_read pairs program v log ≡ seen_of pairs program (update_stamps v log)
   pub last : (pairs : List GivenPair) (program : Stamp) (v : Name) (log : List ShardEntry) → IsKeptFor program v log → last_read pairs program v log ≡ last_seen (seen_of pairs program (update_stamps v log)) (update_stamps v log)
 

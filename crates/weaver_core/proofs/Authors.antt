@@ -24,7 +24,7 @@ use Rattle.weaver_core.proofs.CanVisit.{inside}
 abbrev pub author-after : ℕ → ℕ → GateEntry → ℕ
 author-after r author entry = if begins_program r entry.deed then entry.author else author
 
--- of the first entries, and of one more
+-- the last author of a request in one more of a log's entries is that in those before, changed by this entry
 pub one-more : (r : ℕ) (log : List GateEntry) (place : ℕ) (entry : GateEntry) → place < length log → entry ≡ get_or log place entry
     → last_author r (take (suc place) log) ≡ author-after r (last_author r (take place log)) entry
 one-more r log place entry within is =

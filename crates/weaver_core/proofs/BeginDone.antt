@@ -1,4 +1,4 @@
--- `begin`, by what the gatekeepers and the sessions did.
+-- If the gatekeepers and the sessions did `begin` with an answer, the machines did this step, with the same answer.
 -- Used by `begin`, `is_open`, FinishDone, FirstUnanswered and ReplyDone.
 use Rattle.std.proofs.Common.{◌≡◌, ℕ, ◌<◌, Bool, true, false, cond, List, [], length, Contains, IsTrue, Option, Some, refl, sym, ap, subst, ◌∙◌, arith}
 use Rattle.std.specs.Prelude.{get_or, if◌then◌else◌}
@@ -44,9 +44,9 @@ use Rattle.weaver_core.proofs.Resting.{done, rests}
 -- the laws of weave_account that are cited
 pub record BeginLaws : Type 0 where
   pub requests : RequestLaws
-  -- stamps_are_begun
+  -- in an account within limits, a session's last stamp is that of a begun request (`stamps_are_begun`)
   pub last : (script : Script) (account : Account) → IsWithinLimits script → IsAccount script account → (session : ℕ) (stamp : Stamp) → (session_of [] (session_log account session)).last ≡ Some stamp → IsBegunStamp account stamp
-  -- clocks_are_known
+  -- in an account within limits, the clocks of the stamps of all begun requests are known (`clocks_are_known`)
   pub begun : (script : Script) (account : Account) → IsWithinLimits script → IsAccount script account → (begun : BegunRequest) → Contains (all_begun account) begun → IsKnown account begun.stamp.clock
   pub may_be_heard : (shards home : ℕ) (account : Account) → home < 8 → IsGateLog home shards (gate_log account home) → (clock : Clock) → IsKnown account clock → IsTrue (counts_no_more home (clock_of home (gate_log account home)) clock)
 
@@ -177,6 +177,6 @@ module _ (script : Script) (old : gates.GateTable) (store : List StoreEntry) (or
   values-one new is request (answer.Waits v) none = absurd none
   values-one new is request (answer.Again s g) none = absurd none
 
-  -- and the values of the sessions stay
+  -- `begin` leaves the values of the sessions as they were
   pub begin-values : (new : gates.GateTable) (is : clients.ClientTable) (a : StepAnswer) → Begins script old new was is r a → is.values ≡ was.values
   begin-values new is a did = values-one new is did.request a did.begins

@@ -42,9 +42,9 @@ pub record CanVisitLaws : Type 0 where
   pub stamps : BegunLaws
   pub commits : CommitLaws
   pub asked : AskedLaws
-  -- stamps_are_begun
+  -- in an account within limits, the stamps of a vertex's updates are of begun requests (`stamps_are_begun`)
   pub updates : (script : Script) (account : Account) → IsWithinLimits script → IsAccount script account → (v : Name) (shard : ℕ) (update : Update) → Contains (updates_of v (shard_log account shard)) update → IsBegunStamp account update.stamp
-  -- collections_leave_what_programs_see
+  -- within limits, a vertex's shard keeps what running programs need (`collections_leave_what_programs_see`)
   pub kept : (script : Script) (account : Account) → IsWithinLimits script → IsAccount script account → (home : ℕ) (program : BegunRequest) → Contains (running_of (gate_log account home)) program
       → (v : Name) → IsKeptFor program.stamp v (shard_log account (shard_of v script.shards))
 
@@ -101,13 +101,13 @@ module _ (run : RunLaws) (script : Script) (account : Account) (limits : IsWithi
   pub among-begun : Contains (all_begun account) begun
   among-begun = has_flat begun_in account.gates log begun log-there (program-begun log begun found.0)
 
-  -- it has not ended at its gatekeeper
+  -- the program that is running has not ended at its gatekeeper
   pub not-ended : ¬ Contains (ended_in log) begun.request
   not-ended h =
       let ended : IsTrue (is_in r (flat_map ended_in account.gates)) = any_from (λ (n : ℕ). r == n) (flat_map ended_in account.gates) begun.request (has_flat ended_in account.gates log begun.request log-there h) (eq-eqb r begun.request (sym its-request)) in
       both_ways (is_ended account r) runs ended
 
-  -- and is among the programs that its gatekeeper runs
+  -- the program is among those that its gatekeeper runs
   pub is-running : Contains (running_of log) begun
   is-running = (run.running request.gate script.shards log (is.gatekeepers.logs request.gate) (run.once script account limits is request.gate) begun).1 (found.0, not-ended)
 

@@ -1,4 +1,5 @@
--- `say`, `hear` and `epoch`, by what the gatekeepers did.
+-- If the gatekeepers did `hear` or `epoch` with an answer, the machines did this step, with the same answer; and so for
+-- `say`, if its clock is that of the gatekeeper.
 -- Used by `hear`, `raise` and `say`.
 use Rattle.std.proofs.Common.{◌≡◌, ℕ, Bool, nat_lt, List, [], ◌∷◌, ◌++◌, Option, refl, sym, ap, ◌∙◌}
 use Rattle.std.specs.Prelude.{is_some, if◌then◌else◌}
@@ -17,7 +18,7 @@ use Rattle.weave_account.specs.declared.account.Account.{Account}
 use Rattle.step_rules.specs.CoreState.{CoreState}
 use Rattle.step_rules.specs.Entries.{after_hear}
 use Rattle.weaver_core.specs.Sessions.{ClientTable}
-use Rattle.weaver_core.specs.Clocking.{Hears, Raises}
+use Rattle.weaver_core.specs.Clocks.{Hears, Raises}
 use Rattle.weaver_core.specs.Cores.{MachinesDo, MachinesView, machines_of}
 use Rattle.weaver_core.specs.GateTable.{GateTable, gate_log_at}
 use Rattle.weaver_core.proofs.Resting.{done, gate-frame, gate-gains, rests, same-gates}
@@ -53,7 +54,7 @@ module _ (script : Script) (old : GateTable) (store : List StoreEntry) (oracle :
   hear-done new g notice (answer.Waits v) none = absurd none
   hear-done new g notice (answer.Again s h) none = absurd none
 
-  -- the same of `epoch`
+  -- if the gatekeepers did `epoch` with an answer, the machines did this step with it
   pub raise-done : (new : GateTable) (g epoch : ℕ) (a : StepAnswer) → Raises old new g epoch a → MachinesDo script (step.Epoch g epoch) before (machines_of new store oracle shards was notices) a
   raise-done new g epoch answer.Ok did =
       done script (step.Epoch g epoch) before _

@@ -42,7 +42,7 @@ module _ (script : Script) (limits : IsWithinLimits script) (start : IsCore scri
     notices = notices-are i;
   }
 
-  -- and they are a core of the script
+  -- the machines with which a core starts are of the script
   pub start-are : AreOf script machines
   start-are = record {
     limits = limits;

@@ -13,7 +13,7 @@ use Rattle.report_rules.specs.declared.report.Pair.{Pair}
 use Rattle.weaver_core.specs.Marks.{AddsVisits, all_visits, has_mark, mark_of, was_asked}
 use Rattle.weaver_core.specs.Reporting.{HasRequests, all_pairs_found, found_in, key_of, request_with_id, request_with, same_key}
 
--- one request more, before all others
+-- a table of the requests from the next one on, with this request put in, has those from this one on
 pub table-more : (stamps : List (Option Stamp)) (n : ℕ) (stamp : Stamp) (written : ℕ × ℕ × ℕ) (es fs : List ((ℕ × ℕ × ℕ) × ℕ)) → n < length stamps → get_or stamps n None ≡ Some stamp → written ≡ key_of (id_of stamp)
     → HasRequests (suc n) (drop (suc n) stamps) es → ((key : ℕ × ℕ × ℕ) → lookup (same_key key) fs ≡ cond (same_key written key) (Some n) (lookup (same_key key) es)) → HasRequests n (drop n stamps) fs
 table-more stamps n stamp written es fs within at is has writes id =

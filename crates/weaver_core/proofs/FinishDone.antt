@@ -1,4 +1,5 @@
--- `reply` of a program, by what its gatekeeper, its session and the program did.
+-- If a program's gatekeeper, its session and the program did `reply` with an answer, the machines did this step, with
+-- the same answer.
 -- Used by `finish`.
 use Rattle.std.proofs.Common.{◌≡◌, ℕ, Bool, true, false, not, List, Contains, IsTrue, Option, None, Some, is_some, inl, inr, refl, sym, ap, subst, ◌∙◌, arith}
 use Rattle.std.specs.Prelude.{◌&&◌, ◌||◌, ◌==◌, if◌then◌else◌}

@@ -78,7 +78,7 @@ module _ (script : Script) (old : GateTable) (store : List StoreEntry) (oracle :
               absurd (omega (arith, before, least, no_more))
         ]
 
-    -- and it has none
+    -- the first request without a reply, as the sessions have it, has no reply in the account
     pub none-replied : (request : Request) → request_at script first ≡ Some request → has_reply account first request ≡ false
     none-replied request at =
         let one = is.unanswered (slice_get_within script.requests first request at) in

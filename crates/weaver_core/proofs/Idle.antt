@@ -85,7 +85,7 @@ module _ (stay : StayLaws) (script : Script) (machines : MachinesView) (are : Ar
   pub closed-idle : is_open_in r (session_log account request.session) ≡ false → answer_of script machines.state (Visit r) ≡ Idle
   closed-idle = look-idle request.work refl
 
-  -- and so does `visit` of a transaction
+  -- `visit` of a transaction answers `idle`
   pub no-program-idle : is_look request.work ≡ false → answer_of script machines.state (Visit r) ≡ Idle
   no-program-idle = change-idle request.work refl
 

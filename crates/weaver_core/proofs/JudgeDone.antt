@@ -1,4 +1,4 @@
--- `judge`, by what store and oracle did.
+-- If the store and the oracle did `judge` with an answer, the machines did this step, with the same answer.
 -- Used by `judge`.
 use Rattle.std.proofs.Common.{◌≡◌, ◌≢◌, ◌⊎◌, ℕ, ◌<◌, ◌^◌, List, [], ◌∷◌, ◌++◌, length, Contains, IsTrue, Option, None, Some, inl, inr, refl, sym, ap, subst, ◌∙◌, arith}
 use Rattle.std.specs.Prelude.{is_some, ◌==◌, IsSome, IsSomeAnd, if◌then◌else◌}
@@ -45,12 +45,12 @@ pub record JudgeLaws : Type 0 where
   pub stamps : BegunLaws
   pub asked : AskedLaws
   pub run : RunLaws
-  -- requests_end_or_go_on
+  -- within limits, what is in flight at a gatekeeper is a transaction for it (`requests_end_or_go_on`)
   pub flights : (script : Script) (account : Account) → IsWithinLimits script → IsAccount script account → (home : ℕ) (flight : BegunRequest) → flight_of (gate_log account home) ≡ Some flight
       → IsSomeAnd (request_at script flight.request) (λ (request : Request). (request.gate ≡ home) × IsTrue (is_change request.work))
-  -- stamps_are_begun
+  -- in an account within limits, each judgement's stamp is that of a begun request (`stamps_are_begun`)
   pub judged : (script : Script) (account : Account) → IsWithinLimits script → IsAccount script account → (judged : Judgement) → Contains (judgements_of account.store) judged → IsBegunStamp account judged.stamp
-  -- what_is_asked_is_kept
+  -- each stamp that the store keeps of its commits is one of those it judged (`what_is_asked_is_kept`)
   pub kept : (log : List StoreEntry) (one : Stamp) → Contains (stamps_kept (commits_of log)) one → Contains (stamps_judged log) one
 
 some-from : {A : Type 0} (o : Option A) (P : A → Type 0) → IsSomeAnd o P → IsSome o

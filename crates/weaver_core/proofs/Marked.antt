@@ -152,7 +152,7 @@ program-own script account home before author (Heard clock) b begins h = absurd 
 program-own script account home before author (Raised epoch) b begins h = absurd (has_none b h)
 program-own script account home before author (Finished r) b begins h = absurd (has_none b h)
 
--- and what was begun as a program
+-- what was begun as a program at a gatekeeper of an account is a program that the script has for it
 pub begun-looks : (script : Script) (account : Account) → IsAccount script account → (home : ℕ) (b : BegunRequest) → Contains (programs_of (gate_log account home)) b → IsTrue (is_some_and (λ (request : Request). (request.gate == home) && is_look request.work) (request_at script b.request))
 begun-looks script account is home b h =
     let from = flat_has (λ (entry : GateEntry). program_by entry.author entry.deed) (gate_log account home) b h in

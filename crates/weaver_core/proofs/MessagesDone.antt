@@ -1,4 +1,5 @@
--- `nop`, `deliver`, `apply` and `collect`, by what gatekeepers and shards did.
+-- If gatekeepers or shards did `nop`, `deliver`, `apply` or `collect` with an answer, the machines did this step, with
+-- the same answer.
 -- Used by `apply`, `collect`, `deliver`, `kept`, `next_message` and `nop`.
 use Rattle.std.proofs.Common.{◌≡◌, ℕ, ◌+◌, ◌-◌, ◌<◌, ◌^◌, ◌==◌, Bool, true, cond, List, length, Contains, Option, None, Some, inl, inr, refl, sym, ap, subst, ◌∙◌, arith}
 use Rattle.std.specs.Prelude.{is_some, slice_get, if◌then◌else◌}
@@ -8,7 +9,7 @@ use Rattle.std.proofs.lemmas.Option.{none-some}
 use Rattle.weave_data.proofs.Images.{get-has}
 use Rattle.weave_data.proofs.Members.{map_has}
 use Rattle.vector_stamp.specs.declared.clock.Clock.{Clock}
-use Rattle.shard_queue.specs.Sent.{sent_as}
+use Rattle.shard_queue.specs.Outbox.{sent_as}
 use Rattle.program_defs.specs.Limits.{IsWithinLimits}
 use Rattle.program_defs.specs.declared.script.Script.{Script}
 use Rattle.program_defs.specs.declared.script.Step.TheVariants as step
@@ -132,7 +133,7 @@ module _ (script : Script) (old : GateTable) (store : List StoreEntry) (oracle :
   abbrev apply-answer : ℕ → Option Message → StepAnswer
   apply-answer s head = answer_of_apply account s head
 
-  -- the same of `apply`
+  -- if the shards did `apply` with an answer, the machines did this step with it
   pub apply-done : (new : ShardTable) (s g : ℕ) (a : StepAnswer) → AppliesAtShard shards new s g a → MachinesDo script (step.Apply s g) before (machines_of old store oracle new was notices) a
   apply-done new s g answer.Ok did =
       let applied = deed.Applied g (processed_count g (shard_log account s) + 1) in
@@ -155,7 +156,7 @@ module _ (script : Script) (old : GateTable) (store : List StoreEntry) (oracle :
   abbrev collected : Account → ℕ → ℕ → Account
   collected all s gates = with_shard_deed all s (deed.Collected (bound_of gates (shard_log all s)))
 
-  -- and of `collect`, which is always done
+  -- if a shard's log gained the entry of its collection, the machines did `collect`, with answer `ok`
   pub collect-done : AreOf script before → (new : ShardTable) (s : ℕ) → AddsToShard shards new s (deed.Collected (bound_of shards.gates (shard_log account s))) → MachinesDo script (step.Collect s) before (machines_of old store oracle new was notices) answer.Ok
   collect-done are new s adds =
       let entry = deed.Collected (bound_of shards.gates (shard_log account s)) in

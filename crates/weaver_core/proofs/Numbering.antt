@@ -19,7 +19,7 @@ one-more-number p n =
     ap (filter p) (sym (map-id (range_with_len 0 (n + 1)))) ∙ filter_of_map_range_with_len_more p (λ (x : ℕ). x) 0 n n (omega arith)
     ∙ ap (λ (xs : List ℕ). filter p xs ++ cond (p n) (n ∷ []) []) (map-id (range_with_len 0 n))
 
--- with one more request looked at
+-- if the requests of a session below r were found, then with r, if it is of the session, those below r + 1 are
 pub looked-at : (script : Script) (session r : ℕ) (request : Request) (found then_found : List ℕ) (b : Bool) → request_at script r ≡ Some request → (request.session == session) ≡ b
     → found ≡ filter (is_of_session script session) (range_with_len 0 r) → then_found ≡ found ++ cond b (r ∷ []) []
     → then_found ≡ filter (is_of_session script session) (range_with_len 0 (r + 1))

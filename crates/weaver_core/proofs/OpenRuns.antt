@@ -78,7 +78,7 @@ module _ (stay : StayLaws) (script : Script) (account : Account) (limits : IsWit
           };
         }
 
-  -- of an open program, by the values of its session
+  -- an open program runs in its session, by the values of the session
   pub open-runs : (values : List SessionValues) → AreAllByLog script account values → (r : ℕ) (request : Request) → request_at script r ≡ Some request → request.session < 64 → (program : Program) → request.work ≡ Look program
       → is_open_in r (session_log account request.session) ≡ true → RunsInSession script account (values_at values request.session) r
   open-runs values all r request at below program looks waits = by (values_at values request.session).running refl

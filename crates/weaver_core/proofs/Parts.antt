@@ -28,7 +28,7 @@ use Rattle.weaver_core.proofs.Tables.{image-at}
 use Rattle.weaver_core.proofs.Turns.{place-of}
 use Rattle.step_rules.proofs.SessionTurns.{at-place}
 
--- the state of parts
+-- the state of a split core is that of the machines that have the logs, and notices, of its parts
 pub state-of-parts : (table : GateTable) (store : List StoreEntry) (oracle : List OracleEntry) (rows : ShardTable) (clients : ClientTable) (notices : List Clock) (split : Split)
     → map log_of_gate split.gates.items ≡ table.logs → map log_of_shard split.shards.items ≡ rows.logs → map log_of_client split.clients.items ≡ clients.logs
     → split.store ≡ store → split.oracle ≡ oracle → split.notices.items ≡ notices → state_of split ≡ (machines_of table store oracle rows clients notices).state
@@ -142,7 +142,7 @@ module _ (split : Split) (can : CanBeJoined split) where
     core = subst (IsCore split.script) (sym state-is) can.core;
   }
 
-  -- and the values are those of the logs
+  -- the values of the clients of joined parts are those of the logs
   pub joined-values : AreAllByLog split.script (account_of split) (map values_of split.clients.items)
   joined-values = record {
     many = length-map split.clients.items values_of ∙ count;
@@ -183,6 +183,6 @@ module _ (split : Split) (can : CanBeJoined split) where
     values-kept = subst (λ (one : CoreState). AreAllByLog split.script one.account machines.values) (sym state-is)
         (subst (AreAllByLog split.script (account_of split)) (sym (ap (λ (m : MachinesView). m.values) is ∙ values)) joined-values)
 
-    -- so the joined machines keep what a core keeps
+    -- the joined machines have the state of the parts, are of the script, and their values are those of the logs
     pub joined : (machines.state ≡ state_of split) × (AreOf split.script machines × AreAllByLog split.script machines.state.account machines.values)
     joined = (state-is, (are-of, values-kept))

@@ -75,11 +75,11 @@ module _ (account next : Account) (s : ℕ) (deed : SessionDeed) (within : s < l
   pub log-more : session_log next s ≡ session_log account s ++ record { author = s; deed = deed } ∷ []
   log-more = ap (λ (logs : List (List SessionEntry)). slice_index_or logs s []) sessions-are ∙ get_or-set_same account.sessions s (session_log account s ++ record { author = s; deed = deed } ∷ []) [] within
 
-  -- and each other session's log is as before
+  -- the log of each session but the deed's is as before
   pub log-other : (t : ℕ) → t ≢ s → session_log next t ≡ session_log account t
   log-other t other = ap (λ (logs : List (List SessionEntry)). slice_index_or logs t []) sessions-are ∙ get_or-set_other account.sessions s t (session_log account s ++ record { author = s; deed = deed } ∷ []) [] other
 
-  -- of any other request the sessions say the same
+  -- of any request but the deed's the sessions say the same
   pub session-stays : (q : ℕ) (request : Request) → q ≢ request_of deed → StaysAt account next q request
   session-stays q request other = elim (cases_eq request.session s) [
     | inl same ↦ record {

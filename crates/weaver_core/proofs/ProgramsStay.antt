@@ -27,7 +27,7 @@ use Rattle.weave_entries.specs.GateReplay.{BegunRequest, channel_of, flight_of, 
 use Rattle.weave_entries.specs.SessionReplay.{has_reply_in, session_stamp_of}
 use Rattle.weave_entries.specs.ShardReplay.{Visit as AVisit, bound_of, processed_count, visit_by, visits_of}
 use Rattle.weave_entries.specs.StoreReplay.{Judgement}
-use Rattle.shard_queue.specs.Sent.{sent_as}
+use Rattle.shard_queue.specs.Outbox.{sent_as}
 use Rattle.weave_account.specs.declared.account.Account.{Account}
 use Rattle.weave_account.specs.Account.{gate_log, is_ended, reads_of, session_log, shard_log}
 use Rattle.weave_account.specs.GoesOn.{GoesOn, visits_by}

@@ -1,4 +1,5 @@
--- One more reply of a report.
+-- With a right reply to the next request, a list of replies that has one for each request so far has one for each of
+-- one request more.
 -- Used by `replies_of`.
 use Rattle.std.proofs.Common.{◌≡◌, ℕ, ◌+◌, List, [], ◌∷◌, ◌++◌, length, map, Option, None, Some, refl, sym, ap, subst, ◌∙◌, arith}
 use Rattle.std.specs.Prelude.{slice_get, slice_index_or}

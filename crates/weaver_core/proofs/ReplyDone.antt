@@ -1,4 +1,4 @@
--- `reply` of a transaction, by what the sessions did.
+-- If the sessions did `reply` of a transaction with an answer, the machines did this step, with the same answer.
 -- Used by `reply`.
 use Rattle.std.proofs.Common.{◌≡◌, ℕ, Bool, true, false, not, List, [], Contains, IsTrue, Option, Some, refl, sym, ap, subst, ◌∙◌, arith}
 use Rattle.std.specs.Prelude.{◌&&◌, ◌||◌, ◌==◌, if◌then◌else◌}
@@ -41,7 +41,7 @@ use Rattle.weaver_core.proofs.Resting.{done, rests, session-gains}
 -- the laws of weave_account that are cited
 pub record ReplyLaws : Type 0 where
   pub requests : RequestLaws
-  -- requests_end_or_go_on
+  -- within limits, a begun transaction has ended exactly if it isn't in flight (`requests_end_or_go_on`)
   pub sent : (script : Script) (account : Account) → IsWithinLimits script → IsAccount script account → (r : ℕ) (request : Request) → request_at script r ≡ Some request → IsTrue (is_change request.work)
       → IsTrue (has_begun_in r (session_log account request.session))
       → has_ended_in r (gate_log account request.gate) ≡ not (is_some_and (λ (flight : BegunRequest). flight.request == r) (flight_of (gate_log account request.gate)))

@@ -39,7 +39,7 @@ done script step old new ok is frame small = record {
   small = λ _. small;
 }
 
--- and any other changes nothing
+-- machines that stay as they were did each step whose answer is not `ok`
 pub rests : (script : Script) (step : Step) (old new : MachinesView) (answer : StepAnswer) → answer_of script old.state step ≡ answer → is_ok answer ≡ false → new ≡ old → MachinesDo script step old new answer
 rests script step old new answer is not-ok same = record {
   answer_is = sym is;
@@ -52,7 +52,7 @@ rests script step old new answer is not-ok same = record {
 pub gate-there : (script : Script) (frame : MachinesFrame) (g : ℕ) → IsFrameOf script frame → g < script.gates → g < frame.gates
 gate-there script frame g of below = let many = of.gates in omega (arith, many, below)
 
--- its shards have channels of it
+-- a gatekeeper of the script is among those from which the shards have channels
 pub sender-there : (script : Script) (frame : MachinesFrame) (g : ℕ) → IsFrameOf script frame → g < script.gates → g < frame.senders
 sender-there script frame g of below = let many = of.senders in omega (arith, many, below)
 
@@ -66,23 +66,23 @@ module _ (old : gates.GateTable) (store : List StoreEntry) (oracle : List Oracle
   abbrev before : MachinesView
   before = machines_of old store oracle shards was notices
 
-  -- one more entry of a gatekeeper
+  -- if the table of gatekeepers gets one more entry, the account gets it
   pub gate-gains : (new : gates.GateTable) (g author : ℕ) (deed : GateDeed) → gates.AddsToGate old new g author deed → (machines_of new store oracle shards was notices).state.account ≡ with_gate_deed before.state.account g author deed
   gate-gains new g author deed adds = ap (λ (logs : List (List GateEntry)). record before.state.account { gates = logs }) adds.logs
 
-  -- one more entry of a session
+  -- if the table of sessions gets one more entry, the account gets it
   pub session-gains : (is : clients.ClientTable) (s : ℕ) (deed : SessionDeed) → clients.AddsToSession was is s deed → (machines_of old store oracle shards is notices).state.account ≡ with_session_deed before.state.account s deed
   session-gains is s deed adds = ap (λ (logs : List (List SessionEntry)). record before.state.account { sessions = logs }) adds.logs
 
-  -- one more entry of a shard
+  -- if the table of shards gets one more entry, the account gets it
   pub shard-gains : (new : tables.ShardTable) (s : ℕ) (deed : ShardDeed) → tables.AddsToShard shards new s deed → (machines_of old store oracle new was notices).state.account ≡ with_shard_deed before.state.account s deed
   shard-gains new s deed adds = ap (λ (logs : List (List ShardEntry)). record before.state.account { shards = logs }) adds.logs
 
-  -- and what the machines are made for stays
+  -- what the machines are made for stays when a shard gets one more entry
   pub shard-frame : (new : tables.ShardTable) (s : ℕ) (deed : ShardDeed) → tables.AddsToShard shards new s deed → (machines_of old store oracle new was notices).frame ≡ before.frame
   shard-frame new s deed adds = λ i. record { gates = length old.logs; shards = old.shards; senders = adds.gates i; requests = was.requests }
 
-  -- with the same shards they are the same machines
+  -- with the same table of shards the machines are the same
   pub same-shards : (new : tables.ShardTable) → new ≡ shards → machines_of old store oracle new was notices ≡ before
   same-shards new same = ap (λ (t : tables.ShardTable). machines_of old store oracle t was notices) same
 
@@ -122,7 +122,7 @@ found script r asked there is = by (request_at script r) refl there
     by None at none = let e : false ≡ true = none in absurd (cc)
     by (Some request) at some = at ∙ ap Some (sym (is ∙ get_or_from_slice_get script.requests r request asked at))
 
--- and it is there to be named
+-- a number below the count of requests has a request in the script
 pub some-one : (script : Script) (r : ℕ) → r < length script.requests → (request : Request) × (request_at script r ≡ Some request)
 some-one script r below = by (request_at script r) refl (some-request script r below)
   where

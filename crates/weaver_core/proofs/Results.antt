@@ -11,7 +11,7 @@ pub if_ok_map : {A E : Type 0} (result : Result A E) (P Q : A → Type 0) → ((
 if_ok_map (Ok a) P Q go p = go a p
 if_ok_map (Err e) P Q go p = tt
 
--- and so does what follows from two such clauses
+-- a clause on success follows if it follows from two clauses that hold on success
 pub if_ok_two : {A E : Type 0} (result : Result A E) (P R Q : A → Type 0) → ((a : A) → P a → R a → Q a) → IfOk result P → IfOk result R → IfOk result Q
 if_ok_two (Ok a) P R Q go p r = go a p r
 if_ok_two (Err e) P R Q go p r = tt
@@ -41,7 +41,7 @@ pub either_way : {A E : Type 0} (result : Result A E) (P : A → Type 0) (R X : 
 either_way (Ok a) P R X done refused p r = done a p
 either_way (Err e) P R X done refused p r = refused r
 
--- the same if neither clause speaks of the value
+-- what follows from a clause on success, and from one on errors, holds of any result for which both hold
 pub on_either : {A E : Type 0} (result : Result A E) (P R X : Type 0) → (P → X) → (R → X) → OnOk result P → OnErr result R → X
 on_either (Ok a) P R X done refused p r = done p
 on_either (Err e) P R X done refused p r = refused r
@@ -70,7 +70,7 @@ pub either_both : {A E : Type 0} (result : Result A E) (P : A → Type 0) (R S X
 either_both (Ok a) P R S X done refused p r s = done a p
 either_both (Err e) P R S X done refused p r s = refused r s
 
--- the same of two clauses on success and one after an error
+-- what follows from two clauses on success, and from one on errors, holds of a result for which all three hold
 pub either_two : {A E : Type 0} (result : Result A E) (P S : A → Type 0) (R X : Type 0) → ((a : A) → P a → S a → X) → (R → X) → IfOk result P → IfOk result S → OnErr result R → X
 either_two (Ok a) P S R X done refused p s r = done a p s
 either_two (Err e) P S R X done refused p s r = refused r

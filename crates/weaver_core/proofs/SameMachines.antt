@@ -23,7 +23,7 @@ are-same old new is = record { frame = ap (λ (m : MachinesView). m.frame) is; s
 pub refused-same : {A E : Type 0} (result : Result A E) (old new : MachinesView) → OnErr result (new ≡ old) → OnErr result (AreSameMachines old new)
 refused-same result old new h = on_err_map result (new ≡ old) (AreSameMachines old new) (are-same old new) h
 
--- they are of the script, too
+-- if machines are of the script, others that have the same frame and state are, too
 pub are-of-same : (script : Script) (old new : MachinesView) → AreSameMachines old new → AreOf script old → AreOf script new
 are-of-same script old new same are = record {
   limits = are.limits;
@@ -31,7 +31,7 @@ are-of-same script old new same are = record {
   core = subst (IsCore script) (sym same.state) are.core;
 }
 
--- and what they did they did
+-- if a step leads to some machines, it leads to any others that have the same frame and state
 pub did-after : (script : Script) (step : Step) (old new then_new : MachinesView) (a : StepAnswer) → AreSameMachines new then_new → MachinesDo script step old new a → MachinesDo script step old then_new a
 did-after script step old new then_new a same did = record {
   answer_is = did.answer_is;

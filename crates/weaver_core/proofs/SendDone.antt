@@ -1,4 +1,4 @@
--- `send`, by what the gatekeepers did.
+-- If the gatekeepers did `send` with an answer, the machines did this step, with the same answer.
 -- Used by `send`.
 use Rattle.std.proofs.Common.{◌≡◌, ◌⊎◌, ℕ, List, Option, None, Some, inl, inr, refl, sym, ap, ◌∙◌}
 use Rattle.std.specs.Prelude.{is_some, if◌then◌else◌}

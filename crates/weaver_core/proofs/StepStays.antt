@@ -128,7 +128,7 @@ module _ (script : Script) (state : CoreState) (limits : IsWithinLimits script) 
   pub begin-log : (request : Request) → request_at script r ≡ Some request → session_log (after_begin logs r request) request.session ≡ session_log logs request.session ++ record { author = request.session; deed = BegunDeed r (stamp_to_begin logs request) } ∷ []
   begin-log request at = step-log (after_begin logs r request) request.session _ (limits.sessions r request at) (begin-step request)
 
-  -- and each other session's log is as before
+  -- after `begin` the log of each other session is as before
   pub begin-other : (request : Request) → request_at script r ≡ Some request → (t : ℕ) → t ≢ request.session → session_log (after_begin logs r request) t ≡ session_log logs t
   begin-other request at = step-other (after_begin logs r request) request.session _ (limits.sessions r request at) (begin-step request)
 
@@ -136,7 +136,7 @@ module _ (script : Script) (state : CoreState) (limits : IsWithinLimits script) 
   pub reply-log : (request : Request) → request_at script r ≡ Some request → session_log (after_reply logs r request) request.session ≡ session_log logs request.session ++ record { author = request.session; deed = Replied r } ∷ []
   reply-log request at = step-log (after_reply logs r request) request.session _ (limits.sessions r request at) (reply-step request)
 
-  -- and each other session's log is as before
+  -- after `reply` the log of each other session is as before
   pub reply-other : (request : Request) → request_at script r ≡ Some request → (t : ℕ) → t ≢ request.session → session_log (after_reply logs r request) t ≡ session_log logs t
   reply-other request at = step-other (after_reply logs r request) request.session _ (limits.sessions r request at) (reply-step request)
 
@@ -174,7 +174,7 @@ module _ (script : Script) (state : CoreState) (limits : IsWithinLimits script) 
         (step-stays (after_begin logs r request) request.session _ (limits.sessions r request at) refl (begin-step request) q one other))
   ]
 
-  -- and after `reply`, done or not
+  -- after `reply`, done or not, its session and the visits say the same of any other request
   pub reply-others : (request : Request) → request_at script r ≡ Some request → (q : ℕ) (one : Request) → q ≢ r → StaysAt logs (state_after script state (Reply r)).account q one
   reply-others request at q one other = elim (step-cases script state (Reply r)) [
     | inl same ↦ subst (λ (all : CoreState). StaysAt logs all.account q one) (sym same) (same-stays logs q one)

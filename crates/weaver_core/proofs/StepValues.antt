@@ -1,4 +1,5 @@
--- The values of the sessions after each step of a request.
+-- After `begin`, `visit` and `reply` of a request the values of the sessions agree with the logs, if they did before,
+-- and if the program or reply put in is right.
 -- Used by AfterSteps and VisitWith.
 use Rattle.std.proofs.Common.{◌≡◌, ◌≢◌, ℕ, ◌-◌, ◌<◌, ◌≤◌, Bool, true, false, List, [], ◌∷◌, ◌++◌, Contains, IsTrue, Option, None, Some, inl, inr, refl, sym, ap, subst, ◌∙◌, arith}
 use Rattle.std.specs.Prelude.{◌==◌, ◌&&◌, not, IsSomeAnd, slice_get, slice_set, if◌then◌else◌}
@@ -126,7 +127,7 @@ module _ (laws : StayLaws) (script : Script) (account next : Account) (limits : 
       each = own-replies no-reply;
     })
 
-    -- of a program
+    -- after a program's begin the values agree with the logs if the program is put in as running
     pub program-begun : is_look request.work ≡ true → (one : Running) → one.stamp ≡ stamp → IsRunningIn script next r one → AreAllByLog script next (with_running values s (Some one))
     program-begun looks one stamp-is runs = set-values (record { running = Some one; replies = (values_at values s).replies }) (record {
       running = record {
@@ -146,7 +147,7 @@ module _ (laws : StayLaws) (script : Script) (account next : Account) (limits : 
             let both : Look a ≡ Look b = sym x.work_is ∙ ap (λ (k : Request). k.work) one ∙ y.work_is in
             cc
 
-    -- of a transaction
+    -- after a transaction's begin the same values agree with the logs
     pub change-begun : is_look request.work ≡ false → AreAllByLog script next values
     change-begun changes =
         subst (AreAllByLog script next) (set-get_or values s no_values) (set-values (values_at values s) (record { running = then_running; replies = replies-then }))
@@ -199,7 +200,7 @@ module _ (laws : StayLaws) (script : Script) (account next : Account) (limits : 
     unreplied : has_reply_in r log ≡ false
     unreplied = not-true (has_reply_in r log) (and-parts (has_begun_in r log) (not (has_reply_in r log)) waits).1
 
-    -- its stamp is the last one
+    -- the request that is replied to waits at the end of its session's log, with a stamp
     pub waiting : (stamp : Stamp) × (waiting_in log ≡ Some (r, stamp))
     waiting =
         let place = place-of requests r (laws.among script r request at) in
@@ -208,11 +209,11 @@ module _ (laws : StayLaws) (script : Script) (account next : Account) (limits : 
     stamp-log : session_stamp_of r log ≡ Some waiting.0
     stamp-log = stamp-waits (session-laws laws) s requests log (is.sessions.logs s) (laws.rise script s) r waiting.0 waiting.1
 
-    -- it is the request's stamp after the reply
+    -- after the reply the account has that stamp for the request
     pub stamp-then : stamp_of next r ≡ Some waiting.0
     stamp-then = sym (is-next.sessions.stamps r request at) ∙ ap (session_stamp_of r) replied ∙ stamp-replied log s r ∙ stamp-log
 
-    -- as it was before it
+    -- before the reply, too, the account has that stamp for the request
     pub stamp-now : stamp_of account r ≡ Some waiting.0
     stamp-now = sym (is.sessions.stamps r request at) ∙ stamp-log
 
@@ -234,7 +235,7 @@ module _ (laws : StayLaws) (script : Script) (account next : Account) (limits : 
       };
     }))
 
-    -- that of a transaction, by the store's log
+    -- a transaction's reply from the store's log is right in the account, if that log stayed
     pub change-right : is_change request.work ≡ true → next.store ≡ account.store → IsReplyInAccount script next (reply_of_change account.store (session_of [] log).last r)
     change-right changes store = record {
       stamp_is = last-now ∙ sym stamp-then;
@@ -246,7 +247,7 @@ module _ (laws : StayLaws) (script : Script) (account next : Account) (limits : 
         by (Change ops) e = ap (λ store. state_of_tx (judgement_of r store)) (sym store)
         by (Look program) e = absurd (let f : false ≡ true = e in cc)
 
-    -- that of a program, by what it read
+    -- a program's reply is right in the account, if it is from what its walk has read and its reads stayed
     pub program-right : (program : Program) → request.work ≡ Look program → (running : Running) → IsRunningIn script account r running → (reply : Reply) → IsReplyOfProgram running reply → reads_of next r ≡ reads_of account r
         → ((a b : List (Name × State)) (one : Program) (result : Answer) → AreSameReads a b → IsPlainAnswer (graph_read a) one result → IsPlainAnswer (graph_read b) one result) → IsReplyInAccount script next reply
     program-right program looks running runs reply is-reply reads plain-free = record {

@@ -36,7 +36,7 @@ at-or-last [] y (suc i) x at = inl at
 at-or-last (z ∷ xs) y zero x at = inl at
 at-or-last (z ∷ xs) y (suc i) x at = elim (at-or-last xs y i x at) [ inl there ↦ inl there | inr last ↦ inr (ap suc last.0, last.1) ]
 
--- and when one is added
+-- what holds of each element with its place, and of one more with its place, holds of all
 pub each-push : {A : Type 0} (P : ℕ → A → Type 0) (xs : List A) (y : A) → ((j : ℕ) (z : A) → slice_get xs j ≡ Some z → P j z) → P (length xs) y
     → (j : ℕ) (z : A) → slice_get (xs ++ y ∷ []) j ≡ Some z → P j z
 each-push P xs y each here j z at = elim (at-or-last xs y j z at) [
@@ -55,7 +55,7 @@ module _ {A B : Type 0} (f : A → B) (xs : List A) (i : ℕ) (x : A) (at : slic
   pub image-rests : (y : A) → f y ≡ f x → map f (slice_set xs i y) ≡ map f xs
   image-rests y same = map-set f xs i y ∙ ap (slice_set (map f xs) i) (same ∙ sym (image-at (f x))) ∙ set-get_or (map f xs) i (f x)
 
-  -- and changes as the element's own does
+  -- if a new element's image is a change of the old one's, the list's image changes by it at that place
   pub image-changes : (change : B → B) (d : B) (y : A) → f y ≡ change (f x) → map f (slice_set xs i y) ≡ slice_set (map f xs) i (change (get_or (map f xs) i d))
   image-changes change d y is = map-set f xs i y ∙ ap (slice_set (map f xs) i) (is ∙ ap change (sym (image-at d)))
 

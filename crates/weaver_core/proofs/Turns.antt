@@ -22,10 +22,10 @@ use Rattle.step_rules.proofs.SessionTurns.{get-before, at-place, get-take, one-m
 
 -- the laws of weave_entries on sessions' logs
 pub record SessionLaws : Type 0 where
-  -- sessions_go_in_turn
+  -- in a session's log, the requests that began are the first of the session's, in their order (`sessions_go_in_turn`)
   pub begun_first : (number : ℕ) (requests : List ℕ) (log : List SessionEntry) → IsSessionLog number requests log → map (λ (begun : ℕ × Stamp). begun.0) (begins_in log) ≡ take (session_of requests log).begun requests
   pub replied_first : (number : ℕ) (requests : List ℕ) (log : List SessionEntry) → IsSessionLog number requests log → replied_in log ≡ take (replied_count (session_of requests log)) requests
-  -- begun_and_replied_are_decided
+  -- the test on begins passes exactly if the session's log begins the request (`begun_and_replied_are_decided`)
   pub begun_tested : (request : ℕ) (log : List SessionEntry) → IsTrue (has_begun_in request log) ↔ Contains (map (λ (begun : ℕ × Stamp). begun.0) (begins_in log)) request
   pub replied_tested : (request : ℕ) (log : List SessionEntry) → IsTrue (has_reply_in request log) ↔ Contains (replied_in log) request
 
@@ -55,7 +55,7 @@ module _ (requests : List ℕ) (rise : AllPairs (λ (a b : ℕ). a < b) requests
   pub below : (i j a b : ℕ) → slice_get requests i ≡ Some a → slice_get requests j ≡ Some b → i < j → a < b
   below i j a b at bt less = pairs_placed (λ (x y : ℕ). x < y) requests rise a b (at-place requests i a at) (at-place requests j b bt) less
 
-  -- and no request is at two places
+  -- no request is at two places of a list of requests that rise
   pub one-place : (i j a : ℕ) → slice_get requests i ≡ Some a → slice_get requests j ≡ Some a → i ≡ j
   one-place i j a at bt = elim (cases_order i j) [
     | inl same ↦ same
@@ -274,6 +274,6 @@ module _ (laws : SessionLaws) (number : ℕ) (requests : List ℕ) (log : List S
     pub stands-next : has_begun_in r log ≡ false → IsInTurn session r → Next ≡ standing_of r requests log
     stands-next new turn = sym (ap (λ (t : Bool). if t then Twice else (if waits_before r requests log then Early else Next)) new ∙ ap (λ (t : Bool). if t then Early else Next) (next-is-free turn))
 
-    -- and any other that has not begun is early
+    -- a request that has not begun, and isn't next in its session, is early
     pub stands-early : has_begun_in r log ≡ false → (IsInTurn session r → ⊥) → Early ≡ standing_of r requests log
     stands-early new not-next = sym (ap (λ (t : Bool). if t then Twice else (if waits_before r requests log then Early else Next)) new ∙ ap (λ (t : Bool). if t then Early else Next) (other-waits new not-next))

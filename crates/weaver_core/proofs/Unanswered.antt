@@ -30,7 +30,7 @@ unanswered-next requests log free =
     let session = session_of requests log in
     ap (λ (rs : List ℕ). slice_get rs session.begun) (requests-same requests log) ∙ ap (slice_get requests) (sym (count-free session free))
 
--- and else that of the last entry
+-- if one waits, the first unanswered request of a session is that of its log's last entry
 pub unanswered-last : (number : ℕ) (requests : List ℕ) (log : List SessionEntry) → IsSessionLog number requests log → (session_of requests log).waits ≡ true → last_request log ≡ unanswered_in requests log
 unanswered-last number requests log right waits = by (last_entry log) refl
   where
@@ -114,6 +114,6 @@ module _ (clients : List Client) where
       let from = mapped-from unanswered_by clients one.0 (Some (least_unanswered most clients)) one.1 in
       record { session = one.0; at = by-table one.0 from.0 from.1 ∙ from.2 }
 
-  -- the least of them
+  -- the least of the sessions' unanswered requests is the first unanswered one of their table
   pub first-of : (most : ℕ) → IsFirstUnanswered (table_of clients) most (least_unanswered most clients)
   first-of most = record { least = is-least most; unanswered = is-one most; within = least-within (map unanswered_by clients) most }

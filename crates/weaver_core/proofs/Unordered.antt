@@ -1,4 +1,4 @@
--- What the report of machines owes, but for its order: over the stamps that were noted.
+-- The report that machines put together from the noted stamps is the account's, but for its order.
 -- Used by `unordered`.
 use Rattle.std.proofs.Common.{◌≡◌, ℕ, ◌<◌, AllPairs, List, [], ◌∷◌, length, map, replicate, take, drop, inl, inr, Contains, IsTrue, Option, None, Some, sym, ap, subst, ◌∙◌, arith}
 use Rattle.std.specs.Prelude.{◌↔◌, slice_index_or}
@@ -66,12 +66,12 @@ image-rises (reply ∷ replies) rise =
 pub record ReportLaws : Type 0 where
   pub stamps : BegunLaws
   pub commits : CommitLaws
-  -- stamps_are_begun
+  -- within limits, the stamps in an entry of the oracle are those of begun requests (`stamps_are_begun`)
   pub settled : (script : Script) (account : Account) → IsWithinLimits script → IsAccount script account → (entry : OracleEntry) → Contains account.oracle entry
       → (stamp : Stamp) → Contains ((settled_entry entry).later ∷ (settled_entry entry).earlier) stamp → IsBegunStamp account stamp
-  -- equality_is_decided of vector_stamp
+  -- the test on equality of stamps passes exactly if they are equal (`equality_is_decided`)
   pub same_stamps : (a b : Stamp) → IsTrue (same_stamp a b) ↔ (a ≡ b)
-  -- placed_pairs_are_the_pairs
+  -- within limits, the pairs computed from the logs are the account's pairs (`placed_pairs_are_the_pairs`)
   pub placed : (script : Script) (account : Account) → IsWithinLimits script → IsAccount script account → ArePairsOf account (placed_pairs account) (pairs_in account)
 
 module _ (laws : ReportLaws) (sessions : SessionLaws) (script : Script) (gates : GateTable) (store : List StoreEntry) (oracle : List OracleEntry) (shards : ShardTable) (was : ClientTable) (notices : List Clock)
@@ -93,7 +93,7 @@ module _ (laws : ReportLaws) (sessions : SessionLaws) (script : Script) (gates :
       ap (λ (xs : List (Option Stamp)). slice_index_or xs r None) noted ∙ stamps-noted was.logs n r (omega (arith, below, all, n-is))
       ∙ stamp-is sessions script account are.core.account r one.0 one.1 (omega (arith, few, sixty-four))
 
-  -- what `pairs_of` asks for
+  -- each stamp that was noted has its home below 8, as `pairs_of` asks
   pub homes : (stamp : Stamp) → Contains stamps (Some stamp) → stamp.home < 8
   homes stamp has =
       let place = place-of stamps (Some stamp) has in

@@ -165,7 +165,7 @@ module _ (laws : StayLaws) (script : Script) (account next : Account) (limits : 
           read-stays one program account next one.request (laws.same_reads script account next limits is goes one.request (stays one.request here.0 here.1 here.2).visits) (has.fed one at program look);
     }
 
-    -- so the values of a session stay
+    -- the values of a session stay right if its log does, and the logs say the same of each of its requests
     pub values-stay : session_log next t ≡ log → ((q : ℕ) (request : Request) → request_at script q ≡ Some request → request.session ≡ t → StaysAt account next q request)
         → (values : SessionValues) → AreValuesByLog script account log values → AreValuesByLog script next (session_log next t) values
     values-stay same stays values are = subst (λ (l : List SessionEntry). AreValuesByLog script next l values) (sym same) (record {
@@ -173,7 +173,7 @@ module _ (laws : StayLaws) (script : Script) (account next : Account) (limits : 
       replies = record { requests = are.replies.requests; each = replies-stay values.replies are.replies (λ q request at own replied. stays q request at own) };
     })
 
-  -- those of all sessions
+  -- the values of all sessions stay right if their logs do, and the logs say the same of each request
   pub all-stay : ((t : ℕ) → session_log next t ≡ session_log account t) → ((q : ℕ) (request : Request) → request_at script q ≡ Some request → StaysAt account next q request)
       → (values : List SessionValues) → AreAllByLog script account values → AreAllByLog script next values
   all-stay same stays values are = record {
@@ -181,7 +181,7 @@ module _ (laws : StayLaws) (script : Script) (account next : Account) (limits : 
     each = λ t below. values-stay t (same t) (λ q request at own. stays q request at) (values_at values t) (are.each t below);
   }
 
-  -- or those of one session become others
+  -- if all sessions but one stay as they are, the values are right with right ones put in for that one
   pub values-set : (s : ℕ) → s < 64 → ((t : ℕ) → t ≢ s → session_log next t ≡ session_log account t) → ((q : ℕ) (request : Request) → request_at script q ≡ Some request → request.session ≢ s → StaysAt account next q request)
       → (values : List SessionValues) → AreAllByLog script account values → (one : SessionValues) → AreValuesByLog script next (session_log next s) one → AreAllByLog script next (slice_set values s one)
   values-set s within same stays values are one now = record {

@@ -1,4 +1,5 @@
--- `visit`, by what the shards, the oracle and the program did.
+-- If the shards, the oracle and the program did `visit` with an answer, the machines did this step, with the same
+-- answer.
 -- Used by `visit`, FinishDone and VisitAfter.
 use Rattle.std.proofs.Common.{◌≡◌, ℕ, List, ◌++◌, Option, None, Some, refl, sym, ap, ◌∙◌}
 use Rattle.weave_data.specs.Names.{shard_of}

@@ -67,7 +67,7 @@ module _ (stay : StayLaws) (core : CoreLaws) (script : Script) (machines : Machi
       let same = same_Some two.0.request request (sym two.0.request_is ∙ ap (request_at script) (its-number one here) ∙ at) in
       ap (λ (k : Request). is_look k.work) (sym same) ∙ two.0.looks
 
-  -- as the logs say
+  -- the program that the session's values have as running is the one of this request, as the logs say
   pub runs-here : (one : Running) → (values_at machines.values s).running ≡ Some one → IsRunningIn script account r one
   runs-here one here = by request.work refl (looks-here one here)
     where

@@ -1,4 +1,4 @@
--- What a visit leaves of the program.
+-- After a visit, a walk that has read this one more state has read all that the logs say, and no others.
 -- Used by VisitAfter and crate weaver_hands.
 use Rattle.std.proofs.Common.{◌≡◌, ℕ, ◌<◌, Bool, true, false, not, List, [], ◌∷◌, ◌++◌, length, take, Some, refl, sym, ap, subst, ◌∙◌}
 use Rattle.std.specs.Prelude.{◌||◌, slice_set, if◌then◌else◌}

@@ -27,7 +27,7 @@ use Rattle.step_rules.proofs.SessionTurns.{one-more, requests-same}
 abbrev pub session-laws : StayLaws → SessionLaws
 session-laws stay = record { begun_first = stay.begun_first; replied_first = stay.replied_first; begun_tested = stay.begun_tested; replied_tested = stay.replied_tested }
 
--- after one more entry
+-- after one more entry, what waits is what this entry begins, if anything
 pub waits-more : (log : List SessionEntry) (entry : SessionEntry) → waiting_in (log ++ entry ∷ []) ≡ begun_by_session entry.deed
 waits-more log entry = ap (option_and_then (λ (e : SessionEntry). begun_by_session e.deed)) (last-of log entry)
 
@@ -41,7 +41,7 @@ begins-deed (Begun q s) r stamp is = let same = same_Some (q, s) (r, stamp) is i
 begins-deed (Replied q) r stamp is = absurd (none-some (r, stamp) is)
 
 module _ (laws : SessionLaws) (number : ℕ) (requests : List ℕ) (log : List SessionEntry) (right : IsSessionLog number requests log) (rise : AllPairs (λ (a b : ℕ). a < b) requests) where
-  -- an open request waits
+  -- if a request of the session is open in its log, it waits there with a stamp
   pub open-waits : (i r : ℕ) → slice_get requests i ≡ Some r → is_open_in r log ≡ true → (stamp : Stamp) × (waiting_in log ≡ Some (r, stamp))
   open-waits i r at is = by (last_entry log) refl
     where
@@ -68,7 +68,7 @@ module _ (laws : SessionLaws) (number : ℕ) (requests : List ℕ) (log : List S
             place,
           )
 
--- and has that stamp
+-- the stamp of the request that waits is its stamp in the session's log
 pub stamp-waits : (laws : SessionLaws) (number : ℕ) (requests : List ℕ) (log : List SessionEntry) → IsSessionLog number requests log → AllPairs (λ (a b : ℕ). a < b) requests → (r : ℕ) (stamp : Stamp) → waiting_in log ≡ Some (r, stamp) → session_stamp_of r log ≡ Some stamp
 stamp-waits laws number requests log right rise r stamp =
     by_entries (Rule number requests) (λ log. waiting_in log ≡ Some (r, stamp) → session_stamp_of r log ≡ Some stamp)

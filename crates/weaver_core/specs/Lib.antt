@@ -6,7 +6,7 @@ pub mod Beginning
 pub mod Judging
 pub mod Sending
 pub mod Messages
-pub mod Clocking
+pub mod Clocks
 pub mod GivingReplies
 pub mod Cores
 pub mod Reporting

@@ -1,7 +1,7 @@
 -- What the machines do at `nop`, `deliver` and `apply`. No public contract cites this.
 use Rattle.std.specs.Prelude.{◌≡◌, ◌+◌, ℕ, false, true, is_some, List, IsSome, None, Some}
 use Rattle.weave_data.specs.declared.name.Name.{Name}
-use Rattle.shard_queue.specs.Sent.{sent_as}
+use Rattle.shard_queue.specs.Outbox.{sent_as}
 use Rattle.shard_queue.specs.declared.inbox.Arrival.{Arrival}
 use Rattle.shard_queue.specs.declared.inbox.Arrival.TheVariants.{Kept, Repeat}
 use Rattle.shard_node.specs.Shards.{CanApplyHead}

@@ -1,4 +1,4 @@
--- What the machines do at `visit`. No public contract cites this.
+-- What the machines do at `visit`. Of this a public contract cites `HasReadMore` alone, in crate weaver_hands.
 use Rattle.std.specs.Prelude.{◌≡◌, ◌≢◌, ℕ, List, ◌∷◌, ◌++◌, All, take, None, Some}
 use Rattle.weave_data.specs.declared.name.Name.{Name}
 use Rattle.weave_data.specs.Names.{shard_of}

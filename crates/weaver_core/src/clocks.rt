@@ -1,7 +1,7 @@
 //! `hear G K` and `epoch G E`: what changes a gatekeeper's clock without an event.
 ghost use Rattle.std.specs.Prelude.{◌≡◌, ◌<◌, length, IfOk, OnErr};
-ghost use Rattle.shard_queue.specs.Sent.{sent_as};
-ghost use Rattle.weaver_core.specs.Clocking.{Hears, Raises};
+ghost use Rattle.shard_queue.specs.Outbox.{sent_as};
+ghost use Rattle.weaver_core.specs.Clocks.{Hears, Raises};
 
 use crate::gates::Gates;
 use gatekeeper::GateFault;

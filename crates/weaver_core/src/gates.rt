@@ -7,7 +7,7 @@ ghost use Rattle.vector_stamp.specs.Clocks.{counts_no_more};
 ghost use Rattle.vector_stamp.specs.Order.{has_64_bits, stamp_before};
 ghost use Rattle.program_defs.specs.Works.{is_change};
 ghost use Rattle.weave_entries.specs.declared.gate_log.GateDeed.TheVariants as deed;
-ghost use Rattle.shard_queue.specs.Sent.{sent_as};
+ghost use Rattle.shard_queue.specs.Outbox.{sent_as};
 ghost use Rattle.weave_entries.specs.GateReplay.{BegunRequest, begun_stamp, channel_of, clock_of, flight_of, is_begun, running_of};
 ghost use Rattle.weave_entries.specs.Sending.{IsCountsOf, messages_of};
 ghost use Rattle.gatekeeper.specs.Answers.{IsRefusedWhere};

@@ -1,7 +1,7 @@
 //! `nop G S`, `deliver G S N` and `apply S G`: messages reach the shards.
 ghost use Rattle.std.specs.Prelude.{◌≡◌, ◌<◌, ◌≤◌, length, None, IfOk, OnErr};
 ghost use Rattle.std.specs.Option.{ForSome};
-ghost use Rattle.shard_queue.specs.Sent.{sent_as};
+ghost use Rattle.shard_queue.specs.Outbox.{sent_as};
 ghost use Rattle.weave_entries.specs.GateReplay.{channel_of};
 ghost use Rattle.weave_entries.specs.ShardReplay.{head_of, waits_at};
 ghost use Rattle.weave_entries.specs.ShardRules.{IsTakable, PassesAt};

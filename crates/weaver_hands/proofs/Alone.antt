@@ -39,12 +39,12 @@ pub none-at-gate : {shards : ℕ} (old new : Hand) (gate : ℕ) (before : List G
 none-at-gate old new gate before was =
     record { number = was.number; made = was.made ∙ no-gate-entry gate (made_by old); more = was.more }
 
--- the same of a shard
+-- in a hold of a shard without an entry the hand made none
 pub none-at-shard : {shards : ℕ} (old new : Hand) (shard : ℕ) (before : List ShardEntry) → WasAtShard shards old new shard before [] [] → MadeNone old new
 none-at-shard old new shard before was =
     record { number = was.number; made = was.made ∙ no-shard-entry shard (made_by old); more = was.more }
 
--- the same of the store
+-- in a hold of the store without an entry the hand made none
 pub none-at-store : (old new : Hand) (before : List StoreEntry) (settled : List OracleEntry) → WasAtStore old new before [] settled [] → MadeNone old new
 none-at-store old new before settled was =
     record { number = was.number; made = was.made ∙ no-store-entry (made_by old); more = was.more }
@@ -79,7 +79,7 @@ module _ (old new : Hand) (r : ℕ) where
     finished = λ home entry h is. subst (λ (a : Account). Contains (gate_log a home) entry) none.made h;
   }
 
-  -- a hold of a gatekeeper
+  -- a hold of a gatekeeper makes no visit for any request
   pub unvisited-at-gate : {shards : ℕ} (gate : ℕ) (before added : List GateEntry) → WasAtGate shards old new gate before added
       → MakesNoVisit old new r
   unvisited-at-gate gate before added was = record {
@@ -100,7 +100,7 @@ module _ (old new : Hand) (r : ℕ) where
         ];
   }
 
-  -- a hold of the store
+  -- a hold of the store leaves each request alone
   pub alone-at-store : (before added : List StoreEntry) (settled asked : List OracleEntry) → WasAtStore old new before added settled asked
       → LeavesAlone old new r
   alone-at-store before added settled asked was = record {

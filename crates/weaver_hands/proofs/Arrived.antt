@@ -120,7 +120,7 @@ arrives_so F shards fetched new gate shard number message before answer was is =
     subst (λ (added : List ShardEntry). WasAtShard shards fetched new shard before added [])
     (by_answer F fetched (Arrived gate number message) (is_some (arrived_at gate number before)) answer is) was
 
--- and whether the message was known
+-- a pull brings the message as its answer says, if the answer is right on whether the message was known
 pub brought_so : (known : Bool) (answer : Answer) → answer ≡ (if known then Repeat else Kept) → (shards : ℕ) (old new : Hand) (gate shard number : ℕ)
     → (pulls : Pulls shards old new gate shard number) → is_some (arrived_at gate number pulls.before) ≡ known
     → BringsAs shards old new gate shard number (Ok (pulled_by answer))
@@ -183,6 +183,6 @@ module _ (laws : ArrivalLaws) (shared : Shared) (fetched new : Hand) (is_new : I
   at None none = laws.new before (hand_number fetched) gate number message none
   at (Some m) is = ap (arrived_at gate number) (append-nil before) ∙ is ∙ ap Some (same_message m is)
 
-  -- so the message has arrived
+  -- after a pull, the message has arrived at the shard by its gatekeeper and number
   pub has_arrived : arrived_at gate number (shard_log (seen_by new) shard) ≡ Some message
   has_arrived = ap (arrived_at gate number) was.left ∙ at (arrived_at gate number before) refl

@@ -1,4 +1,4 @@
--- What each call leaves alone.
+-- Each call leaves alone each request that it doesn't visit or finish for.
 -- Used by `calls_leave_others_alone`, BegunProgram and OwnVisits.
 use Rattle.std.proofs.Common.{◌≡◌, ◌≢◌, inl, inr, ℕ, Bool, true, false, cond, List, [], ◌∷◌, Ok, Err, Result, Option, refl, sym, ap, ◌∙◌}
 use Rattle.std.specs.Prelude.{if◌then◌else◌}

@@ -43,7 +43,7 @@ module _ (number r : ℕ) where
       let from = map_has (read-in log) (visits_by r (entries_of_author number log)) read h in
       subst (λ x. Contains (reads_in r log) x) from.2 (has_map (read-in log) (visits_by r log) from.0 (own-there log from.0 from.1))
 
-  -- and so in all shards
+  -- what an author's visits for a request read at all shards is among all that was read for it
   pub own-among : (seen : Account) (read : Name × State) → Contains (flat_map (own_reads_in number r) seen.shards) read → Contains (reads_of seen r) read
   own-among seen read h =
       let from = flat_has (own_reads_in number r) seen.shards read h in
@@ -65,7 +65,7 @@ module _ (number r : ℕ) where
         → visits_by r (entries_of_author number next) ≡ visits_by r (entries_of_author number log) → own_reads_in number r next ≡ own_reads_in number r log
     reads-still log next on legal same = ap (map (read-in next)) same ∙ read-alike log next on legal
 
-    -- in all shards
+    -- if no shard's log gets a new visit by the author for the request, what its visits read for it stays
     pub all-still : (seen next : Account) → ShardsGoOn seen next → ((shard : ℕ) → IsShardLog gates (shard_log next shard))
         → ((shard : ℕ) → visits_by r (entries_of_author number (shard_log next shard)) ≡ visits_by r (entries_of_author number (shard_log seen shard)))
         → flat_map (own_reads_in number r) next.shards ≡ flat_map (own_reads_in number r) seen.shards

@@ -111,7 +111,7 @@ module _ (hands : HandLaws) (laws : LawsForSeenLogs) (shared : Shared) (old new 
       ∙ was-made hands laws shared old new is_old is_new number visit.request shard
       ∙ sym (append-nil (visits_by visit.request (entries_of_author n (shard_log (seen_by old) shard)))))) h)
 
-  -- and so they do if it made no visit
+  -- a hand that visits only its own programs still does if it made no visit
   pub on-if-none : VisitsStay → ((r : ℕ) → MakesNoVisit old new r) → VisitsOwnPrograms n (start_of shared) (seen_by old)
       → VisitsOwnPrograms (hand_number new) (start_of shared) (seen_by new)
   on-if-none stay none = on-if-own stay (λ shard visit h. absurd (none-new shard visit h (none visit.request)))

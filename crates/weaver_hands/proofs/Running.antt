@@ -105,7 +105,7 @@ module _ (hands : HandLaws) (laws : LawsForSeenLogs) (shared : Shared) (old new 
       (λ shard. now-made hands laws shared old new is_old is_new none.number r shard ∙ none.visits shard
       ∙ was-made hands laws shared old new is_old is_new none.number r shard)
 
-  -- so the program goes on running
+  -- a program that is running still is, if the hand leaves its request alone
   pub still-runs : (running : Running) → LeavesAlone old new running.request → IsRunning shared old running → IsRunning shared new running
   still-runs running alone was = record {
     begun = begun-on hands laws shared old new is_old is_new alone.unvisited.number alone.unvisited.more.gates running.stamp.home running.request running.stamp was.begun;
@@ -238,7 +238,7 @@ runs-here law shared hand running was =
           (has_flat (λ (e : GateEntry). program_by e.author e.deed) log from.0 _ (drop_has (length start) log from.0 from.1) from.2) was.unfinished,
     )
 
--- with more room it is running, too
+-- a program that is running still is with a walk that has read all the first one had
 pub roomy : (shared : Shared) (hand : Hand) (running : Running) → IsRunning shared hand running → (walk : AnyProgram)
     → ((reads : List (Name × State)) → HasRead running.walk reads → HasRead walk reads)
     → IsRunning shared hand (record { request = running.request; stamp = running.stamp; walk = walk })

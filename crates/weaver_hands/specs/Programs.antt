@@ -20,6 +20,7 @@ use Rattle.weave_account.specs.Account.{gate_log}
 use Rattle.weave_account.specs.GoesOn.{visits_by}
 use Rattle.seen_logs.specs.Seen.{entries_since}
 use Rattle.weaver_core.specs.declared.walks.Running.{Running}
+use Rattle.weaver_core.specs.Visiting.{HasReadMore}
 use Rattle.weaver_locks.specs.declared.hand.Hand.{Hand}
 use Rattle.weaver_locks.specs.declared.shared.Shared.{Shared}
 use Rattle.weaver_locks.specs.GateHolds.{gate_entry_by, WasAtGate}
@@ -60,13 +61,6 @@ pub record IsRunning (shared : Shared) (hand : Hand) (running : Running) : Type 
 
 -- Visits
 
--- the program has read one more state
-pub record ReadsOneMore (old new : Running) (vertex : Name) (state : State) : Type 0 where
-  pub request_is : new.request ≡ old.request
-  pub stamp_is : new.stamp ≡ old.stamp
-  pub program_is : any_of new.walk ≡ any_of old.walk
-  pub reads : (reads : List (Name × State)) → HasRead old.walk reads → HasRead new.walk ((vertex, state) ∷ reads)
-
 -- what was read has one more read
 pub record GainsRead (old new : List (Name × State)) (read : Name × State) : Type 0 where
   pub front : List (Name × State)
@@ -90,7 +84,7 @@ pub record Visits (gates shards : ℕ) (old new : Hand) (was is : Running) : Typ
   pub in_turn : next_visit (own_reads old was.request) (any_of was.walk) ≡ Some vertex
   pub state : State
   pub visits : VisitsIn gates shards old new (shard_of vertex shards) was.request was.stamp vertex (Ok state)
-  pub fed : ReadsOneMore was is vertex state
+  pub fed : HasReadMore was is vertex state
   pub more : GainsRead (own_reads old was.request) (own_reads new was.request) (vertex, state)
 
 -- The shard of the program's next vertex was not ready for it in this call's hold: this is the least gatekeeper for

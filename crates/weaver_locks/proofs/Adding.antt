@@ -21,7 +21,7 @@ abbrev pub AddsNone : {E : Type 0} → (E → ℕ) → ℕ → List E → List E
 AddsNone {E} author_of number seen next =
     AtEachEntry (λ before (entry : E). IsOwn number seen before (author_of entry) → ⊥) next
 
--- the authors of entries
+-- the author of an entry of a gatekeeper's log
 abbrev pub gate_author : GateEntry → ℕ
 gate_author entry = entry.author
 
@@ -75,7 +75,7 @@ module _ (shards number : ℕ) (start seen next : Account) (added : HasAdded sha
     asks_once = added.asks_once;
   }
 
-  -- the common lemma
+  -- if the hand added this, what it has seen next is seen as a hand must have seen it
   pub hand_goes_on : HandLaws → (gates : ℕ) → IsSeenByHand shards number start seen → IsWithin seen next → AreLegal gates shards next
       → IsSeenByHand shards number start next
   hand_goes_on laws gates hand within legal = laws.see_more gates shards number start seen next hand within legal.shard_logs adds

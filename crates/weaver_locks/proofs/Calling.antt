@@ -1,4 +1,4 @@
--- A call of a gatekeeper within a hold.
+-- A call of a gatekeeper within a hold adds one entry of the hand, or none.
 -- Used by `begin_program`, `begin_tx`, `fetch`, `finish`, `hear`, `nop`, `say` and `send`.
 use Rattle.std.proofs.Common.{◌≡◌, ℕ, ◌<◌, List, [], ◌∷◌, ◌++◌, length, map, refl, sym, ap, ◌∙◌, subst, arith, Contains}
 use Rattle.std.specs.Prelude.{Result, Ok, Err, IfOk, IsTrue, OnOk, OnErr, Option}
@@ -81,12 +81,12 @@ one_added old new hand author deed (Err fault) by_hand notes adds refused = reco
   by = All-nil (λ (e : GateEntry). e.author ≡ hand_number hand);
 }
 
--- of an answer without a value
+-- what holds if a result is an answer holds of whatever answer it is
 pub on_ok : {A F : Type 0} (P : Type 0) (result : Result A F) → OnOk result P → IfOk result (λ answer. P)
 on_ok P (Ok answer) holds = holds
 on_ok P (Err fault) holds = tt
 
--- the hold goes on
+-- a hold whose machine gained these entries of the hand is still a hold of the gatekeeper, with them added
 pub goes_on : (shared : Shared) (old now : Hand) (gate : ℕ) (before added : List GateEntry) (held later : Held NotedGate GateDeed)
     → later.seat ≡ held.seat → later.chronicle ≡ held.chronicle → IsInGate shared old now gate before [] held
     → HasGrown (machine_of held) (machine_of later) (hand_number old) added → IsInGate shared old now gate before added later
@@ -180,7 +180,7 @@ known_after new m (Err fault) clock same known = tt
 module _ (shared : Shared) (old now : Hand) (gate : ℕ) (held later : Held NotedGate GateDeed) (state : NotedGate) (seat : later.seat ≡ held.seat)
     (lock : later.chronicle ≡ held.chronicle) (same : state ≡ machine_of held)
     (inside : IsInGate shared old now gate (machine_of held).gate.log [] held) where
-  -- that added an entry, or was refused
+  -- if the call added an entry of the hand, or was refused, the hand is in the gatekeeper, with this or nothing added
   pub one_more : {A F : Type 0} (author : ℕ) (deed : A → GateDeed) (result : Result A F) → author ≡ hand_number old
       → (machine_of later).notes ≡ state.notes → IfOk result (λ answer. Adds state.gate (machine_of later).gate author (deed answer))
       → OnErr result ((machine_of later).gate ≡ state.gate)
@@ -190,7 +190,7 @@ module _ (shared : Shared) (old now : Hand) (gate : ℕ) (held later : Held Note
       (subst (λ (n : NotedGate). HasGrown n (machine_of later) (hand_number old) (gate_entries_of old deed result)) same
       (one_added state (machine_of later) old author deed result by_hand notes adds refused))
 
-  -- that changed nothing
+  -- if the call changed nothing, the hand is still in the gatekeeper, with nothing added
   pub no_more : machine_of later ≡ state → IsInGate shared old now gate (machine_of held).gate.log [] later
   no_more still = goes_on shared old now gate (machine_of held).gate.log [] held later seat lock inside
       (none_added (machine_of held) (machine_of later) (hand_number old) (still ∙ same))

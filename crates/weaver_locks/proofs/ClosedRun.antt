@@ -1,4 +1,5 @@
--- All closed logs of a run.
+-- The closed logs of a run are legal if what each hand has seen is, and each of their entries was there at the start
+-- or is of a hand.
 -- Used by Closings and OwnLogs.
 use Rattle.std.proofs.Common.{◌≡◌, ◌≢◌, ⊎_elim, ℕ, ◌<◌, ◌≤◌, eq-eqb, ne_eqb, Bool, cond, List, [], ◌∷◌, map, get_or, refl, sym, ap, ◌∙◌, subst, arith}
 use Rattle.std.specs.List.{All, Contains}

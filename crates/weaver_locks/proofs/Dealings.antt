@@ -1,4 +1,4 @@
--- One hand more.
+-- With a hand of the next lower number at the end, the hands are still dealt from the highest number down.
 -- Used by `deal_hands`.
 use Rattle.std.proofs.Common.{◌≡◌, ℕ, ◌+◌, ◌-◌, ◌<◌, List, [], ◌∷◌, ◌++◌, length, get_or, sym, subst, arith}
 use Rattle.std.proofs.lemmas.List.{get_or_append_left}

@@ -29,7 +29,7 @@ module _ (number : ℕ) (account : Account) where
   pub gate-by : (home : ℕ) → gate_log (entries_by number account) home ≡ filter (λ (e : GateEntry). eqb e.author number) (gate_log account home)
   gate-by = row-at (filter (λ (e : GateEntry). eqb e.author number)) refl account.gates
 
-  -- the same of a shard's log
+  -- one author's part of a shard's log is its entries in that log
   pub shard-by : (shard : ℕ) → shard_log (entries_by number account) shard ≡ filter (λ (e : ShardEntry). eqb e.author number) (shard_log account shard)
   shard-by = row-at (filter (λ (e : ShardEntry). eqb e.author number)) refl account.shards
 
@@ -39,7 +39,7 @@ module _ (shared : Shared) (hand : Hand) (is : IsHand shared hand) where
   pub own-gate : (home : ℕ) → gate_log (made_by hand) home ≡ filter (λ (e : GateEntry). eqb e.author (hand_number hand)) (gate_log (seen_by hand) home)
   own-gate home = ap (λ (a : Account). gate_log a home) (made_of_seen shared hand is) ∙ gate-by (hand_number hand) (seen_by hand) home
 
-  -- the same of a shard
+  -- what a hand made of a shard's log is its entries in what it has seen of it
   pub own-shard : (shard : ℕ) → shard_log (made_by hand) shard ≡ filter (λ (e : ShardEntry). eqb e.author (hand_number hand)) (shard_log (seen_by hand) shard)
   own-shard shard = ap (λ (a : Account). shard_log a shard) (made_of_seen shared hand is) ∙ shard-by (hand_number hand) (seen_by hand) shard
 
@@ -59,19 +59,19 @@ module _ (one other : Hand) (closed : Account) (within : IsWithin (seen_by other
       subst (λ (l : List GateEntry). Contains l e) (sym (gate-by (hand_number one) closed home) ∙ ap (λ (a : Account). gate_log a home) made)
       (there (λ (x : GateEntry). x.author) (hand_number one) (gate_log (seen_by other) home) (gate_log closed home) (within.gates home) e has by)
 
-  -- the same of the store
+  -- an entry of one hand that another has seen in the store's log was made by the one
   pub seen-store-made : (e : StoreEntry) → Contains (seen_by other).store e → e.author ≡ hand_number one → Contains (made_by one).store e
   seen-store-made e has by =
       subst (λ (l : List StoreEntry). Contains l e) (ap (λ (a : Account). a.store) made)
       (there (λ (x : StoreEntry). x.author) (hand_number one) (seen_by other).store closed.store within.store e has by)
 
-  -- the same of the oracle
+  -- an entry of one hand that another has seen in the oracle's log was made by the one
   pub seen-oracle-made : (e : OracleEntry) → Contains (seen_by other).oracle e → e.author ≡ hand_number one → Contains (made_by one).oracle e
   seen-oracle-made e has by =
       subst (λ (l : List OracleEntry). Contains l e) (ap (λ (a : Account). a.oracle) made)
       (there (λ (x : OracleEntry). x.author) (hand_number one) (seen_by other).oracle closed.oracle within.oracle e has by)
 
-  -- the same of a shard
+  -- an entry of one hand that another has seen in a shard's log was made by the one
   pub seen-shard-made : (shard : ℕ) (e : ShardEntry) → Contains (shard_log (seen_by other) shard) e → e.author ≡ hand_number one
       → Contains (shard_log (made_by one) shard) e
   seen-shard-made shard e has by =

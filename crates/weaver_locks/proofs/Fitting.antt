@@ -45,7 +45,7 @@ module _ (locks : Locks) (gates : List GateView) (store : List StoreEntry) (orac
     pub shard_counts : All (λ (n : NotedShard). n.shards ≡ length shards) machines.shards.items
     pub shard_notes : All (λ (n : NotedShard). ShardNotesStart locks n.notes) machines.shards.items
 
-  -- they fit the locks
+  -- machines with these views, and with notes that start as the locks are, fit the locks
   pub fit : (machines : Machines) → AreNoted machines → FitLocks locks machines
   fit machines noted =
       let ms : List NotedGate = machines.gates.items in

@@ -1,4 +1,4 @@
--- Parts of a frame.
+-- The frame of the oracle's lock is the number of shards and the names of the gatekeepers' locks.
 -- Used by `commit`, `visit`, Entering, ShardAsked, ShardEntered and StoreEntered.
 use Rattle.std.proofs.Common.{◌≡◌, ℕ, List, [], ◌∷◌, length, sym, ◌∙◌}
 use Rattle.weave_entries.specs.declared.gate_log.GateDeed.{GateDeed}

@@ -1,4 +1,4 @@
--- The passes of a hand of these locks.
+-- A hand of these locks has a pass for each gatekeeper and for each shard.
 -- Used by Entering, Leaving, NewHands, OwnLogs, Sending, ShardDone, ShardEntered, ShardLeft and ShardVisited.
 use Rattle.std.proofs.Common.{◌≡◌, ℕ, ◌<◌, length, arith}
 use Rattle.std.specs.List.{All}
@@ -17,10 +17,10 @@ pub record HaveItsNumber (hand : Hand) : Type 0 where
   pub shards : All (λ (p : Pass ShardDeed). number_of p ≡ hand_number hand) hand.shards.items
 
 module _ (shared : Shared) (hand : Hand) (is : IsHand shared hand) where
-  -- there is one for each gatekeeper
+  -- a hand has a pass for each gatekeeper
   pub has_gate : (gate : ℕ) → gate < length shared.gates.items → gate < length hand.gates.items
   has_gate gate low = omega (arith, low, is.gates)
 
-  -- and one for each shard
+  -- a hand has a pass for each shard
   pub has_shard : (shard : ℕ) → shard < length shared.shards.items → shard < length hand.shards.items
   has_shard shard low = omega (arith, low, is.shards)

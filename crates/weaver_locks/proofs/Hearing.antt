@@ -59,7 +59,7 @@ hears-on shared old new gate added made stamp may = record {
   ];
 }
 
--- and when it has added none
+-- a hand that has added no entries to gatekeepers' logs may hear what it could hear
 pub hears-still : (shared : Shared) (old new : Hand) → (made_by new).gates ≡ (made_by old).gates → (stamp : Stamp) → MayHear shared old stamp
     → MayHear shared new stamp
 hears-still shared old new made stamp may = record {

@@ -1,4 +1,4 @@
--- A hand leaves the lock of a gatekeeper.
+-- A hand that leaves the lock of a gatekeeper is a hand again, and added just these entries there.
 -- Used by `leave_gate`.
 use Rattle.std.proofs.Common.{◌≡◌, ◌≢◌, inl, inr, ℕ, ◌<◌, eqb, eq-eqb, Bool, cond, List, [], ◌∷◌, ◌++◌, length, map, get_or, set, refl, sym, ap, ◌∙◌, subst, arith, append_assoc}
 use Rattle.std.specs.List.{All}
@@ -64,7 +64,7 @@ pub record HasLeft (shared : Shared) (old now new : Hand) (gate : ℕ) (log : Li
   pub number : number_of p ≡ hand_number old
   pub seen_is : seen_by_pass p ≡ gate_pairs log
 
--- what leaving asks: the hand's new entries
+-- a log that goes on by entries of one author only follows what this author entered with
 pub follows : (n : ℕ) (entered : Log GateDeed) (before added log : List GateEntry) → entered ≡ gate_pairs before → log ≡ before ++ added
     → All (λ (e : GateEntry). e.author ≡ n) added → Follows n entered (gate_pairs log)
 follows n entered before added log entry is by = (
@@ -76,7 +76,7 @@ follows n entered before added log entry is by = (
 
 module _ (shared : Shared) (old now new : Hand) (gate : ℕ) (before : List GateEntry) (held : Held NotedGate GateDeed) (p d : Pass GateDeed)
     (m : NotedGate) (gates : List (Pass GateDeed)) where
-  -- how it left
+  -- if just the pass of the gatekeeper's lock was exchanged, for one that has seen its whole log, the hand has left
   pub left_by : SeesElsewhere shared old now gate → IsHeldBy shared now gate before held → gates ≡ now.gates.items
       → new.gates.items ≡ set gates gate p → new.store ≡ now.store → new.oracle ≡ now.oracle → new.shards.items ≡ now.shards.items
       → IsReady (lock_in held) p → number_of p ≡ number_of (get_or gates gate d) → seen_by_pass p ≡ gate_pairs m.gate.log → m ≡ machine_of held

@@ -1,4 +1,4 @@
--- Lists, place by place.
+-- A list gone through: what is done, what is left.
 -- Used by `bare_gates`, `bare_shards`, `close_row`, `gather`, 10 more and crates hands_rows and locks_rows.
 use Rattle.std.proofs.Common.{◌≡◌, ℕ, zero, suc, ◌+◌, ◌<◌, drop, List, [], ◌∷◌, ◌++◌, length, map, get_or, set, cond, Bool, true, false, inl, inr, refl, sym, ap, ◌∙◌, subst, arith, append_assoc, length-append}
 use Rattle.std.specs.List.{All, Any, Contains, filter}
@@ -84,7 +84,7 @@ has-images f xs each n low =
     let d = one_of xs n low in
     subst (Contains (map f xs)) (each n d low) (has_map f xs (get_or xs n d) (Contains-get_or xs n d low))
 
--- images of images
+-- to map by f and then by g is to map by f followed by g
 pub map_twice : {A B C : Type 0} (g : B → C) (f : A → B) (xs : List A) → map g (map f xs) ≡ map (λ x. g (f x)) xs
 map_twice g f [] = refl
 map_twice g f (x ∷ xs) = let rest = map_twice g f xs in λ i. g (f x) ∷ rest i

@@ -24,7 +24,7 @@ module _ {A : Type 0} where
       let more = inside xs ys before after e tails (omega (arith, low)) in
       (more.0, λ i. first i ∷ more.1 i)
 
-  -- an element past it
+  -- if the elements before e are no fewer than the first list has, e is in the second
   pub beyond : (xs ys before after : List A) (e : A) → xs ++ ys ≡ before ++ e ∷ after → length xs ≤ length before
       → Contains ys e
   beyond [] ys before after e is low = subst (λ (l : List A). Contains l e) (sym is) (has_cut before e after)

@@ -46,7 +46,7 @@ program-begins shared old new gate request stamp before is_old was =
     subst (λ n. Contains (programs_of (entries_since start log)) (record { author = n; request = request; stamp = stamp })) (sym was.number)
     (has_flat (λ (e : GateEntry). program_by e.author e.deed) (entries_since start log) entry _ there (has_head _ []))
 
--- it stays begun
+-- a program that a hand has begun stays begun by it, if what the hand has seen goes on
 pub program-stays : (shared : Shared) (old new : Hand) → IsHand shared old → hand_number new ≡ hand_number old → IsWithin (seen_by old) (seen_by new)
     → (home request : ℕ) (stamp : Stamp) → HasBegunProgram shared old home request stamp → HasBegunProgram shared new home request stamp
 program-stays shared old new is_old number more home request stamp h =
@@ -58,7 +58,7 @@ program-stays shared old new is_old number more home request stamp h =
     (flat-on (λ (e : GateEntry). program_by e.author e.deed) (entries_since start before) (entries_since start after)
     (since-on start before after (longer start before (is_old.seen.starts.gates home)) (more.gates home))) _ h)
 
--- its begin was seen
+-- a hand that has begun a program has seen that it was begun
 pub program-seen : (shared : Shared) (hand : Hand) (home request : ℕ) (stamp : Stamp) → HasBegunProgram shared hand home request stamp
     → Contains (programs_of (gate_log (seen_by hand) home)) (record { author = hand_number hand; request = request; stamp = stamp })
 program-seen shared hand home request stamp h =

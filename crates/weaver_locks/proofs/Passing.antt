@@ -28,7 +28,7 @@ use Rattle.weaver_locks.proofs.Adding.{AddsNone, gate_author, oracle_author, sha
 pub beginning : {E : Type 0} (xs ys : List E) → IsPrefix xs ys → IsBeginningOf xs ys
 beginning xs ys on = (on.0, sym on.1)
 
--- nothing is new
+-- a log that stays as it is goes on without entries of this author
 pub stays : {E : Type 0} (number : ℕ) (log : Log E) → GoesOnWithout number log log
 stays number log = record { own_is = refl; more = ([], append-nil log) }
 
@@ -89,15 +89,15 @@ module _ (laws : HandLaws) (number : ℕ) (gates later : List (Log GateDeed)) (s
       subst P (λ i. (sym (laws.at_gate gates store oracle shards home) i, sym (laws.at_gate later last asked further home) i))
       (none_of gate_pair gate_entry laws.gate_back gate_author (λ r. refl) laws.gate_places number (get_or gates home []) (get_or later home []) on)
 
-  -- the same of the store's log
+  -- a store's log that goes on without entries of an author adds none of it to the account
   pub store_none : GoesOnWithout number store last → AddsNone store_author number before.store after.store
   store_none on = none_of store_pair store_entry laws.store_back store_author (λ r. refl) laws.store_places number store last on
 
-  -- the same of the oracle's log
+  -- an oracle's log that goes on without entries of an author adds none of it to the account
   pub oracle_none : GoesOnWithout number oracle asked → AddsNone oracle_author number before.oracle after.oracle
   oracle_none on = none_of oracle_pair oracle_entry laws.oracle_back oracle_author (λ r. refl) laws.oracle_places number oracle asked on
 
-  -- the same of a shard's log
+  -- a shard's log that goes on without entries of an author adds none of it to the account
   pub shard_none : (shard : ℕ) → GoesOnWithout number (get_or shards shard []) (get_or further shard [])
       → AddsNone shard_author number (shard_log before shard) (shard_log after shard)
   shard_none shard on =

@@ -1,4 +1,4 @@
--- One room more.
+-- Rooms for this many, with one more such room, are still rooms for this many.
 -- Used by `room_row`.
 use Rattle.std.proofs.Common.{ℕ, ◌<◌, List, [], ◌∷◌, ◌++◌, length, sym, subst, arith, Vec}
 use Rattle.std.specs.Global.{Global}

@@ -13,7 +13,7 @@ use Rattle.weaver_locks.specs.Hands.{IsHand}
 use Rattle.weaver_locks.proofs.Rows.{row_ready}
 
 module _ (shared : Shared) (locks : List (Chronicle NotedGate GateDeed)) (locks_is : locks ≡ shared.gates.items) where
-  -- the locks are few
+  -- there are at most eight locks of gatekeepers
   pub few_locks : length locks ≤ 8
   few_locks = subst (λ (l : List (Chronicle NotedGate GateDeed)). length l ≤ 8) (sym locks_is) shared.framed.few_gates
 

@@ -61,7 +61,7 @@ set_there (x ∷ xs) zero (suc j) a d other = refl
 set_there (x ∷ xs) (suc k) zero a d other = refl
 set_there (x ∷ xs) (suc k) (suc j) a d other = set_there xs k j a d (λ e. other (ap suc e))
 
--- exchanged twice
+-- an element that is exchanged twice is as exchanged the second time alone
 pub set_twice : {A : Type 0} (xs : List A) (k : ℕ) (a b : A) → set (set xs k a) k b ≡ set xs k b
 set_twice [] k a b = refl
 set_twice (x ∷ xs) zero a b = refl
@@ -73,7 +73,7 @@ set_length [] k a = refl
 set_length (x ∷ xs) zero a = refl
 set_length (x ∷ xs) (suc k) a = ap suc (set_length xs k a)
 
--- nothing more
+-- each list is a beginning of itself
 pub nothing_more : {A : Type 0} (l : List A) → IsBeginningOf l l
 nothing_more l = ([], sym (append-nil l))
 
@@ -109,13 +109,13 @@ module _ {M E : Type 0} (locks : List (Chronicle M E)) (before after : List (Pas
         ([], refl)
   ]
 
-  -- they have the same numbers
+  -- if all passes had one number, they have it still
   pub row_numbers : (n : ℕ) → All (λ (p : Pass E). number_of p ≡ n) before → All (λ (p : Pass E). number_of p ≡ n) after
   row_numbers n all k d low =
       let here : k < length locks = omega (arith, low, after_count) in
       at_place (λ x y. number_of y ≡ number_of x) (λ lock x y h. h.number) k d here ∙ all k d (omega (arith, here, count))
 
-  -- and the same own entries
+  -- the passes have the same own entries as before
   pub row_own : map own_entries after ≡ map own_entries before
   row_own = mapped_alike own_entries own_entries before after on.count (λ k a b low.
       let here : k < length locks = omega (arith, low, count) in

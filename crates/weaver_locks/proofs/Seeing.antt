@@ -25,12 +25,12 @@ pub stores_back : (log : List StoreEntry) → store_entries (store_pairs log) �
 stores_back [] = refl
 stores_back (entry ∷ log) = ap (λ (l : List StoreEntry). entry ∷ l) (stores_back log)
 
--- the same of the oracle's log
+-- a log of the oracle that is made pairs of and back is as it was
 pub oracles_back : (log : List OracleEntry) → oracle_entries (oracle_pairs log) ≡ log
 oracles_back [] = refl
 oracles_back (entry ∷ log) = ap (λ (l : List OracleEntry). entry ∷ l) (oracles_back log)
 
--- the same of a shard's log
+-- a log of a shard that is made pairs of and back is as it was
 pub shards_back : (log : List ShardEntry) → shard_entries (shard_pairs log) ≡ log
 shards_back [] = refl
 shards_back (entry ∷ log) = ap (λ (l : List ShardEntry). entry ∷ l) (shards_back log)
@@ -39,7 +39,7 @@ shards_back (entry ∷ log) = ap (λ (l : List ShardEntry). entry ∷ l) (shards
 pub gate_at : (hand : Hand) (home : ℕ) → gate_log (seen_by hand) home ≡ gate_entries (get_or (map seen_by_pass hand.gates.items) home [])
 gate_at hand home = image_or gate_entries (map seen_by_pass hand.gates.items) home [] [] refl
 
--- the same of a shard's log
+-- what a hand has seen of a shard's log is what its pass of that shard's lock has seen
 pub shard_at : (hand : Hand) (shard : ℕ) → shard_log (seen_by hand) shard ≡ shard_entries (get_or (map seen_by_pass hand.shards.items) shard [])
 shard_at hand shard = image_or shard_entries (map seen_by_pass hand.shards.items) shard [] [] refl
 
@@ -58,7 +58,7 @@ unfolding at_place
 placed_here zero own = refl
 placed_here (suc number) own = placed_here number own
 
--- and no log elsewhere
+-- with a shard's own log at its place, there is no log at any other place
 pub placed_there : (number k : ℕ) (own : List ShardEntry) → k ≢ number → get_or (at_place number own) k [] ≡ []
 unfolding at_place
 placed_there zero zero own other = absurd (other refl)

@@ -60,7 +60,7 @@ flight_after_one home shards before author flight flies other (Heard clock) fits
 flight_after_one home shards before author flight flies other (Raised epoch) fits = refl
 flight_after_one home shards before author flight flies other (Finished r) fits = refl
 
--- and so do all of them
+-- a transaction in flight stays so if the legal log goes on without entries of its author
 pub flight_goes_on : GateLaws → (home shards : ℕ) (log new : List GateEntry) (flight : BegunRequest) → IsGateLog home shards (log ++ new)
     → flight_of log ≡ Some flight → AddsNone gate_author flight.author log (log ++ new) → flight_of (log ++ new) ≡ Some flight
 flight_goes_on rules home shards log [] flight legal flies none = ap (λ (l : List GateEntry). flight_of l) (append-nil log) ∙ flies
@@ -148,7 +148,7 @@ module _ (laws : HandLaws) (rules : GateLaws) (shared : Shared) (old : Hand) (ga
         verdict_is = has.verdict_is;
       }
 
-  -- by whom it was begun
+  -- what is in flight at the gatekeeper was begun by the hand
   pub sends_own : (author : ℕ) → author ≡ hand_number old → ForSome (flight_of m.gate.log) (λ (b : BegunRequest). b.author ≡ author)
   sends_own author is b flies =
       ap (λ (x : BegunRequest). x.author) (same_Some b flight (sym flies ∙ flies_there)) ∙ (may.own ∙ sym is)
@@ -165,7 +165,7 @@ module _ (laws : HandLaws) (rules : GateLaws) (shared : Shared) (old : Hand) (ga
   sends_judged b flies = subst (λ (x : BegunRequest). HasJudged (seen_of_gate m.gate m.notes) x ops verdict) (same_Some flight b (sym flies_there ∙ flies))
       judged_there
 
-  -- what was sent
+  -- a send that succeeds adds the entry of the messages made of the transaction in flight
   pub sent_as_flown : {A F : Type 0} (author shards : ℕ) (new : GateView) (result : Result A F) → m.gate.shards ≡ shards
       → OnOk result (SendsFlight m.gate new author ops verdict)
       → IfOk result (λ answer. Adds m.gate new author (Sent flight.request (messages_of shards m.gate.log flight ops verdict)))

@@ -1,4 +1,4 @@
--- The head of a channel is processed in the lock of a shard.
+-- The call that processes the head of a channel in the lock of a shard adds its entry, or none if it is refused.
 -- Used by `apply`.
 use Rattle.std.proofs.Common.{◌≡◌, ℕ, ◌+◌, List, subst}
 use Rattle.std.specs.Prelude.{OnErr, OnOk, Result}

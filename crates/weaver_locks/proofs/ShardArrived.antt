@@ -1,4 +1,4 @@
--- A message arrives in the lock of a shard.
+-- A message that arrives in the lock of a shard adds its entry, or none if it is a repeat or refused.
 -- Used by `arrive`.
 use Rattle.std.proofs.Common.{◌≡◌, ◌≢◌, ℕ, List, [], ◌∷◌, ◌++◌, length, get_or, AllPairs, Contains, refl, sym, ap, subst}
 use Rattle.std.specs.Prelude.{IfOk, OnErr, Result, Ok, Err}

@@ -1,4 +1,5 @@
--- What a hand did in the lock of a shard, if it visited nothing.
+-- A hand that visited nothing in the lock of a shard, and whose entries are all its own, is done there, and asked the
+-- oracle for nothing.
 -- Used by `apply`, ShardApplied, ShardArrived, ShardCalled and ShardVisited.
 use Rattle.std.proofs.Common.{◌≡◌, ℕ, ◌<◌, List, [], ◌∷◌, ◌++◌, length, map, get_or, Contains, refl, sym, ap, ◌∙◌, subst}
 use Rattle.std.specs.Prelude.{All, Result, Ok, Err, OnOk, OnErr}
@@ -83,7 +84,7 @@ module _ (shared : Shared) (old now : Hand) (shard : ℕ) (held : Held NotedShar
   pub as_many : length now.shards.items ≡ length shared.shards.items
   as_many = ap (λ (l : List (Pass ShardDeed)). length l) i.shards ∙ (set_length old.shards.items shard i.pass ∙ hand.shards)
 
-  -- the pass can leave
+  -- the hand's pass of the shard's lock is the one that the hold went in with, whatever its machine is now
   pub its_hold : (m : NotedShardView) (p : Pass ShardDeed) → WentInWith (get_or now.shards.items shard p)
       (record { chronicle = held.chronicle; machine = m; seat = held.seat; seated = held.seated; view = held.view; author = held.author })
   its_hold m p = subst (λ (q : Pass ShardDeed). WentInWith q
@@ -99,7 +100,7 @@ module _ (shared : Shared) (old now : Hand) (shard : ℕ) (held : Held NotedShar
     all_by (hand_number old) (number_of (get_or now.shards.items shard p)) added (ap number_of (its_pass p) ∙ i.number) by,
   )
 
-  -- the frame stays
+  -- if the shard's number, counts and notes are as they were, its frame is the frame of the lock
   pub still_framed : (m : NotedShardView) → m.shard.number ≡ was.shard.number → m.shard.gates ≡ was.shard.gates → m.shards ≡ was.shards
       → m.notes ≡ was.notes → frame_of_shard m.shard m.shards m.notes ≡ (lock_in held).frame
   still_framed m number gates shards notes =

@@ -1,4 +1,4 @@
--- A hand that enters the lock of a shard.
+-- A hand that enters the lock of a shard is in it, its other passes having met the notes.
 -- Used by `enter_shard`.
 use Rattle.std.proofs.Common.{◌≡◌, ℕ, zero, suc, ◌<◌, List, [], ◌∷◌, ◌++◌, length, map, get_or, refl, sym, ap, ◌∙◌, subst, arith}
 use Rattle.std.specs.Vec.{with_item, with_items}

@@ -372,7 +372,7 @@ module _ (shared : Shared) (old now : Hand) (shard : ℕ) (held : Held NotedShar
         m.shard.log before added asked
     visit_done = record { log_is = goes.log; pass = i.pass; shards = i.shards; number = i.number; does = does }
 
-    -- of the oracle's log
+    -- the hand added to the oracle's log, as it found it, what the visit asked for
     pub oracle_was : AddsToOracle shared old oracle settled asked
     oracle_was = oracle_adds ready number
 

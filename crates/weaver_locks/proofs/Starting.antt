@@ -125,7 +125,7 @@ module _ (laws : OpeningLaws) (locks : Locks) (gates : List GateView) (store : L
       (ap store_entries is.store.start ∙ store_is)
       (λ j. ap (λ (l : List (List ShardEntry)). get_or l j []) shards_seen)
 
-  -- the same of a shard
+  -- if a shard's notes start as the locks are, the shard has seen what its log refers to
   pub kept_shard : (k : ℕ) (s : ShardView) → k < length shards → (notes : ShardNotes) → ShardNotesStart locks notes
       → shard.ShardIsKept (get_or shards k s) (length shards) notes
   kept_shard k s low notes is =

@@ -1,4 +1,4 @@
--- What a judgement asks of the hold of the store.
+-- What the call `commit` of the store asks of its hold is so for a hand in the store's lock.
 -- Used by `commit`.
 use Rattle.std.proofs.Common.{◌≡◌, ℕ, List, [], get_or, sym, ap, ◌∙◌, subst}
 use Rattle.weave_entries.specs.declared.gate_log.GateDeed.{GateDeed}

@@ -1,4 +1,4 @@
--- A hand that enters the lock of the store.
+-- A hand that enters the lock of the store is in it, its passes of gatekeepers' locks having met the notes.
 -- Used by `enter_store`.
 use Rattle.std.proofs.Common.{◌≡◌, ℕ, List, [], ◌∷◌, length, map, get_or, refl, sym, ap, ◌∙◌, subst, arith}
 use Rattle.std.specs.Vec.{with_items}

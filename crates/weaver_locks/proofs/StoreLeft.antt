@@ -1,4 +1,4 @@
--- A hand that leaves the lock of the store.
+-- A hand that leaves the lock of the store is a hand again, and added just these entries there and at the oracle.
 -- Used by `leave_store`.
 use Rattle.std.proofs.Common.{◌≡◌, ℕ, ◌≤◌, List, [], ◌∷◌, ◌++◌, length, map, get_or, refl, sym, ap, ◌∙◌, subst, arith}
 use Rattle.std.proofs.lemmas.List.{length-append}

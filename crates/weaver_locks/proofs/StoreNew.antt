@@ -17,8 +17,10 @@ use Rattle.weave_entries.specs.declared.store_log.StoreDeed.TheVariants.{Judged}
 use Rattle.weave_entries.specs.declared.store_log.StoreEntry.{StoreEntry}
 use Rattle.weave_entries.specs.StoreReplay.{Judgement, judged_by, judgements_of}
 use Rattle.weave_entries.specs.StoreRule.{stamps_judged}
+use Rattle.weave_entries.proofs.OwnStamps.{tx-begun}
 use Rattle.weave_account.specs.Account.{all_begun, gate_log}
 use Rattle.weave_account.specs.GoesOn.{IsBeginningOf}
+use Rattle.weave_account.proofs.SeenIds.{IdsDiffer}
 use Rattle.seen_logs.specs.Entries.{gate_entries, store_entry, store_pair, store_pairs}
 use Rattle.chronicle.specs.declared.held.Held.{Held}
 use Rattle.chronicle.specs.declared.pass.Pass.{Pass}
@@ -36,7 +38,6 @@ use Rattle.weaver_locks.proofs.Beside.{gates_on, named}
 use Rattle.weaver_locks.proofs.Following.{SeenIds}
 use Rattle.weaver_locks.proofs.Logged.{cut_pairs, inside, records_on}
 use Rattle.weaver_locks.proofs.Seeing.{stores_back}
-use Rattle.store_lock.proofs.Begun.{OtherIds}
 
 -- what is in the image of a beginning is in that of the whole
 pub still_there : {A B : Type 0} (f : A → List B) (a b : List A) → IsBeginningOf a b → (x : B) → Contains (flat_map f a) x
@@ -45,12 +46,6 @@ still_there {A} f a b on x has =
     let from = flat_has f a x has in
     let there : Contains b from.0 = subst (λ (l : List A). Contains l from.0) (sym on.1) (Contains-append_left a on.0 from.0 from.1) in
     has_flat f b from.0 x there from.2
-
-tx_begun : (log : List GateEntry) (begun : BegunRequest) → Contains (txs_of log) begun → Contains (begun_in log) begun
-tx_begun log begun h =
-    let from = flat_has (λ (entry : GateEntry). tx_by entry.author entry.deed) log begun h in
-    has_flat (λ (entry : GateEntry). tx_by entry.author entry.deed ++ program_by entry.author entry.deed) log from.0 begun from.1
-    (Contains-append_left (tx_by (from.0).author (from.0).deed) (program_by (from.0).author (from.0).deed) begun from.2)
 
 -- what was begun at one gatekeeper was begun
 in_all : (logs : List (List GateEntry)) (home : ℕ) (begun : BegunRequest) → Contains (begun_in (get_or logs home [])) begun
@@ -126,9 +121,9 @@ module _ (laws : HoldLaws) (shared : Shared) (old now : Hand) (held : Held Noted
           let stamp_is : its.stamp ≡ one = ap (λ (j : Judgement). j.stamp) entry.2 ∙ judged.2 in
           let one_id : id_of first.stamp ≡ id_of stamp = ap id_of stamp_is ∙ same in
           let logs = gates_noted was.gates in
-          elim (pairs_cases OtherIds (all_begun (of_gates logs)) (ids was.shards (of_gates logs) few_noted i.kept.legal.gate_logs) first tx
-          (in_all logs as_seen.home first (tx_begun (get_or logs as_seen.home []) first as_seen.begun))
-          (in_all logs begun.0 tx (tx_begun (get_or logs begun.0 []) tx begun_here))) [
+          elim (pairs_cases IdsDiffer (all_begun (of_gates logs)) (ids was.shards (of_gates logs) few_noted i.kept.legal.gate_logs) first tx
+          (in_all logs as_seen.home first (tx-begun (get_or logs as_seen.home []) first as_seen.begun))
+          (in_all logs begun.0 tx (tx-begun (get_or logs begun.0 []) tx begun_here))) [
             | inl is ↦
                 let mine : (entry.0).author ≡ hand_number old = sym (judged_author (entry.0).author (entry.0).deed) ∙ ap (λ (b : BegunRequest). b.author) is in
                 let has = made_own entry.0 (seen_own entry.0 cut.before cut.after cut.is mine) mine in

@@ -1,5 +1,5 @@
 -- The laws of the crates below that closed logs rely on, in one record. No public contract cites this.
-use Rattle.std.specs.Prelude.{◌≡◌, ℕ, ◌<◌, ◌≤◌, List, [], ◌∷◌, ◌++◌, map, length, slice_index_or}
+use Rattle.std.specs.Prelude.{◌≡◌, ℕ, ◌<◌, ◌≤◌, List, [], ◌∷◌, ◌++◌, map, length}
 use Rattle.weave_entries.specs.declared.gate_log.GateDeed.{GateDeed}
 use Rattle.weave_entries.specs.declared.gate_log.GateEntry.{GateEntry}
 use Rattle.weave_entries.specs.declared.oracle_log.OracleDeed.{OracleDeed}
@@ -10,7 +10,7 @@ use Rattle.weave_entries.specs.declared.store_log.StoreDeed.{StoreDeed}
 use Rattle.weave_entries.specs.declared.store_log.StoreEntry.{StoreEntry}
 use Rattle.weave_account.specs.GoesOn.{IsBeginningOf}
 use Rattle.seen_logs.specs.Entries.{account_of_logs, gate_entry, gate_pair, oracle_entry, oracle_pair, shard_entry, shard_pair, store_entry, store_pair}
-use Rattle.seen_logs.specs.Seen.{IsWithin}
+use Rattle.seen_logs.specs.Seen.{AreBeginnings, IsWithin}
 use Rattle.chronicle.specs.Logs.{IsGrown}
 use Rattle.weaver_locks.specs.HandLaws.{KeepsPlaces}
 
@@ -24,9 +24,8 @@ pub record OwnEntries (E : Type 0) : Type 0 where
 abbrev pub MoreIsSeen : Type 0
 MoreIsSeen = (gates next_gates : List (List (ℕ × GateDeed))) (store next_store : List (ℕ × StoreDeed))
     → (oracle next_oracle : List (ℕ × OracleDeed)) (shards next_shards : List (List (ℕ × ShardDeed)))
-    → ((home : ℕ) → IsBeginningOf (slice_index_or gates home []) (slice_index_or next_gates home []))
-    → IsBeginningOf store next_store → IsBeginningOf oracle next_oracle
-    → ((shard : ℕ) → IsBeginningOf (slice_index_or shards shard []) (slice_index_or next_shards shard []))
+    → AreBeginnings gates next_gates → IsBeginningOf store next_store → IsBeginningOf oracle next_oracle
+    → AreBeginnings shards next_shards
     → IsWithin (account_of_logs gates store oracle shards)
     (account_of_logs next_gates next_store next_oracle next_shards)
 

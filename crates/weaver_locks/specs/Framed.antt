@@ -1,4 +1,4 @@
--- How the locks of a run fit each other.
+-- How the locks of a run fit each other. No public contract cites this.
 use Rattle.std.specs.Prelude.{◌≡◌, ℕ, ◌<◌, ◌≤◌, List, [], ◌∷◌, length, slice_index_or, All}
 use Rattle.weave_data.specs.Limits.{most_gates, most_shards}
 use Rattle.weave_entries.specs.declared.gate_log.GateDeed.{GateDeed}

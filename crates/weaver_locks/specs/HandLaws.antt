@@ -14,7 +14,7 @@ use Rattle.weave_account.specs.declared.account.Account.{Account}
 use Rattle.weave_account.specs.Account.{gate_log, shard_log}
 use Rattle.weave_account.specs.GoesOn.{IsBeginningOf}
 use Rattle.seen_logs.specs.Entries.{account_of_logs, gate_entries, gate_pairs, oracle_entries, oracle_pairs, shard_entries, shard_pairs, store_entries, store_pairs}
-use Rattle.seen_logs.specs.Seen.{AddsAsSeen, AreLegal, IsSeenByHand, IsWithin}
+use Rattle.seen_logs.specs.Seen.{AddsAsSeen, AreBeginnings, AreLegal, IsSeenByHand, IsWithin}
 use Rattle.chronicle.specs.Logs.{Log, entries_of}
 
 -- if what is seen has all of the author's entries in the log, each of them has a place there
@@ -22,10 +22,6 @@ abbrev pub KeepsPlaces : Type 0 → Type 0
 KeepsPlaces E = (author : ℕ) (seen log before after : Log E) (entry : ℕ × E) → IsPrefix seen log
     → entries_of author log ≡ entries_of author seen → log ≡ before ++ entry ∷ after → entry.0 ≡ author
     → length before < length seen
-
--- each of these logs is the beginning of the one at its place
-abbrev pub AreBeginnings : {E : Type 0} → List (Log E) → List (Log E) → Type 0
-AreBeginnings logs next = (k : ℕ) → IsBeginningOf (slice_index_or logs k []) (slice_index_or next k [])
 
 -- hands see more, own entries were seen, and entries are pairs
 pub record HandLaws : Type 0 where

@@ -1,4 +1,4 @@
--- What the locks of a run keep for the time when they are closed.
+-- What the locks of a run keep for the time when they are closed. No public contract cites this.
 use Rattle.std.specs.Prelude.{◌≡◌, ℕ, length}
 use Rattle.weaver_locks.specs.declared.ends.Ends.{Ends}
 use Rattle.weaver_locks.specs.declared.rooms.Rooms.{Rooms}

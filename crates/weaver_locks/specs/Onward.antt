@@ -1,4 +1,4 @@
--- Passes that have seen more.
+-- Passes that have seen more. No public contract cites this.
 use Rattle.std.specs.Prelude.{◌≡◌, ℕ}
 use mathlib.Core.List.{IsPrefix}
 use Rattle.chronicle.specs.declared.pass.Pass.{Pass}

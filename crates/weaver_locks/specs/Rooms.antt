@@ -1,4 +1,4 @@
--- Rooms: empty lists with space, for what comes back when locks are closed.
+-- Rooms: empty lists with space, for what comes back when locks are closed. No public contract cites this.
 use Rattle.std.specs.Prelude.{◌≡◌, ℕ, ◌<◌, ◌≤◌, List, [], ◌∷◌, ◌++◌, map, length, slice_index_or, Vec, vec_len, vec_capacity}
 use Rattle.std.specs.Global.{Global}
 use Rattle.weaver_locks.specs.declared.hand.Hand.{Hand}

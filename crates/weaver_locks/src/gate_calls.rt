@@ -4,7 +4,7 @@ ghost use Rattle.std.specs.List.{list_any};
 ghost use Rattle.std.specs.Option.{ForSome};
 ghost use Rattle.vector_stamp.specs.Clocks.{counts_no_more};
 ghost use Rattle.vector_stamp.specs.Order.{has_64_bits, stamp_before};
-ghost use Rattle.shard_queue.specs.Sent.{sent_as};
+ghost use Rattle.shard_queue.specs.Outbox.{sent_as};
 ghost use Rattle.weave_entries.specs.declared.gate_log.GateEntry.{GateEntry};
 ghost use Rattle.weave_entries.specs.GateReplay.{begun_stamp, channel_of, clock_of, flight_of, is_begun, low_mark, next_number, next_stamp, running_of};
 ghost use Rattle.weave_entries.specs.Sending.{messages_of};

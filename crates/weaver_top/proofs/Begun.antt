@@ -20,11 +20,12 @@ use Rattle.weave_entries.specs.declared.gate_log.GateDeed.TheVariants.{BeganTx, 
 use Rattle.weave_entries.specs.declared.gate_log.GateEntry.{GateEntry}
 use Rattle.weave_entries.specs.GateReplay.{BegunRequest, begun_by, begun_in, ended_by, ended_in, flight_of}
 use Rattle.weave_entries.specs.SessionReplay.{has_reply_in}
+use Rattle.weave_entries.proofs.OwnStamps.{tx-begun}
 use Rattle.weave_account.specs.declared.account.Account.{Account}
 use Rattle.weave_account.specs.Account.{all_begun, gate_log, session_log}
 use Rattle.weave_account.specs.Gatekeepers.{BeginsAs}
 use Rattle.weave_account.specs.IsAccount.{IsAccount}
-use Rattle.weave_account.proofs.Beginning.{all-in, tx-begun}
+use Rattle.weave_account.proofs.Beginning.{all-in}
 use Rattle.weave_account.proofs.PhaseOrder.{ended-deed}
 use Rattle.weave_account.proofs.Replying.{place-of}
 use Rattle.weaver_top.specs.LowerLaws.{LawsForCommands}

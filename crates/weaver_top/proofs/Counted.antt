@@ -40,7 +40,7 @@ add-up (reply ∷ replies) final =
     let d = counted-first (λ (reply : Reply). is_finished reply.state) reply replies in
     omega (arith, here, rest, a, b, c, d)
 
--- they add up to the number of requests
+-- if every reply of a report is final, its four counts add up to the number of requests
 pub counts-add-up : (report : Report) (n : ℕ) → EveryReplyIsFinal report → map (λ (reply : Reply). reply.request) report.replies ≡ range_with_len 0 n
     → committed_count report + conflict_count report + refused_count report + program_count report ≡ n
 counts-add-up report n final requests =

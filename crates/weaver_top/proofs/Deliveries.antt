@@ -122,7 +122,7 @@ some_written command left before after answer status Failed fits ends (inl (is, 
 some_written command None before after answer status Failed fits ends (inr (is, failure, prefix)) failed = tt
 some_written command (Some input) before after answer status Failed fits ends (inr (is, failure, prefix)) failed = (answer.text.items, (answer.status, fits.tells), prefix)
 
--- the same of the command that the words ask for
+-- if the writing failed, some text that tells the answer to the command asked for was written
 pub prefix_so : (asked : Option Command) (other command : Command) (left before after : ToldBytes) (answer : Answer) (status : Status) (Failed : Type 0) → Some other ≡ asked → asked ≡ Some command → status ≡ Write → IfSome (input_told other left) (λ input. IsAnswerTo other input answer) → IsTrue (can_end other answer.status) → Delivers answer status before after Failed → WritesPrefix (TellsAnswer command) (input_told command left) before after
 prefix_so asked other command left before after answer status Failed other_is asks failed fits can ends =
     let same : other ≡ command = cc in

@@ -1,4 +1,4 @@
--- Logs go on, and do while a core is driven.
+-- While a core is driven its logs go on.
 -- Used by Loaded and Onward.
 use Rattle.std.proofs.Common.{ℕ, List, [], ◌∷◌, fold, sym, subst}
 use Rattle.program_defs.specs.Limits.{IsWithinLimits}

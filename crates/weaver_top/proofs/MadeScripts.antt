@@ -1,4 +1,4 @@
--- How many requests and steps a generated script has.
+-- A generated script has as many requests as its size says, and four times as many steps.
 -- Used by `loaded` and Loaded.
 use Rattle.std.proofs.Common.{◌≡◌, ℕ, zero, suc, ◌*◌, List, [], ◌∷◌, length, refl, arith}
 use Rattle.std.proofs.lemmas.List.{length-append}
@@ -20,7 +20,7 @@ pub requests-made : (seed size : ℕ) → length (script_of seed size).requests 
 unfolding script_from
 requests-made seed size = drawn-length drawn_request size (words_of_seed seed)
 
--- and four times as many steps
+-- a generated script has four times as many steps as its size
 pub steps-made : (seed size : ℕ) → length (steps_of (script_of seed size).steps) ≡ 4 * size
 unfolding script_from
 steps-made seed size = drawn-length (λ _ words. drawn_step size words) (4 * size) (drawn_list drawn_request size (words_of_seed seed)).1

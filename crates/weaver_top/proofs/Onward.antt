@@ -28,7 +28,7 @@ use Rattle.weaver_top.proofs.GoingOn.{driven-on, steps-go-on}
 use Rattle.weaver_top.proofs.Unanswered.{step-adds}
 use Rattle.step_rules.proofs.StepGoesOn.{goes-further, goes-same}
 
--- a reply stays
+-- a request that has its reply still has it when the account goes on
 pub reply-stays : (old new : Account) → GoesOn old new → (r : ℕ) (request : Request) → IsTrue (has_reply old r request) → IsTrue (has_reply new r request)
 reply-stays old new on r request replied =
     let more = on.sessions request.session in
@@ -96,7 +96,7 @@ module _ (laws : LawsForCommands) (script : Script) (limits : IsWithinLimits scr
     replied = λ r request less there. reply-stays b c runs.goes_on r request (ends.replied r request less there);
   }
 
-  -- a collection
+  -- if a collection leads from a core to a core, it is a part of a run
   pub collected : (bound : ℕ) (state : CoreState) (shard : ℕ) → IsStepOf script (Collect shard) → IsCore script state → IsCore script (state_after script state (Collect shard))
       → RunsBelow script bound state.account (state_after script state (Collect shard)).account
   collected bound state shard there core after = record {

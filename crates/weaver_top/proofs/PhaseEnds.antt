@@ -173,7 +173,7 @@ none-yet (suc n) (suc home) entry h = none-yet n home entry h
 
 -- Phases
 
--- before the first phase
+-- empty logs are a run before the first phase
 pub started : (script : Script) → IsAccount script (no_logs script) → IsRunUpTo script 0 0 (no_logs script)
 started script is = record {
   is_account = is;
@@ -202,7 +202,7 @@ module _ (laws : LawsForCommands) (script : Script) (limits : IsWithinLimits scr
     pairs = adds-through laws script limits logs account next ended.goes_on runs.goes_on ended.pairs runs.pairs;
   }
 
-  -- one more phase
+  -- if a run up to a phase goes on until that phase ends, it is a run up to the next one
   pub ended-next : (phase bound end : ℕ) (account next : Account) → RiseTo 0 (length script.requests) script.phases → slice_get script.phases phase ≡ Some end
       → IsRunUpTo script phase bound account → EndsAt script end account next → IsRunUpTo script (phase + 1) end next
   ended-next phase bound end account next rise at run ends = record {
@@ -296,7 +296,7 @@ module _ (laws : LawsForCommands) (script : Script) (limits : IsWithinLimits scr
     replied = ends.replied;
   }
 
--- the same of a core's script, which is the script
+-- with the last requests it is a whole run, also by the script of a core, if that is the script
 pub whole-run : (laws : LawsForCommands) (script first second : Script) → IsWithinLimits script → first ≡ script → second ≡ first → (bound all : ℕ) (account last : Account) → all ≡ length second.requests
     → IsRunUpTo first (length first.phases) bound account → EndsAt second all account last → IsWholeRun script last
 whole-run laws script first second limits same still bound all account last is-all run ends =

@@ -35,7 +35,7 @@ too_long_read Check input reads long = let over : nat_lt 4194304 (length input) 
 too_long_read Trace input reads long = let over : nat_lt 4194304 (length input) ≡ true = lt-ltb 4194304 (length input) long in rw over refl
 too_long_read (Load seed size) input reads long = cc
 
--- and is refused so
+-- an answer that refuses as too long is right if its command reads an input of more than 4194304 bytes
 pub too_long : (answer : Answer) → answer.status ≡ Refused → answer.text.items ≡ refusal_line 0 (cause_text TooLong) → (command : Command) (input : List ℕ) → reads_input command ≡ true → 4194304 < length input → IsAnswerTo command input answer
 too_long answer status is command input reads long =
     refuses command input answer reads status (by_fault command input answer.text.items (record {
@@ -45,7 +45,7 @@ too_long answer status is command input reads long =
       line = is;
     }))
 
--- the same holds of one that is a text of no value
+-- an answer that refuses with the first fault is right if its command reads input that is a text of no value
 pub faulty : (command : Command) (input : List ℕ) (answer : Answer) (fault : Fault) → reads_input command ≡ true → ((value : (input_of command).Value) → ¬ (input_of command).IsText input value) → (input_of command).read input ≡ Err fault → answer.status ≡ Refused → answer.text.items ≡ refusal_line fault.line (cause_text fault.cause) → IsAnswerTo command input answer
 faulty command input answer fault reads none first status is =
     refuses command input answer reads status (by_fault command input answer.text.items (record { not_taken = λ taken. none taken.value taken.input_is_its_text; fault = fault; is_first = first; line = is }))

@@ -1,4 +1,4 @@
--- An answer that refuses an input.
+-- What holds of a refusal holds of the answer made of it.
 -- Used by `too_long` and `verdict_on`.
 use Rattle.std.proofs.Common.{◌≡◌, ℕ, List, Result, Ok, Err, IfOk, subst}
 use Rattle.weave_script.specs.declared.fault.Cause.{Cause}

@@ -47,7 +47,7 @@ all_there script (step ∷ steps) each = (there script step each.0, all_there sc
 pub steps_there : (script : Script) → IsScript script → AllByRecursion (IsStepOf script) (steps_of script.steps)
 steps_there script is = all_there script (steps_of script.steps) is.steps
 
--- an order of replies and pairs
+-- the printed order depends on replies and pairs alone
 abbrev pub AreOfRepliesAndPairs : Type 0
 AreOfRepliesAndPairs = (a b : Report) → a.replies ≡ b.replies → a.pairs ≡ b.pairs → (order : List ℕ) → IsPrintedOrder a order → IsPrintedOrder b order
 

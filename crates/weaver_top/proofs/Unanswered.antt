@@ -33,6 +33,7 @@ use Rattle.weave_entries.specs.GateReplay.{BegunRequest, flight_of, program_begu
 use Rattle.weave_entries.specs.OracleReplay.{oracle_entry_of, pairs_of_entry, pairs_of_log, settled_entry}
 use Rattle.weave_entries.specs.StoreReplay.{Judgement}
 use Rattle.weave_entries.specs.StoreRule.{asked_stamps, entries_of_settling, settled_if}
+use Rattle.weave_entries.proofs.OwnStamps.{program-begun as program-begun-in}
 use Rattle.weave_account.specs.declared.account.Account.{Account}
 use Rattle.weave_account.specs.Account.{gate_log, pairs_in, session_log}
 use Rattle.weave_account.specs.IsAccount.{IsAccount}
@@ -43,7 +44,7 @@ use Rattle.step_rules.specs.Requests.{has_ended, next_vertex, ops_in}
 use Rattle.step_rules.specs.Trace.{is_ok, state_after}
 use Rattle.weaver_top.specs.LowerLaws.{LawsForCommands}
 use Rattle.weave_phase.specs.Pairs.{AddsOpenPairs}
-use Rattle.weave_account.proofs.Beginning.{all-in, program-begun as program-begun-in}
+use Rattle.weave_account.proofs.Beginning.{all-in}
 use Rattle.weaver_top.proofs.Begun.{flight-begun, flight-unanswered}
 
 -- What the oracle adds

@@ -1,4 +1,5 @@
--- What `check` finds of an input.
+-- The line that `check` has to write for a right report, and for one that breaks a clause; and small transactions can
+-- be numbered.
 -- Used by `judged_summary` and `verdict_for`.
 use Rattle.std.proofs.Common.{◌≡◌, ℕ, ◌≤◌, ◌^◌, true, List, [], ◌∷◌, length, IsTrue, refl, arith}
 use Rattle.std.specs.List.{AllByRecursion, list_all}

@@ -18,9 +18,9 @@ pub record InputKind : Type 1 where
   pub IsText : List ℕ → Value → Type 0
   pub read : List ℕ → Result Value Fault
 
--- `run` reads a script
-abbrev pub run_input : InputKind
-run_input = record { Value = Script; IsText = IsTextOf; read = read_text }
+-- `run` and `trace` read a script
+abbrev pub script_input : InputKind
+script_input = record { Value = Script; IsText = IsTextOf; read = read_text }
 
 -- `check` reads a script and then a report for it
 abbrev pub check_input : InputKind
@@ -30,19 +30,15 @@ check_input = record {
   read = check_text;
 }
 
--- `trace` reads a script
-abbrev pub trace_input : InputKind
-trace_input = record { Value = Script; IsText = IsTextOf; read = read_text }
-
 -- `load` reads nothing: its input is empty. No public contract cites this.
 abbrev pub load_input : InputKind
 load_input = record { Value = Unit {0}; IsText = λ input value. input ≡ []; read = λ input. Ok tt }
 
 -- what a command reads. No public contract cites this.
 abbrev pub input_of : Command → InputKind
-input_of Run = run_input
+input_of Run = script_input
 input_of Check = check_input
-input_of Trace = trace_input
+input_of Trace = script_input
 input_of (Load seed size) = load_input
 
 -- the input isn't too long, and is a text of a value
@@ -64,7 +60,7 @@ pub record TellsFault (kind : InputKind) (input text : List ℕ) : Type 0 where
 
 -- the text says why the command refuses the input: by its first fault. `load` refuses nothing.
 abbrev pub TellsRefusal : Command → List ℕ → List ℕ → Type 0
-TellsRefusal Run input text = TellsFault run_input input text
+TellsRefusal Run input text = TellsFault script_input input text
 TellsRefusal Check input text = TellsFault check_input input text
-TellsRefusal Trace input text = TellsFault trace_input input text
+TellsRefusal Trace input text = TellsFault script_input input text
 TellsRefusal (Load seed size) input text = ⊥

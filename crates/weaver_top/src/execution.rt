@@ -1,5 +1,5 @@
 //! All that a command does, except for threads.
-ghost use Rattle.std.specs.Prelude.{◌≡◌, ◌≢◌, ◌⊎◌, ◌↔◌, ℕ, false, [], map, string_bytes, IsTrue, Err, None, IfOk, OnOk, IfSome};
+ghost use Rattle.std.specs.Prelude.{◌≡◌, ◌≢◌, ◌⊎◌, ◌↔◌, ◌+◌, ℕ, false, [], map, string_bytes, IsTrue, Err, None, IfOk, OnOk, IfSome};
 ghost use Rattle.weave_io.specs.Counts.{HasRisen};
 ghost use Rattle.weave_io.specs.Told.{IsReadWhole, KeepsWritten, Tells, TakesAtMost, Writes, WritesPrefix};
 ghost use Rattle.weaver_top.specs.Acceptance.{IsAcceptedByCheck};
@@ -7,14 +7,14 @@ ghost use Rattle.weaver_top.specs.Answers.{Delivers, IsAnswerTo, TellsAnswer, ca
 ghost use Rattle.weaver_top.specs.Commands.{AreWordsOf, IsSized, command_of, reads_input};
 ghost use Rattle.weaver_top.specs.Headlines.{TellsRightReport, TellsTrace, TellsYes};
 ghost use Rattle.weaver_top.specs.Loads.{WritesLoad, WritesLoadPrefix};
-ghost use Rattle.weaver_top.specs.Refusals.{CanBeTaken, TellsRefusal, check_input, run_input, trace_input};
+ghost use Rattle.weaver_top.specs.Refusals.{CanBeTaken, TellsRefusal, check_input, script_input};
 ghost use Rattle.weaver_top.specs.VerdictLines.{TellsNo};
 ghost use Rattle.weave_data.specs.Limits.{most_bytes};
 
 use crate::answer::{Answer, too_long};
-use crate::answering::answer_to;
 use crate::command::{Command, command_of, reads_input};
 use crate::status::Status;
+use crate::which_answer::answer_to;
 use std::alloc::Global;
 use weave_io::{ReadFault, Sink, Source, read_all, write_all};
 
@@ -82,7 +82,7 @@ pub fn execute<S: Source, K: Sink>(
     ensures load_reads_nothing { (seed size : ℕ) → AreWordsOf (map string_bytes words.now) (Command.Load seed size)
         → source.new ≡ source.old }
     ensures read_in_time { result ≡ Status.Read → TakesAtMost (S.left source.old) (S.left source.new) most_bytes }
-    ensures rest { TakesAtMost (S.left source.old) (S.left source.new) 4194305 }
+    ensures rest { TakesAtMost (S.left source.old) (S.left source.new) (most_bytes + 1) }
     ensures written_stays { KeepsWritten (K.written sink.old) (K.written sink.new) }
 
     // An input that a command takes gets its answer, unless reading or writing fails, or memory runs out.
@@ -90,7 +90,7 @@ pub fn execute<S: Source, K: Sink>(
         → ¬ HasRisen (S.faults source.old) (S.faults source.new)
         → ¬ HasRisen (K.faults sink.old) (K.faults sink.new)
         → ¬ HasRisen (K.stalls sink.old) (K.stalls sink.new)
-        → IfSome (S.left source.old) (λ input. CanBeTaken run_input input
+        → IfSome (S.left source.old) (λ input. CanBeTaken script_input input
         → (result ≡ Status.Done) ⊎ (result ≡ Status.Memory)) }
     ensures all_judged { AreWordsOf (map string_bytes words.now) Command.Check
         → ¬ HasRisen (S.faults source.old) (S.faults source.new)
@@ -102,7 +102,7 @@ pub fn execute<S: Source, K: Sink>(
         → ¬ HasRisen (S.faults source.old) (S.faults source.new)
         → ¬ HasRisen (K.faults sink.old) (K.faults sink.new)
         → ¬ HasRisen (K.stalls sink.old) (K.stalls sink.new)
-        → IfSome (S.left source.old) (λ input. CanBeTaken trace_input input
+        → IfSome (S.left source.old) (λ input. CanBeTaken script_input input
         → (result ≡ Status.Done) ⊎ (result ≡ Status.Memory)) }
 
     // `load` refuses nothing: it gets its answer, unless writing fails, or memory runs out.
@@ -138,7 +138,7 @@ fn prepare<S: Source>(
         → TakesAtMost (S.left source.old) (S.left source.new) most_bytes }
     ensures read_first { IsTrue (reads_input command)
         → OnOk result (IsReadWhole (S.left source.old) (S.left source.new)) }
-    ensures rest { TakesAtMost (S.left source.old) (S.left source.new) (4194305) }
+    ensures rest { TakesAtMost (S.left source.old) (S.left source.new) (most_bytes + 1) }
     ensures unread { reads_input command ≡ false
         → (source.new ≡ source.old) × (result ≢ Err PrepareError.Read) }
 {
@@ -167,7 +167,7 @@ fn prepare_from_input<S: Source>(
     ensures read_in_time { result ≡ Err PrepareError.Read
         → TakesAtMost (S.left source.old) (S.left source.new) most_bytes }
     ensures read_first { OnOk result (IsReadWhole (S.left source.old) (S.left source.new)) }
-    ensures rest { TakesAtMost (S.left source.old) (S.left source.new) (4194305) }
+    ensures rest { TakesAtMost (S.left source.old) (S.left source.new) (most_bytes + 1) }
 {
     match read_all(alloc, source) {
         Ok(input) => match answer_to(alloc, command, &input) {

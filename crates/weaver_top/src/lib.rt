@@ -11,7 +11,6 @@
 #![tactic(auto)]
 
 mod answer;
-mod answering;
 mod check_command;
 mod command;
 mod execution;
@@ -25,6 +24,7 @@ mod status;
 mod summary;
 mod top_call;
 mod trace_command;
+mod which_answer;
 
 pub use command::Command;
 pub use execution::execute;

@@ -1,5 +1,5 @@
 //! The top call.
-ghost use Rattle.std.specs.Prelude.{◌≡◌, ◌⊎◌, ◌↔◌, ℕ, [], map, string_bytes, IsTrue, Err, None, IfOk, OnOk, IfSome};
+ghost use Rattle.std.specs.Prelude.{◌≡◌, ◌⊎◌, ◌↔◌, ◌+◌, ℕ, [], map, string_bytes, IsTrue, Err, None, IfOk, OnOk, IfSome};
 ghost use Rattle.weave_io.specs.Counts.{HasRisen};
 ghost use Rattle.weave_io.specs.Told.{IsReadWhole, KeepsWritten, Tells, TakesAtMost, Writes, WritesPrefix};
 ghost use Rattle.weaver_top.specs.Acceptance.{IsAcceptedByCheck};
@@ -7,7 +7,7 @@ ghost use Rattle.weaver_top.specs.Answers.{IsAnswerTo, TellsAnswer, can_end};
 ghost use Rattle.weaver_top.specs.Commands.{AreWordsOf, command_of, reads_input};
 ghost use Rattle.weaver_top.specs.Headlines.{TellsRightReport, TellsTrace, TellsYes};
 ghost use Rattle.weaver_top.specs.Loads.{WritesLoad, WritesLoadPrefix};
-ghost use Rattle.weaver_top.specs.Refusals.{CanBeTaken, TellsRefusal, check_input, run_input, trace_input};
+ghost use Rattle.weaver_top.specs.Refusals.{CanBeTaken, TellsRefusal, check_input, script_input};
 ghost use Rattle.weaver_top.specs.VerdictLines.{TellsNo};
 ghost use Rattle.weave_data.specs.Limits.{most_bytes};
 
@@ -86,7 +86,7 @@ pub fn weave<R: Threads + Wait + Sync, S: Source, K: Sink, P: Pace>(
     ensures load_reads_nothing { (seed size : ℕ) → AreWordsOf (map string_bytes words.now) (Command.Load seed size)
         → source.new ≡ source.old }
     ensures read_in_time { result ≡ Status.Read → TakesAtMost (S.left source.old) (S.left source.new) most_bytes }
-    ensures rest { TakesAtMost (S.left source.old) (S.left source.new) 4194305 }
+    ensures rest { TakesAtMost (S.left source.old) (S.left source.new) (most_bytes + 1) }
     ensures written_stays { KeepsWritten (K.written sink.old) (K.written sink.new) }
 
     // An input that a command takes gets its answer, unless reading or writing fails, or memory runs out.
@@ -94,7 +94,7 @@ pub fn weave<R: Threads + Wait + Sync, S: Source, K: Sink, P: Pace>(
         → ¬ HasRisen (S.faults source.old) (S.faults source.new)
         → ¬ HasRisen (K.faults sink.old) (K.faults sink.new)
         → ¬ HasRisen (K.stalls sink.old) (K.stalls sink.new)
-        → IfSome (S.left source.old) (λ input. CanBeTaken run_input input
+        → IfSome (S.left source.old) (λ input. CanBeTaken script_input input
         → (result ≡ Status.Done) ⊎ (result ≡ Status.Memory)) }
     ensures all_judged { AreWordsOf (map string_bytes words.now) Command.Check
         → ¬ HasRisen (S.faults source.old) (S.faults source.new)
@@ -106,7 +106,7 @@ pub fn weave<R: Threads + Wait + Sync, S: Source, K: Sink, P: Pace>(
         → ¬ HasRisen (S.faults source.old) (S.faults source.new)
         → ¬ HasRisen (K.faults sink.old) (K.faults sink.new)
         → ¬ HasRisen (K.stalls sink.old) (K.stalls sink.new)
-        → IfSome (S.left source.old) (λ input. CanBeTaken trace_input input
+        → IfSome (S.left source.old) (λ input. CanBeTaken script_input input
         → (result ≡ Status.Done) ⊎ (result ≡ Status.Memory)) }
 
     // `load` refuses nothing: it gets its answer, unless writing fails, or memory runs out.
@@ -140,7 +140,7 @@ fn prepare_run<R: Threads + Wait + Sync, S: Source, P: Pace>(
     ensures read_in_time { result ≡ Err PrepareError.Read
         → TakesAtMost (S.left source.old) (S.left source.new) most_bytes }
     ensures read_first { OnOk result (IsReadWhole (S.left source.old) (S.left source.new)) }
-    ensures rest { TakesAtMost (S.left source.old) (S.left source.new) (4194305) }
+    ensures rest { TakesAtMost (S.left source.old) (S.left source.new) (most_bytes + 1) }
 {
     match read_all(alloc, source) {
         Ok(input) => match report_on_threads(rt, alloc, &input, pace) {

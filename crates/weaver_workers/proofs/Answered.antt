@@ -84,7 +84,7 @@ module _ (laws : KeepLaws) (number : ℕ) (client : Client) (at_end : IsClientOf
   unanswered-waits r waits is =
       ap (slice_get requests) (sym (ap (λ (s : SessionState). replied_count s) (sym at_end.state) ∙ ap (λ (b : Bool). if b then client.session.begun - 1 else client.session.begun) waits)) ∙ is
 
-  -- else it is the next one
+  -- if no request of a session waits for its reply, its first unanswered one is next in its turn
   pub unanswered-next : (r : ℕ) → client.session.waits ≡ false → unanswered_in requests (log_of_client client) ≡ Some r
       → IsInTurn client.session r
   unanswered-next r waits is = record {
@@ -119,7 +119,7 @@ in-script script number r h =
     let base : 0 + place.0 < count = omega (arith, low) in
     subst (λ (x : ℕ). x < count) (sym is ∙ place.2) base
 
--- and of that session
+-- the script's request at a number of a session is of that session
 pub session-is : (script : Script) (number r : ℕ) (asked : Request) → Contains (requests_of_session script number) r
     → request_at script r ≡ Some asked → asked.session ≡ number
 session-is script number r asked h is =

@@ -41,7 +41,7 @@ module _ (shared : Shared) (script : Script) (number upto : ℕ) where
   does-below old new (inr (inr (inr (inl finish)))) below = none-below upto new.client finish.running
   does-below old new (inr (inr (inr (inr carry)))) below = same-below upto old.client.running new.client.running carry.running below
 
-  -- and after one after another
+  -- if the request that runs is below a bound, it is after one thing after another
   pub goes-below : (path : List Stand) (old new : Stand) → Goes shared script number upto old path new → RunsRequestBelow upto old.client
       → RunsRequestBelow upto new.client
   goes-below [] old new went below = subst (λ (s : Stand). RunsRequestBelow upto s.client) went below

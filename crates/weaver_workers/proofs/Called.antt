@@ -1,4 +1,5 @@
--- Each call of a hand that begins nothing.
+-- A hand only carries in each call that begins nothing: it has a clock heard, an empty message sent, a message brought,
+-- or the head of a channel processed.
 -- Used by `nudge`, `other_calls_only_carry` and There.
 use Rattle.std.proofs.Common.{ℕ, Bool, true, false, [], ◌∷◌, Contains, refl}
 use Rattle.std.specs.Prelude.{IsTrue, Result, Ok, Err, is_some, if◌then◌else◌}
@@ -18,12 +19,12 @@ use Rattle.weaver_hands.specs.Telling.{NopsAs, TellsAs}
 use Rattle.weaver_workers.specs.Carrying.{is_bringing, is_telling, Carries, OnlyCarries}
 use Rattle.weaver_workers.proofs.Carried.{at-gate, at-shard, carries-none, carries-through, made-none, nothing-at-gate, nothing-at-shard, one-passes}
 
--- two calls, one after the other
+-- a hand that only carries in each of two calls, one after the other, only carries in both together
 pub carries-on : (shared : Shared) (old mid new : Hand) → Carries shared old mid → Carries shared mid new → Carries shared old new
 carries-on shared old mid new first second =
     record { hand = second.hand; only = carries-through old mid new first.only second.only }
 
--- no call
+-- a hand that makes no call only carries, and is still a hand
 pub carries-start : (shared : Shared) (hand : Hand) → IsHand shared hand → Carries shared hand hand
 carries-start shared hand is = record { hand = is; only = carries-none hand }
 

@@ -1,4 +1,4 @@
--- Calls that begin nothing, one after another.
+-- A hand that made nothing, or only entries that carry, only carries; and one that only carries twice only carries.
 -- Used by `other_calls_only_carry`, Called, Deeds, Going, ReadOn and There.
 use Rattle.std.proofs.Common.{◌≡◌, ℕ, Bool, true, List, [], ◌∷◌, ◌++◌, length, get_or, set, Contains, inl, inr, refl, sym, ap, ◌∙◌, subst, arith, append_assoc}
 use Rattle.std.specs.Prelude.{IsTrue}
@@ -21,11 +21,11 @@ use Rattle.weaver_workers.specs.Carrying.{is_bringing, is_telling, Gains, OnlyCa
 -- Logs
 
 module _ {E : Type 0} (passes : E → Bool) where
-  -- nothing was gained
+  -- a log that stays as it is has gained only entries that pass, namely none
   pub gains-none : (log : List E) → Gains passes log log
   gains-none log = record { added = []; log = sym (append-nil log); pass = λ entry h. absurd (has_none entry h) }
 
-  -- what was gained in two steps
+  -- a log that gains only entries that pass, twice, has gained only such entries
   pub gains-through : (old mid new : List E) → Gains passes old mid → Gains passes mid new → Gains passes old new
   gains-through old mid new first second = record {
     added = first.added ++ second.added;
@@ -56,7 +56,7 @@ module _ {E : Type 0} (passes : E → Bool) where
 
 -- Hands
 
--- a hand that did nothing
+-- a hand that does nothing only carries
 pub carries-none : (hand : Hand) → OnlyCarries hand hand
 carries-none hand = record {
   number = refl;
@@ -67,7 +67,7 @@ carries-none hand = record {
   shards = λ shard. gains-none (λ (e : ShardEntry). is_bringing e.deed) _;
 }
 
--- two after another
+-- a hand that only carries twice only carries
 pub carries-through : (old mid new : Hand) → OnlyCarries old mid → OnlyCarries mid new → OnlyCarries old new
 carries-through old mid new first second = record {
   number = second.number ∙ first.number;
@@ -78,7 +78,7 @@ carries-through old mid new first second = record {
   shards = λ shard. gains-through (λ (e : ShardEntry). is_bringing e.deed) _ _ _ (first.shards shard) (second.shards shard);
 }
 
--- nothing was made
+-- a hand that made nothing only carries
 pub made-none : (old new : Hand) → MadeNone old new → OnlyCarries old new
 made-none old new none = record {
   number = none.number;
@@ -105,7 +105,7 @@ at-gate shards old new gate before added was pass = record {
       (sym was.made) (gains-none (λ (e : ShardEntry). is_bringing e.deed) _);
 }
 
--- entries of a shard that bring
+-- a hand that adds only entries that bring, at a shard, only carries
 pub at-shard : (shards : ℕ) (old new : Hand) (shard : ℕ) (before added : List ShardEntry) → WasAtShard shards old new shard before added []
     → ((entry : ShardEntry) → Contains added entry → IsTrue (is_bringing entry.deed)) → OnlyCarries old new
 at-shard shards old new shard before added was pass = record {
@@ -119,18 +119,18 @@ at-shard shards old new shard before added was pass = record {
       (sym was.made) (gains-at (λ (e : ShardEntry). is_bringing e.deed) (made_by old).shards shard at added pass);
 }
 
--- no entries at all
+-- a hand that was at a gatekeeper without an entry only carries
 pub nothing-at-gate : (shards : ℕ) (old new : Hand) (gate : ℕ) (before : List GateEntry) → WasAtGate shards old new gate before []
     → OnlyCarries old new
 nothing-at-gate shards old new gate before was = at-gate shards old new gate before [] was (λ entry h. absurd (has_none entry h))
 
--- the same of a shard
+-- a hand that was at a shard without an entry only carries
 pub nothing-at-shard : (shards : ℕ) (old new : Hand) (shard : ℕ) (before : List ShardEntry)
     → WasAtShard shards old new shard before [] [] → OnlyCarries old new
 nothing-at-shard shards old new shard before was =
     at-shard shards old new shard before [] was (λ entry h. absurd (has_none entry h))
 
--- one that passes
+-- if an entry passes a test, so does each of the list with only that entry
 pub one-passes : {E : Type 0} (passes : E → Bool) (one : E) → passes one ≡ true
     → (entry : E) → Contains (one ∷ []) entry → IsTrue (passes entry)
 one-passes {E = E} passes one pass entry h = subst (λ (e : E). IsTrue (passes e)) (only one entry h) pass

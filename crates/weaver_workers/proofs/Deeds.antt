@@ -45,7 +45,7 @@ use Rattle.weaver_workers.proofs.Kept.{change-keeps, finish-keeps, start-keeps}
 use Rattle.weaver_workers.proofs.ReadOn.{home-there}
 
 module _ (laws : KeepLaws) where
-  -- a session after one deed more
+  -- after one more deed in its log a session is the one that the deed leaves
   pub deed-done : (number : ℕ) (was is : Client) (deed : SessionDeed) → IsClientOf number was.session was.log.items → AddsDeed number was is deed
       → is.session ≡ session_after was.session deed
   deed-done number was is deed at_end adds =
@@ -62,7 +62,7 @@ module _ (laws : KeepLaws) where
     onward : WorkerGoesOn shared script number upto (stand old reserved) (stand new after) → WorkerGoesOn shared script number upto (stand old client) (stand new after)
     onward second = goes-then shared script number upto (stand old client) (stand old reserved) (stand new after) first second
 
-    -- a program was finished
+    -- a worker goes on when it finishes the program that runs, with the reply added to the session
     pub finished : (running : Running) → reserved.running ≡ Some running → (answer : Answer) → HandFinishes (shard_count shared) old new running answer
         → AddsDeed number reserved after (Replied running.request)
         → values_of after ≡ values_with_reply (values_of reserved) (reply_with running.request running.stamp (Finished answer))
@@ -108,7 +108,7 @@ module _ (laws : KeepLaws) where
         onward (goes-one shared script number upto (stand old reserved) (stand new after) (inl does)
         (change-keeps laws shared script number (stand old reserved) (stand new after) first.keeps is_hand upto answered.at_end does low answered.session))
 
-    -- a program was begun
+    -- a worker goes on when it begins a program, with the begin added to its session
     pub started : (does : DoesStart shared script number upto (stand old reserved) (stand new after)) → does.asked.gate < gate_count shared
         → IsClientOf number after.session after.log.items → after.session ≡ session_after reserved.session (Begun does.r does.stamp)
         → WorkerGoesOn shared script number upto (stand old client) (stand new after)

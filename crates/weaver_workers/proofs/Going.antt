@@ -1,4 +1,4 @@
--- Things that a client's worker does, one after another.
+-- A client's worker that does one thing after another goes on with its session.
 -- Used by `go_client`, `go_session`, `look_on`, `try_next`, Deeds and ReadOn.
 use Rattle.std.proofs.Common.{◌≡◌, inr, ℕ, List, [], ◌∷◌, ◌++◌, Option, Some, None, refl, sym, ap, subst}
 use Rattle.program_defs.specs.declared.script.Script.{Script}
@@ -13,7 +13,7 @@ use Rattle.weaver_workers.specs.Keeping.{KeepsClient}
 use Rattle.weaver_workers.proofs.Carried.{carries-none}
 use Rattle.weaver_workers.proofs.Kept.{carry-keeps}
 
--- the same walk, with as much room
+-- a program runs the same program as itself
 pub same-walk : (running : Option Running) → RunsSameProgram running running
 same-walk None = refl
 same-walk (Some running) = record {
@@ -25,11 +25,11 @@ same-walk (Some running) = record {
 }
 
 module _ (shared : Shared) (script : Script) (number upto : ℕ) where
-  -- nothing was done
+  -- a worker that does nothing goes on
   pub goes-none : (stand : Stand) → KeepsClient shared script number stand.hand stand.client → WorkerGoesOn shared script number upto stand stand
   goes-none stand keeps = record { path = []; went = refl; keeps = keeps }
 
-  -- one thing was
+  -- one that does one thing goes on
   pub goes-one : (old new : Stand) → DoesOneCall shared script number upto old new → KeepsClient shared script number new.hand new.client
       → WorkerGoesOn shared script number upto old new
   goes-one old new does keeps = record { path = new ∷ []; went = ((does, keeps), refl); keeps = keeps }
@@ -39,7 +39,7 @@ module _ (shared : Shared) (script : Script) (number upto : ℕ) where
   join [] rest old mid new went more = subst (λ (s : Stand). Goes shared script number upto s rest new) (sym went) more
   join (next ∷ path) rest old mid new went more = (went.0, join path rest next mid new went.1 more)
 
-  -- one after another
+  -- one that goes on twice goes on in all
   pub goes-then : (old mid new : Stand) → WorkerGoesOn shared script number upto old mid → WorkerGoesOn shared script number upto mid new
       → WorkerGoesOn shared script number upto old new
   goes-then old mid new first second = record {
@@ -49,12 +49,12 @@ module _ (shared : Shared) (script : Script) (number upto : ℕ) where
   }
 
   module _ (laws : KeepLaws) where
-    -- the hand only carried
+    -- one whose hand only carries goes on
     pub goes-carry : (old new : Stand) → KeepsClient shared script number old.hand old.client → IsHand shared new.hand → DoesCarry old new
         → WorkerGoesOn shared script number upto old new
     goes-carry old new keeps is_hand does = goes-one old new (inr (inr (inr (inr does)))) (carry-keeps laws shared script number old new keeps is_hand does)
 
-    -- room was taken for the client
+    -- a worker goes on if only room was taken for its client
     pub goes-reserve : (old new : Stand) → KeepsClient shared script number old.hand old.client → old.hand ≡ new.hand
         → IsSameClient old.client new.client → WorkerGoesOn shared script number upto old new
     goes-reserve old new keeps same_hand same =

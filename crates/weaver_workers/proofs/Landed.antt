@@ -1,4 +1,4 @@
--- A hand whose transactions were all sent, after one more call.
+-- A hand whose transactions were all sent is so after one more call.
 -- Used by Kept, OnlyCarried and Transacted.
 use Rattle.std.proofs.Common.{◌≡◌, inl, inr, ℕ, ◌==◌, List, [], ◌∷◌, ◌++◌, Contains, refl, sym, ap, ◌∙◌, subst, eq-eqb}
 use Rattle.std.specs.Prelude.{IsTrue}
@@ -33,14 +33,14 @@ ended-on r log added h =
     (subst (λ (l : List ℕ). Contains l one.0) (sym (flat_map-append (λ (e : GateEntry). ended_by e.deed) log added))
     (Contains-append_left (ended_in log) (ended_in added) one.0 one.1)) one.2
 
--- entries were added that begin no transaction
+-- with entries that begin no transaction, all are still sent
 pub landed-on : (log added : List GateEntry) → LandedIn log → BeginNoTx added → LandedIn (log ++ added)
 landed-on log added landed none begun h =
     let same : txs_of (log ++ added) ≡ txs_of log = flat_map-append (λ (e : GateEntry). tx_by e.author e.deed) log added
     ∙ ap (λ l. txs_of log ++ l) (no-txs added none) ∙ append-nil (txs_of log) in
     ended-on begun.request log added (landed begun (subst (λ (l : List BegunRequest). Contains l begun) same h))
 
--- a transaction was begun and sent
+-- with a transaction begun and then sent, all are still sent
 pub landed-sent : (log : List GateEntry) (author by r : ℕ) (stamp : Stamp) (messages : List Addressed) → LandedIn log
     → LandedIn ((log ++ record { author = author; deed = BeganTx r stamp } ∷ []) ++ record { author = by; deed = Sent r messages } ∷ [])
 landed-sent log author by r stamp messages landed begun h =

@@ -110,7 +110,7 @@ module _ (old new : Hand) (only : OnlyCarries old new) where
       (landed-on (gate_log (made_by old) home) gains.added (landed home) (λ entry k. no-tx entry.author entry.deed (gains.pass entry k)))
       begun h
 
-  -- it read nothing and finished nothing
+  -- a hand that only carries leaves each request alone
   pub alone-still : (r : ℕ) → LeavesAlone old new r
   alone-still r = record {
     unvisited = record {

@@ -17,7 +17,7 @@ module _ (script : Script) (r upto : ℕ) (low : r < upto) where
       let rest = filter (is_program script) (range_with_len (r + 1) (upto - (r + 1))) in
       ap (programs_in script r) one-less ∙ ap (λ (b : Bool). length (if b then r ∷ rest else rest)) is ∙ omega arith
 
-  -- or none
+  -- if the first one is no program, there are as many programs from the next one on
   pub no-program : is_program script r ≡ false → programs_in script r (upto - r) ≡ programs_in script (r + 1) (upto - (r + 1))
   no-program is =
       let rest = filter (is_program script) (range_with_len (r + 1) (upto - (r + 1))) in

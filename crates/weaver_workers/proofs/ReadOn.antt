@@ -1,4 +1,5 @@
--- What a read of a running program leaves of the worker.
+-- A worker that reads for its program goes on with its session. Also: the home of a running program is a gatekeeper,
+-- and facts on answers.
 -- Used by `go_client`, `go_session`, `look_on`, `read_all`, `read_next`, 5 more and crate workers_account.
 use Rattle.std.proofs.Common.{◌≡◌, inl, inr, ℕ, ◌<◌, ◌≤◌, List, [], drop, length, map, Contains, Option, Some, Result, Ok, Err, refl, sym, ap, ◌∙◌, subst}
 use Rattle.std.specs.Prelude.{IfOk}
@@ -68,11 +69,11 @@ module _ (laws : KeepLaws) (shared : Shared) where
     runs = laws.runs shared old new runs.running was is (alone-still old new only runs.running.request) runs.runs;
   }
 
-  -- the worker goes on
+  -- a hand that only carries goes on with its session
   pub carries-keep-on : (old new : Stand) → IsHand shared new.hand → DoesCarry old new → KeepsOn shared old new
   carries-keep-on old new is does script number upto keeps = goes-carry shared script number upto laws old new keeps is does
 
-  -- the same client
+  -- a hand that only carries goes on with its session while the client is unchanged
   pub hand-carries : (old new : Hand) (client : Client) → IsHand shared new → OnlyCarries old new
       → KeepsOn shared (stand old client) (stand new client)
   hand-carries old new client is only = carries-keep-on (stand old client) (stand new client) is (record {
@@ -103,7 +104,7 @@ module _ (laws : KeepLaws) (shared : Shared) where
       running = subst (λ (o : Option Running). RunsSameProgram o (Some is)) (sym running_is) same;
     })
 
-    -- after a read, or none
+    -- after a read, or none, the worker goes on
     pub read-goes : (read : Read) → ReadsNextVertex (gate_count shared) (shard_count shared) old new was is read
         → KeepsOn shared (stand old client) (stand new after)
     read-goes Over did =
@@ -124,7 +125,7 @@ module _ (laws : KeepLaws) (shared : Shared) where
         walks-with found.still
         (nothing-at-shard (shard_count shared) old new shard found.visits.before found.visits.was)
 
-    -- and what is answered
+    -- a read of the next vertex answers what it found
     pub read-as : (read : Read) → ReadsNextVertex (gate_count shared) (shard_count shared) old new was is read → ReadAs shared (stand new after) read
     read-as Over did = record { running = is; running_is = refl; over = did.1 }
     read-as More visits = tt
@@ -138,7 +139,7 @@ module _ (laws : KeepLaws) (shared : Shared) where
           (subst (λ (stamp : Stamp). first_unready (gate_count shared) stamp found.visits.before ≡ Some gate) (sym found.still.stamp_is) found.visits.refused);
     }
 
--- what holds of an answer leads to what holds of it
+-- if one fact of an answer leads to another and the first holds, so does the second
 pub if-ok : {T E : Type 0} {P Q : T → Type 0} → (r : Result T E) → ((x : T) → P x → Q x) → IfOk r P → IfOk r Q
 if-ok (Ok x) leads p = leads x p
 if-ok (Err e) leads p = tt

@@ -24,7 +24,7 @@ pub gone-on : (account : Account) (gate : ℕ) (added : List GateEntry) → gate
     → gate_log (with_gate_entries gate added account) gate ≡ gate_log account gate ++ added
 gone-on account gate added low = get_or-set_same account.gates gate (gate_log account gate ++ added) [] low
 
--- the others
+-- the logs of the other gatekeepers stay when entries are added to one
 pub still : (account : Account) (gate home : ℕ) (added : List GateEntry) → home ≢ gate
     → gate_log (with_gate_entries gate added account) home ≡ gate_log account home
 still account gate home added other = get_or-set_other account.gates gate home (gate_log account gate ++ added) [] other

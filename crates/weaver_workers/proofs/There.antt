@@ -1,4 +1,5 @@
--- Calls at one gatekeeper, or at one shard.
+-- In a call at one gatekeeper or shard that begins nothing a hand only carries, at that one alone; and a gatekeeper
+-- that was told a clock has heard it.
 -- Used by `apply_all`, `apply_channel`, `apply_head`, `apply_round`, `bring_all`, `bring_from` and 18 more.
 use Rattle.std.proofs.Common.{◌≡◌, ◌≢◌, ℕ, ◌+◌, ◌<◌, arith, inl, inr, true, false, List, [], ◌∷◌, ◌++◌, zero, suc, length, get_or, set, Result, Ok, Err, refl, sym, ap, ◌∙◌, subst}
 use Rattle.std.specs.Prelude.{◌⊎◌, Bool, Contains, OnOk, Option, Some, None}
@@ -306,7 +307,7 @@ is-told shared shards old new to before clock (Ok done) is low was =
     }
 is-told shared shards old new to before clock (Err fault) is low was = tt
 
--- it stays so
+-- a gatekeeper that was told a clock still is, after the hand only carried
 pub still-told : (old new : Hand) (gate : ℕ) (clock : Clock) → HasTold old gate clock → OnlyCarries old new → HasTold new gate clock
 still-told old new gate clock told only =
     let more = only.gates gate in record {
@@ -331,7 +332,7 @@ still-said old mid new from clock said only = record {
   clock_is = said.clock_is;
 }
 
--- no clock is there
+-- if no clock is in a list, a gatekeeper was told each of them
 pub none-told : (hand : Hand) (gate : ℕ) (clocks : List (Option Clock)) → ((from : ℕ) → get_or clocks from None ≡ None)
     → AreTold hand gate clocks
 none-told hand gate clocks none from clock is = absurd (cc (none from, is))
@@ -383,7 +384,7 @@ since-before old mid new gate from only second = record {
   told = second.told;
 }
 
--- one more is, unless it is the gatekeeper itself
+-- a gatekeeper up to date with all below a bound is so one further, if it is with that one, or is that one
 pub one-more-up-to-date : (old mid new : Hand) (gate bound : ℕ) → OnlyCarries old mid → OnlyCarries mid new
     → IsUpToDateBelow bound gate old mid → (bound ≢ gate → IsUpToDate mid new gate bound) → IsUpToDateBelow (bound + 1) gate old new
 one-more-up-to-date old mid new gate bound first second before next from low other = elim (cases_lt from bound) [

@@ -74,7 +74,7 @@ module _ {shards : ℕ} (shared : Shared) (old new : Hand) (is : IsHand shared o
       begun-on log added begun h = subst (λ (l : List BegunRequest). Contains l begun) (sym (flat_map-append (λ (e : GateEntry). begun_by e.author e.deed) log added))
           (Contains-append_left (begun_in log) (begun_in added) begun h)
 
-  -- and so may the stamp of what was begun
+  -- the stamp of a request that the hand's deed began may be heard
   pub heard-now : (begun : BegunRequest) → begun_by (hand_number old) deed ≡ begun ∷ [] → MayHear shared new begun.stamp
   heard-now begun is_begun = record {
     home = gate;

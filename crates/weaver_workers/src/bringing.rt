@@ -6,8 +6,12 @@ ghost use Rattle.weaver_workers.specs.Carrying.{CarriesAtShard};
 
 use std::alloc::{AllocError, Global};
 use std::sync::Wait;
+use weave_data::{MOST_GATES, MOST_SHARDS};
 use weaver_hands::{HandFault, Pulled, apply, bring, pull};
 use weaver_locks::{Hand, Shared};
+
+// The most channels.
+const CHANNELS: u32 = MOST_GATES * MOST_SHARDS;
 
 /// Up to which message each channel was brought so far, if that is known.
 #[derive(Drop)]
@@ -19,7 +23,7 @@ impl Brought {
     /// Nothing is known of any of the 8 times 16 channels. The one error is out of memory.
     pub fn new(alloc: Global) -> Result<Brought, AllocError> {
         let mut numbers = Vec::new(alloc);
-        for _channel in 0..128 {
+        for _channel in 0..CHANNELS {
             numbers.push(None)?;
         }
         Ok(Brought { numbers })
@@ -40,13 +44,12 @@ impl Brought {
 }
 
 fn place_of(gate: u32, shard: u32) -> usize {
-    shard.wrapping_mul(8).wrapping_add(gate) as usize
+    shard.wrapping_mul(MOST_GATES).wrapping_add(gate) as usize
 }
 
 /// A turn of a shard: it is to take in all that each gatekeeper has sent to it and that was not brought before, and to
 /// process it as far as it can. If it finds none that this worker had not found sent before, it processes nothing. The
-/// contract says where the hand makes entries and of which kinds. It may wait. The one
-/// error is out of memory.
+/// contract says where the hand makes entries and of which kinds. It may wait. The one error is out of memory.
 pub fn turn_shard<R: Wait>(
     rt: &R,
     alloc: Global,

@@ -13,9 +13,8 @@
 //! (`Carries`): the entries that their hands make are clocks that gatekeepers heard, empty messages, and messages that
 //! arrived at shards or were processed there, and all of these are at the worker's own gatekeeper (`CarriesAtGate`) or
 //! shard (`CarriesAtShard`). After a turn that answers Ok the gatekeeper has heard each other one, now or, if that
-//! one's
-//! clock is still the same, before (`IsUpToDate`). That a shard's turn brings and processes all there is, no clause
-//! says.
+//! one's clock is still the same, before (`IsUpToDate`). That a shard's turn brings and processes all there is, no
+//! clause says.
 #![tactic(auto)]
 
 mod bounds;

@@ -19,6 +19,7 @@ use Rattle.weave_entries.specs.declared.verdict.Verdict.TheVariants.{Committed, 
 use Rattle.weave_entries.specs.GateReplay.{BegunRequest, begun_by, begun_in, program_by, programs_of, tx_by}
 use Rattle.weave_entries.specs.OracleReplay.{oracle_entry_of, pairs_of_log, settled_entry}
 use Rattle.weave_entries.specs.ShardRules.{entries_of_visit}
+use Rattle.weave_entries.proofs.OwnStamps.{program-begun}
 use Rattle.backing_store.specs.Commits.{asked_at, entries_added}
 use Rattle.weave_account.specs.declared.account.Account.{Account}
 use Rattle.weave_account.specs.Account.{gate_log}
@@ -33,7 +34,6 @@ use Rattle.weaver_locks.specs.Locks.{start_of}
 use Rattle.weaver_workers.specs.ClientWork.{DoesOneCall, DoesChange, DoesVisit, Goes, Stand}
 use Rattle.weaver_workers.specs.Keeping.{KeepsClient}
 use Rattle.workers_account.specs.Asked.{AsksForOwn, IsBegunSince}
-use Rattle.workers_account.proofs.Visited.{program-begun}
 
 -- what a log has past its start, and what one that goes on has
 since-more : {E : Type 0} (start a b : List E) → IsBeginningOf start a → IsBeginningOf a b → IsBeginningOf (entries_since start a) (entries_since start b)

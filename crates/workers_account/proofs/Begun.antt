@@ -69,7 +69,7 @@ none-begun gates tells home begun h =
     let from = flat_has (λ (e : GateEntry). begun_by e.author e.deed) (gates home) begun h in
     has_none begun (subst (λ (l : List BegunRequest). Contains l begun) (told-begins from.0.author from.0.deed (tells home from.0 from.1)) from.2)
 
--- and nothing ends there
+-- nothing ends at gatekeepers where all entries are heard clocks or empty messages
 pub none-ended : (gates : ℕ → List GateEntry) → ((home : ℕ) (entry : GateEntry) → Contains (gates home) entry → IsTrue (is_telling entry.deed))
     → (home r : ℕ) → Contains (ended_in (gates home)) r → ⊥
 none-ended gates tells home r h =
@@ -150,14 +150,14 @@ module _ (laws : PhaseLaws) (shared : Shared) (script : Script) (upto : ℕ) (st
             inl (logs-alike t (slice_get_past is t (omega (arith, high, now)) ∙ sym (slice_get_past was t (omega (arith, high, many)))))
       ]
 
-  -- what was logged since
+  -- if a hand left a session's log, it is that of the start, then what the hand gained in it
   pub gained-log : (t : ℕ) (hand : Hand) (h : Contains hands hand) (left : LeftLog t hand h)
       → session_log closed t ≡ session_log start t ++ left.part.has.followed.in_step.gained.session
   gained-log t hand h left =
       let gained = left.part.has.followed.in_step.gained in
       left.is_log ∙ gained.in_session ∙ ap (λ (l : List SessionEntry). l ++ gained.session) (sym left.was_log)
 
-  -- each is one of its session
+  -- each session's log at the end is one of that session
   pub logs-right : (t : ℕ) → IsSessionLog t (requests_of_session script t) (session_log closed t)
   logs-right t =
       elim (session-case t) [
@@ -168,7 +168,7 @@ module _ (laws : PhaseLaws) (shared : Shared) (script : Script) (upto : ℕ) (st
             (subst (λ (rs : List ℕ). IsSessionLog t rs (log_of_client one.2.part.has.on.left)) keeps.requests keeps.at_end.right)
       ]
 
-  -- and goes on
+  -- each session's log at the end goes on from that of the start
   pub logs-on : (t : ℕ) → IsBeginningOf (session_log start t) (session_log closed t)
   logs-on t =
       elim (session-case t) [
@@ -329,7 +329,7 @@ module _ (laws : PhaseLaws) (shared : Shared) (script : Script) (upto : ℕ) (st
           let at = start-begun t r stamp before in
           record { home = at.home; begun = at.begun; there = begun-on at.home at.begun at.there; request_is = at.request_is; stamp_is = at.stamp_is }
 
-  -- so both say the same stamp of each request
+  -- at the end the session's log and the account have the same stamp for each request
   pub stamps-alike : (r : ℕ) (request : Request) → request_at script r ≡ Some request
       → session_stamp_of r (session_log closed request.session) ≡ stamp_of closed r
   stamps-alike r request at = by (stamp_of closed r) refl

@@ -1,5 +1,5 @@
--- What a hand begins in a hold it begins in its session's turn, and other holds begin nothing: by place in what the hand
--- has seen.
+-- A hand that begins one request in a hold, in its session's turn, has begun all in turn, by place in what it has seen;
+-- a hand that begins nothing has, too.
 -- Used by BegunTurns and crate sessions_account.
 use Rattle.std.proofs.Common.{◌≡◌, ◌≢◌, ℕ, ◌==◌, Bool, List, [], ◌∷◌, ◌++◌, length, Contains, inl, inr, refl, sym, ap, subst, ◌∙◌, arith}
 use Rattle.std.specs.Prelude.{IsTrue}
@@ -103,7 +103,7 @@ pub record BeginsNone (old new : Hand) : Type 0 where
   pub gates : GatesGoOn (seen_by old) (seen_by new)
   pub gains : (home : ℕ) → GainsNone (gate_log (made_by old) home) (gate_log (made_by new) home)
 
--- it was not at a gatekeeper
+-- a hand whose own entries at gatekeepers stayed the same began nothing
 pub none-elsewhere : (old new : Hand) → hand_number new ≡ hand_number old → GatesGoOn (seen_by old) (seen_by new)
     → (made_by new).gates ≡ (made_by old).gates → BeginsNone old new
 none-elsewhere old new number gates same = record {
@@ -169,7 +169,7 @@ module _ (script : Script) (session : ℕ) where
   abbrev pub BegunBetween : List SessionEntry → Hand → Hand → Type 0
   BegunBetween log old new = (home : ℕ) → BegunAt log old new home
 
-  -- it has seen no more
+  -- between a hand and itself, all that it began was in its session's turn
   pub begun-none : (log : List SessionEntry) (hand : Hand) → BegunBetween log hand hand
   begun-none log hand home before entry after at mine =
       let short = ap length at in
@@ -177,7 +177,7 @@ module _ (script : Script) (session : ℕ) where
       let late = mine.1 in
       absurd (omega (arith, short, long, late))
 
-  -- one after another
+  -- if two stretches began in turn, by a log and by one that goes on from it, both did in turn by the latter
   pub begun-then : (log next : List SessionEntry) (old mid new : Hand) → hand_number mid ≡ hand_number old
       → GatesGoOn (seen_by mid) (seen_by new) → IsBeginningOf log next → BegunBetween log old mid → BegunBetween next mid new → BegunBetween next old new
   begun-then log next old mid new number gates on first second home before entry after at mine =
@@ -237,7 +237,7 @@ module _ (script : Script) (session : ℕ) where
             (still-elsewhere old new gate home before (entry ∷ []) other was))
       ]
 
-  -- it began nothing
+  -- a hand that began nothing since has begun nothing out of turn, if its own logs are its entries of those seen
   pub quiet : (log : List SessionEntry) (old new : Hand) → BeginsNone old new → OwnGates old → OwnGates new → BegunBetween log old new
   quiet log old new none own_old own_new home =
       quiet-at log old new none.number own_old own_new home (none.gates home) (none.gains home)

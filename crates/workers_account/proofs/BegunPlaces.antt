@@ -1,4 +1,4 @@
--- Own entries of one log by their places, when the own ones that it has gained are known.
+-- If the own entries that a log gained are known, an own entry at its place in it is one of them.
 -- Used by BegunHolds and crate sessions_account.
 use Rattle.std.proofs.Common.{◌≡◌, ℕ, ◌==◌, Bool, cond, List, [], ◌∷◌, ◌++◌, length, get_or, set, Contains, ◌⊎◌, inl, inr, refl, sym, ap, subst, ◌∙◌, append_assoc, arith}
 use Rattle.std.specs.List.{filter}
@@ -50,7 +50,7 @@ module _ {E : Type 0} (author : E → ℕ) (number : ℕ) where
     after-log : before ++ e ∷ [] ≡ log ++ (on.0 ++ e ∷ [])
     after-log = ap (λ l. l ++ e ∷ []) on.1 ∙ append_assoc log on.0 (e ∷ [])
 
-    -- something was gained
+    -- the own entries with the new one are not those that were there before it
     pub not-none : filter own (before ++ e ∷ []) ≡ made → ⊥
     not-none is =
         has_none e (subst (λ (l : List E). Contains l e)

@@ -193,7 +193,7 @@ module _ (laws : TurnLaws) (shared : Shared) (script : Script) (number upto : �
         finish.finishes.was refl) (replied_entry number finish.before.request ∷ [], finish.log)
     went-one (inr (inr (inr (inr carry)))) = went-quiet (none-carried old.hand new.hand carry.only) (same-log carry.same.log)
 
-  -- one thing after another
+  -- if a worker did one thing after another, its log went on, and what its hand began was in turn
   pub went-all : (path : List Stand) (from at : Stand) → KeepsClient shared script number from.hand from.client
       → Goes shared script number upto from path at → Went script number from at
   went-all [] from at keeps goes = subst (λ (s : Stand). Went script number from s) goes (went-none from)

@@ -1,5 +1,5 @@
--- What was ended at the gatekeepers of a phase's closed logs has its reply, if it is a program, and the other way round: so
--- the sessions' logs are those of the closed gatekeepers.
+-- What was ended at the gatekeepers of a phase's closed logs has its reply, if it is a program, and the other way
+-- round: so the sessions' logs are those of the closed gatekeepers.
 -- Used by ByLog, ClosedAccount, Follows, PhaseEnds, Programs and crate sessions_account.
 use Rattle.std.proofs.Common.{◌≡◌, ◌≢◌, ℕ, ◌<◌, ◌≤◌, ◌==◌, Bool, List, [], ◌∷◌, ◌++◌, length, map, take, get_or, Contains, AllPairs, IsTrue, Option, None, Some, ◌⊎◌, inl, inr, refl, sym, ap, subst, ◌∙◌, arith}
 use Rattle.std.specs.List.{flat_map}
@@ -59,7 +59,7 @@ ended-all account home r h =
     in-has (flat_map ended_in account.gates) r
     (has_flat ended_in account.gates (gate_log account home) r (list-there account.gates home from.0 from.1) h)
 
--- and what has ended did so at some gatekeeper
+-- a request that has ended did so at some gatekeeper
 pub all-ended : (account : Account) (r : ℕ) → IsTrue (is_ended account r) → (home : ℕ) × Contains (ended_in (gate_log account home)) r
 all-ended account r ended =
     let from = flat_has ended_in account.gates r (has-in (flat_map ended_in account.gates) r ended) in

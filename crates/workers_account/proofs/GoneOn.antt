@@ -1,5 +1,5 @@
--- What stays so while a client's worker does one thing after another: the hand's number, what it has seen, what is kept,
--- and that what runs is of a request before `upto`.
+-- What stays so while a client's worker does one thing after another: the hand's number, what it has seen, what is
+-- kept, and that what runs is of a request before `upto`.
 -- Used by `workers_follow_their_sessions`, InStep and crate weave_phase.
 use Rattle.std.proofs.Common.{◌≡◌, inl, inr, ℕ, ◌<◌, List, [], ◌∷◌, Option, None, Some, refl, sym, ◌∙◌, subst}
 use Rattle.std.specs.Option.{ForSome}

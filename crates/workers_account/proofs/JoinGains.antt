@@ -45,11 +45,11 @@ module _ {A B : Type 0} (f : A → List B) (xs ys : List A) where
   pub second-made : (y : B) → Contains (flat_map f ys) y → Contains (flat_map f (xs ++ ys)) y
   second-made y h = subst (λ (l : List B). Contains l y) (sym (flat_map-append f xs ys)) (Contains-append_right (flat_map f xs) (flat_map f ys) y h)
 
--- what an entry begins
+-- the begun request of a gatekeeper's entry, or none
 abbrev pub begun_of : GateEntry → List BegunRequest
 begun_of entry = begun_by entry.author entry.deed
 
--- what an entry ends
+-- the ended request of a gatekeeper's entry, or none
 abbrev pub ended_of : GateEntry → List ℕ
 ended_of entry = ended_by entry.deed
 
@@ -59,7 +59,7 @@ begin_of entry = begin_by entry.deed
 abbrev reply_of : SessionEntry → List ℕ
 reply_of entry = reply_by entry.deed
 
--- what an entry judges
+-- the judgement that an entry of the store is
 abbrev pub judgement_of : StoreEntry → Judgement
 judgement_of entry = judged_by entry.author entry.deed
 
@@ -133,7 +133,7 @@ module _ (script : Script) (author upto : ℕ) (gates more_gates : ℕ → List 
         (pairs-append Rises (begun_in (gates home)) (begun_in (more_gates home)) (rise home) (more_rise home)
         (λ a b h k. precedes a.request b.request a.stamp b.stamp (first.begun home a h) (second.begun home b k)))
 
-    -- and so do the judgements
+    -- judgements rise by request in both parts joined, if they do in each
     pub both-judge : AllPairs (λ (a b : Judgement). a.request < b.request) (judgements_of store)
         → AllPairs (λ (a b : Judgement). a.request < b.request) (judgements_of more_store)
         → AllPairs (λ (a b : Judgement). a.request < b.request) (judgements_of (store ++ more_store))
@@ -173,7 +173,7 @@ module _ (laws : InStepLaws) (number : ℕ) (client : Client) (at_end : IsClient
 -- Stands
 
 module _ (script : Script) (author upto : ℕ) (from mid at : Stand) where
-  -- what was gained in two parts
+  -- what a hand gained in two parts, one after the other, as one gain
   abbrev pub both-gained : GainedEntries from mid → GainedEntries mid at → GainedEntries from at
   both-gained first second = record {
     gates = λ home. first.gates home ++ second.gates home;

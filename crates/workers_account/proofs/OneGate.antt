@@ -15,7 +15,7 @@ abbrev pub at_one : {E : Type 0} → ℕ → List E → ℕ → List E
 at_one {E} gate added home = cond (home == gate) added []
 
 module _ {E : Type 0} (gate : ℕ) (added : List E) where
-  -- the one list
+  -- the list at the number that has it is that list
   pub at-it : (home : ℕ) → home ≡ gate → at_one gate added home ≡ added
   at-it home same = ap (λ b. cond b added []) (eq-eqb home gate same)
 
@@ -38,7 +38,7 @@ module _ (old new : Account) (gate : ℕ) (added : List GateEntry) (made : new �
   log-here low = ap (λ (a : Account). gate_log a gate) made
       ∙ get_or-set_same old.gates gate (gate_log old gate ++ added) [] low
 
-  -- the others
+  -- each log of a gatekeeper but the one that was extended stays
   pub log-elsewhere : (home : ℕ) → home ≢ gate → gate_log new home ≡ gate_log old home
   log-elsewhere home other = ap (λ (a : Account). gate_log a home) made
       ∙ get_or-set_other old.gates gate home (gate_log old gate ++ added) [] other

@@ -1,4 +1,4 @@
--- What a hand of a phase began and judged since the start, as the definitions on runs by hands say it, is its part.
+-- What a hand of a phase began and judged since the start is what its part began and judged.
 -- Used by ByLog, Follows, OpenPairs, Programs and Visited.
 use Rattle.std.proofs.Common.{◌≡◌, ℕ, ◌≤◌, ◌==◌, Bool, true, false, cond, List, [], ◌∷◌, ◌++◌, length, drop, map, Contains, IsTrue, inl, inr, refl, sym, ap, subst, ◌∙◌}
 use Rattle.std.specs.List.{filter, flat_map}

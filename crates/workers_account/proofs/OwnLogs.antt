@@ -1,5 +1,5 @@
--- What a hand made in each log is what has its number there, and what it began and judged since the start is what it has
--- gained.
+-- What a hand made in each log is what has its number there, and what it began and judged since the start is what it
+-- has gained.
 -- Used by BegunHolds and BegunTurns.
 use Rattle.std.proofs.Common.{◌≡◌, ℕ, ◌==◌, List, ◌++◌, refl, sym, ap, ◌∙◌}
 use Rattle.std.specs.List.{filter}
@@ -28,7 +28,7 @@ own-gates hand own home =
     ap (λ (a : Account). gate_log a home) own
     ∙ row-at (filter (λ (e : GateEntry). e.author == hand_number hand)) refl (seen_by hand).gates home
 
--- and in the store's log
+-- the entries that a hand made at the store are those of the log it has seen that have its number
 pub own-store : (hand : Hand) → HasSeenOwn hand
     → (made_by hand).store ≡ filter (λ (e : StoreEntry). e.author == hand_number hand) (seen_by hand).store
 own-store hand own = ap (λ (a : Account). a.store) own
@@ -53,7 +53,7 @@ module _ (start : Account) (first hand : Hand) (start_is : seen_by first ≡ sta
       ∙ (λ i. filter (λ (e : GateEntry). e.author == sym number_is i) (gate_log (start_is i) home)))
       (own-gates hand own home) gains)
 
-  -- and what it judged
+  -- what a hand judged since it had seen the logs of the start is what the entries judge that it has gained
   pub own-judgements-is : (gained : List StoreEntry) → (made_by hand).store ≡ (made_by first).store ++ gained
       → own_judgements (hand_number hand) start (seen_by hand) ≡ judgements_of gained
   own-judgements-is gained gains =

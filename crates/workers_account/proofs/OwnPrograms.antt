@@ -31,7 +31,7 @@ module _ (laws : ReadLaws) (shared : Shared) (script : Script) (number upto : �
   step-own old new keeps is (inr (inr (inr (inr carry)))) own =
       laws.none_visited shared old.hand new.hand keeps.is_hand is (λ r. carry-unvisited old.hand new.hand carry.only r) own
 
-  -- and after one after another
+  -- a hand that visits only its own programs still does after it did one thing after another
   pub visits-its-own : (path : List Stand) (from at : Stand) → KeepsClient shared script number from.hand from.client
       → VisitsItsOwnPrograms shared from.hand → Goes shared script number upto from path at → VisitsItsOwnPrograms shared at.hand
   visits-its-own [] from at keeps own went = subst (λ (s : Stand). VisitsItsOwnPrograms shared s.hand) went own

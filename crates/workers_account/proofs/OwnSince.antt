@@ -25,7 +25,7 @@ module _ {E : Type 0} (own : E → Bool) where
   own-gained log more made gained was is =
       append_cancel_left made (filter own more) gained (ap (λ l. l ++ filter own more) was ∙ sym (filter-append own log more) ∙ is)
 
-  -- and so are those since the start
+  -- the own entries of a log since its start are those that were gained
   pub own-since : (start seen more made_start made gained : List E) → seen ≡ start ++ more → made_start ≡ filter own start
       → made ≡ filter own seen → made ≡ made_start ++ gained → filter own (entries_since start seen) ≡ gained
   own-since start seen more made_start made gained on first last is =
@@ -100,7 +100,7 @@ begun-by-author number log =
     flat-own (λ (e : GateEntry). e.author == number) (λ (b : BegunRequest). b.author == number)
     (λ (e : GateEntry). begun_by e.author e.deed) (λ (e : GateEntry). own-begin number e.author e.deed) log
 
--- and so of programs
+-- the programs that an author began are those that its entries began
 pub programs-by-author : (number : ℕ) (log : List GateEntry) → filter (λ (b : BegunRequest). b.author == number) (programs_of log)
     ≡ programs_of (filter (λ (e : GateEntry). e.author == number) log)
 programs-by-author number log =

@@ -1,4 +1,5 @@
--- What each hand of a phase made at gatekeepers and the store since its start, and that the closed logs have nothing else.
+-- What each hand of a phase made at gatekeepers and the store since the phase's start; the closed logs of gatekeepers
+-- have nothing else.
 -- Used by `hands_of_a_phase_visit_their_own`, Begun, ByLog, ClosedAccount, Ended, Follows, InFlight and 5 more.
 use Rattle.std.proofs.Common.{◌≡◌, ℕ, ◌<◌, ◌==◌, eq-eqb, Bool, List, [], ◌∷◌, ◌++◌, length, map, Contains, IsTrue, ◌⊎◌, inl, inr, refl, sym, ap, subst, ◌∙◌, arith}
 use Rattle.std.specs.Prelude.{slice_get}
@@ -187,7 +188,7 @@ module _ (laws : PhaseLaws) (shared : Shared) (script : Script) (upto : ℕ) (st
     pub seen-start : seen_by part.from ≡ without_sessions start
     seen-start = part.seen ∙ run.at_start.start_is
 
-    -- what the hand had made then was there
+    -- what it had made at a gatekeeper then is what the start's log has with its number
     pub made-start : (home : ℕ) → gate_log (made_by part.from) home
         ≡ filter (λ (e : GateEntry). e.author == hand_number hand) (gate_log start home)
     made-start home =
@@ -206,7 +207,7 @@ module _ (laws : PhaseLaws) (shared : Shared) (script : Script) (upto : ℕ) (st
     pub seen-on : (home : ℕ) → IsBeginningOf (gate_log start home) (gate_log (seen_by hand) home)
     seen-on home = subst (λ (a : Account). IsBeginningOf (gate_log a home) (gate_log (seen_by hand) home)) seen-start (part.more.gates home)
 
-    -- the same of the store's log
+    -- the store's log that a hand of a part has seen goes on from that of the start
     pub stored-on : IsBeginningOf start.store (seen_by hand).store
     stored-on = subst (λ (a : Account). IsBeginningOf a.store (seen_by hand).store) seen-start part.more.store
 
@@ -223,7 +224,7 @@ module _ (laws : PhaseLaws) (shared : Shared) (script : Script) (upto : ℕ) (st
         (ap (filter (λ (e : StoreEntry). e.author == hand_number hand)) (sym stored-on.1) ∙ sym (ap (λ (a : Account). a.store) (laws.own shared hand part.is_hand)) ∙ part.at_store)
 
   module _ (closed : Account) (end : IsClosedBy shared script start is hands closed) where
-    -- the logs of the start go on
+    -- the gatekeepers' logs of the start go on to the closed ones
     pub gates-on : (home : ℕ) → IsBeginningOf (gate_log start home) (gate_log closed home)
     gates-on home =
         let some = end.of_hands.some in

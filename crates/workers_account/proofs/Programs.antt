@@ -1,4 +1,5 @@
--- What the programs of a phase have read is in turn, and a hand finishes no others than its own.
+-- Each program that a hand began since the start has read its vertices in turn, and a hand finishes no programs but
+-- those.
 -- Used by ByLog, ClosedAccount and Idle.
 use Rattle.std.proofs.Common.{◌≡◌, ℕ, ◌-◌, ◌<◌, Bool, false, List, [], ◌∷◌, ◌++◌, length, drop, take, Contains, AllPairs, IsTrue, Option, None, Some, inl, inr, refl, sym, ap, subst, ◌∙◌, arith}
 use Rattle.std.specs.Prelude.{is_some, if◌then◌else◌}
@@ -22,6 +23,7 @@ use Rattle.weave_entries.specs.declared.session_log.SessionEntry.{SessionEntry}
 use Rattle.weave_entries.specs.GateReplay.{BegunRequest, begun_by, begun_in, ended_by, ended_in, program_by, programs_of, tx_by}
 use Rattle.weave_entries.specs.GateRules.{EndsAs, IsGateLog}
 use Rattle.weave_entries.specs.SessionReplay.{SessionState, begins_in, replied_count, replied_in, reply_by, session_of}
+use Rattle.weave_entries.proofs.OwnStamps.{program-begun}
 use Rattle.weave_account.specs.declared.account.Account.{Account}
 use Rattle.weave_account.specs.Account.{all_begun, gate_log, is_ended, reads_of, session_log}
 use Rattle.weave_account.specs.Programs.{ReadsInTurn}
@@ -48,7 +50,7 @@ use Rattle.workers_account.proofs.Begun.{BegunInPart, LeftLog, all-has, begun-in
 use Rattle.workers_account.proofs.Ended.{all-ended, ended-in-part}
 use Rattle.workers_account.proofs.Follows.{begun-new}
 use Rattle.workers_account.proofs.Own.{own-entry}
-use Rattle.workers_account.proofs.Visited.{all-own, program-begun, since-part}
+use Rattle.workers_account.proofs.Visited.{all-own, since-part}
 
 -- what a deed ended was begun before it, by its author
 pub ended-begun : (before : List GateEntry) (author : ℕ) (deed : GateDeed) (r : ℕ) → Contains (ended_by deed) r → EndsAs before author deed

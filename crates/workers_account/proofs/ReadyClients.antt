@@ -20,6 +20,7 @@ use Rattle.weave_entries.specs.declared.session_log.SessionDeed.TheVariants as s
 use Rattle.weave_entries.specs.declared.session_log.SessionEntry.{SessionEntry}
 use Rattle.weave_entries.specs.GateReplay.{BegunRequest, begun_in, programs_of}
 use Rattle.weave_entries.specs.SessionReplay.{IsSessionLog, SessionState, begins_in, has_begun_in, has_reply_in, session_after, session_of}
+use Rattle.weave_entries.proofs.OwnStamps.{program-begun}
 use Rattle.weave_account.specs.declared.account.Account.{Account}
 use Rattle.weave_account.specs.Account.{all_begun, gate_log, session_log, shard_log}
 use Rattle.weave_account.specs.Sessions.{requests_of_session}
@@ -43,7 +44,6 @@ use Rattle.workers_account.proofs.Begun.{all-has, stamp-is}
 use Rattle.workers_account.proofs.Idle.{begun-there, landed, seen-is}
 use Rattle.workers_account.proofs.SessionEnds.{front-less}
 use Rattle.workers_account.proofs.SessionLogs.{in-session, log-at, stamp-from}
-use Rattle.workers_account.proofs.Visited.{program-begun}
 use Rattle.step_rules.proofs.SessionTurns.{one-more}
 use Rattle.weave_account.proofs.InSession.{last-any}
 use Rattle.weave_account.proofs.Replying.{has-all}

@@ -27,7 +27,7 @@ begins-on log next on begun h =
     (subst (λ (l : List (ℕ × Stamp)). Contains l begun) (sym (flat_map-append (λ (e : SessionEntry). begin_by e.deed) log on.0))
     (Contains-append_left (begins_in log) (begins_in on.0) begun h))
 
--- and what was begun since is begun
+-- what a log's continuation begins is begun in the longer log
 pub begins-now : (log next : List SessionEntry) (on : IsBeginningOf log next) (begun : ℕ × Stamp) → Contains (begins_in on.0) begun
     → Contains (begins_in next) begun
 begins-now log next on begun h =
@@ -43,7 +43,7 @@ replied-on log next on r h =
     (subst (λ (l : List ℕ). Contains l r) (sym (flat_map-append (λ (e : SessionEntry). reply_by e.deed) log on.0))
     (Contains-append_left (replied_in log) (replied_in on.0) r h))
 
--- and what got its reply since has it
+-- what got its reply in the continuation of a session's log has it in the longer log
 pub replied-now : (log next : List SessionEntry) (on : IsBeginningOf log next) (r : ℕ) → Contains (replied_in on.0) r
     → Contains (replied_in next) r
 replied-now log next on r h =

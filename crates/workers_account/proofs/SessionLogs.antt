@@ -33,7 +33,7 @@ pairs-unmap {A} {B} R f (x ∷ xs) pairs =
     pairs_cons (λ (a b : A). R (f a) (f b)) x xs (λ y h. pairs_head R (f x) (map f xs) (f y) pairs (has_map f xs y h))
     (pairs-unmap R f xs (pairs_tail R (f x) (map f xs) pairs))
 
--- a weaker relation
+-- if a relation implies another, and holds of all pairs of a list, the other one does
 pub pairs-weaker : {A : Type 0} (R S : A → A → Type 0) → ((x y : A) → R x y → S x y) → (xs : List A) → AllPairs R xs → AllPairs S xs
 pairs-weaker R S weaker [] pairs = pairs_none S
 pairs-weaker R S weaker (x ∷ xs) pairs =
@@ -69,14 +69,14 @@ module _ (laws : PhaseLaws) (script : Script) (session : ℕ) (log : List Sessio
   begins-rise = pairs-unmap (λ (a b : ℕ). a < b) (λ (begun : ℕ × Stamp). begun.0) (begins_in log)
       (subst (AllPairs (λ (a b : ℕ). a < b)) (sym firsts) (pairs-take (λ (a b : ℕ). a < b) (session_of requests log).begun requests (laws.rise script session)))
 
-  -- each is the session's
+  -- each request that a session's log begins is one of that session, in the script
   pub begun-here : (r : ℕ) (stamp : Stamp) → Contains (begins_in log) (r, stamp)
       → (request : Request) × (request_at script r ≡ Some request) × (request.session ≡ session)
   begun-here r stamp h =
       in-session script session r (in-take (session_of requests log).begun requests r
       (subst (λ (rs : List ℕ). Contains rs r) firsts (has_map (λ (begun : ℕ × Stamp). begun.0) (begins_in log) (r, stamp) h)))
 
-  -- and so is each that has its reply
+  -- each request that has its reply in a session's log is one of that session, in the script
   pub replied-here : (r : ℕ) → Contains (replied_in log) r
       → (request : Request) × (request_at script r ≡ Some request) × (request.session ≡ session)
   replied-here r h =

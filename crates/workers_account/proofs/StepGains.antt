@@ -92,7 +92,7 @@ finished-raises r epoch is = cc
 abbrev pub Rises : BegunRequest → BegunRequest → Type 0
 Rises a b = a.request < b.request
 
--- nothing begun is in order
+-- the begins in a log of clocks and empty messages rise, as there are none
 pub none-rise : (log : List GateEntry) → Tells log → AllPairs Rises (begun_in log)
 none-rise log tells = subst (AllPairs Rises) (sym (nothing (begun_in log) (none-begun log tells))) (pairs_none Rises)
   where
@@ -110,7 +110,7 @@ raise-one entry none other h = subst (λ (e : GateEntry). (epoch : ℕ) → e.de
 -- Lists in step
 
 module _ (script : Script) (author upto : ℕ) where
-  -- only clocks and empty messages
+  -- logs of clocks and empty messages alone are in step, if nothing was judged or logged by the session
   pub tells-in-step : (gates : ℕ → List GateEntry) → ((home : ℕ) → Tells (gates home)) → AreInStep script author upto gates [] []
   tells-in-step gates tells = record {
     begun = λ home begun h. absurd (none-begun (gates home) (tells home) begun h);
@@ -147,7 +147,7 @@ module _ (script : Script) (author upto : ℕ) where
             (λ home other entry h. absurd (has_none entry h));
       }
 
-      -- nothing begun is in order
+      -- the begins in a finish's entries rise, as there are none
       pub finish-rises : (home : ℕ) → AllPairs Rises (begun_in (at_one gate finish_entries home))
       finish-rises = at-each gate finish_entries (λ home l. AllPairs Rises (begun_in l)) (pairs_none Rises) (λ home other. pairs_none Rises)
 
@@ -242,6 +242,6 @@ module _ (script : Script) (author upto : ℕ) where
         pub change-rises : (home : ℕ) → AllPairs Rises (begun_in (at_one asked.gate change_entries home))
         change-rises = at-each asked.gate change_entries (λ home l. AllPairs Rises (begun_in l)) (pairs-one Rises one) (λ home other. pairs_none Rises)
 
-        -- and so is the one that was judged
+        -- the judgements of the one entry rise by request, as there is one
         pub judgement-rises : AllPairs (λ (a b : Judgement). a.request < b.request) (judgements_of judgement)
         judgement-rises = pairs-one (λ (a b : Judgement). a.request < b.request) _

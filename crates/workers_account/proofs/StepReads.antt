@@ -1,4 +1,5 @@
--- What each thing that a client's worker does leaves of what its hand has read, of the store's entries and of the session's log.
+-- What each thing that a client's worker does leaves of what its hand has read, of the store's entries and of the
+-- session's log.
 -- Used by OwnPrograms, Parts, RepliesKept, TurnsKept and crate sessions_account.
 use Rattle.std.proofs.Common.{◌≡◌, ◌≢◌, inl, inr, ℕ, List, [], ◌∷◌, ◌++◌, Contains, Some, sym, ap, ◌∙◌, subst, append_assoc}
 use Rattle.std.proofs.lemmas.List.{append-nil}
@@ -53,7 +54,7 @@ module _ (shared : Shared) (script : Script) (number upto : ℕ) (old new : Stan
       laws.finish (shard_count shared) old.hand new.hand finish.before finish.answer finish.finishes r
   step-unvisited laws (inr (inr (inr (inr carry)))) r other = carry-unvisited old.hand new.hand carry.only r
 
-  -- so what was read for it stays
+  -- what a hand's visits read for a request stays, if it runs no program of that request
   pub step-reads : ReadLaws → IsHand shared old.hand → IsHand shared new.hand → DoesOneCall shared script number upto old new → (r : ℕ)
       → RunsNot old r → own_reads new.hand r ≡ own_reads old.hand r
   step-reads laws was is does r other =
@@ -91,7 +92,7 @@ module _ (shared : Shared) (script : Script) (number upto : ℕ) (old new : Stan
   step-entries (inr (inr (inr (inl finish)))) = replied_entry number finish.before.request ∷ []
   step-entries (inr (inr (inr (inr carry)))) = []
 
-  -- its log has these entries more
+  -- after one call the session's log has these entries more
   pub step-log : (does : DoesOneCall shared script number upto old new) → log_of_client new.client ≡ log_of_client old.client ++ step-entries does
   step-log (inl change) =
       change.log ∙ append_assoc (log_of_client old.client) (begun_entry number change.r change.stamp ∷ []) (replied_entry number change.r ∷ [])
@@ -100,7 +101,7 @@ module _ (shared : Shared) (script : Script) (number upto : ℕ) (old new : Stan
   step-log (inr (inr (inr (inl finish)))) = finish.log
   step-log (inr (inr (inr (inr carry)))) = carry.same.log ∙ sym (append-nil (log_of_client old.client))
 
-  -- so it goes on
+  -- after one call the session's log goes on from what it was
   abbrev pub step-on : DoesOneCall shared script number upto old new → IsBeginningOf (log_of_client old.client) (log_of_client new.client)
   step-on does = (step-entries does, step-log does)
 

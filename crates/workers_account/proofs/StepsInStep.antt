@@ -71,7 +71,7 @@ module _ (script : Script) (upto : ℕ) (old new : Stand) (same : IsSameSession 
 tells-none : Tells []
 tells-none entry h = absurd (has_none entry h)
 
--- nothing was done
+-- a hand that did nothing is in step
 pub none-steps : (script : Script) (upto : ℕ) (at : Stand) → IsInStep script (hand_number at.hand) upto at at
 none-steps script upto at =
     still-steps script upto at at (record { session = refl; log = refl; replies = refl }) (λ home. []) (λ home. tells-none)
@@ -229,7 +229,7 @@ module _ (shared : Shared) (script : Script) (number upto : ℕ) (within : IsWit
       still-steps script upto old new does.same (λ home. (does.only.gates home).added) (λ home. (does.only.gates home).pass)
       (λ home. (does.only.gates home).log) does.only.store
 
-  -- whatever was done
+  -- each one call leaves the hand in step
   pub does-steps : DoesOneCall shared script number upto old new → IsInStep script (hand_number old.hand) upto old new
   does-steps (inl change) = change-steps change
   does-steps (inr (inl start)) = start-steps start

@@ -43,7 +43,7 @@ look-one script r a b first second =
     let works : Look a ≡ Look b = sym first.work_is ∙ ap (λ (x : Request). x.work) asked ∙ second.work_is in
     cc
 
--- and no transaction
+-- a request that is a program is no transaction
 pub look-no-change : (script : Script) (r : ℕ) (program : Program) (asked : Request) (ops : List Op) → IsLookAt script r program
     → request_at script r ≡ Some asked → asked.work ≡ Change ops → ⊥
 look-no-change script r program asked ops look is work =
@@ -145,7 +145,7 @@ module _ (laws : ReadLaws) (shared : Shared) (script : Script) (number upto : �
       turn-left r (laws.reads shared old.hand new.hand r keeps.is_hand is (carry-unvisited old.hand new.hand does.only r))
       (λ program look h. inl (same-replied does.same.log r h)) turn
 
-  -- after one thing done
+  -- if a request has its turn, it still has after one call
   pub step-turn : DoesOneCall shared script number upto old new → (r : ℕ) → HasTurn script old r → HasTurn script new r
   step-turn (inl change) = change-turn change
   step-turn (inr (inl start)) = start-turn start

@@ -1,4 +1,5 @@
--- Who read what in a phase: each visit is of a program that had begun at the start, or of one that its hand began since.
+-- Who read what in a phase: each visit is of a program that had begun at the start, or of one that its hand began
+-- since.
 -- Used by AskedFor, ByLog, Idle, OpenPairs, Programs, ReadyClients and crate sessions_account.
 use Rattle.std.proofs.Common.{◌≡◌, ℕ, ◌<◌, ◌==◌, List, Contains, ◌⊎◌, inl, inr, sym, ap, subst, ◌∙◌, eq-eqb}
 use Rattle.std.specs.List.{filter}
@@ -16,10 +17,10 @@ use Rattle.weave_entries.specs.declared.shard_log.ShardDeed.{ShardDeed}
 use Rattle.weave_entries.specs.declared.shard_log.ShardDeed.TheVariants.{Arrived, Applied, Visited, Collected}
 use Rattle.weave_entries.specs.GateReplay.{BegunRequest, begun_by, begun_in, programs_of}
 use Rattle.weave_entries.specs.ShardReplay.{Visit, visit_by, visits_of}
+use Rattle.weave_entries.proofs.OwnStamps.{program-begun}
 use Rattle.weave_account.specs.declared.account.Account.{Account}
 use Rattle.weave_account.specs.Account.{all_begun, gate_log, reads_of, shard_log}
 use Rattle.weave_account.specs.Shards.{ShardFitsAs}
-use Rattle.weave_account.proofs.Beginning.{program-begun as program-among}
 use Rattle.hands_account.proofs.ByHands.{start-or-hand, start-within}
 use Rattle.hands_account.proofs.Once.{begun-author as entry-author}
 use Rattle.hands_account.proofs.Places.{has-on}
@@ -37,10 +38,6 @@ use Rattle.workers_account.proofs.Parts.{of-number, own-since, part-of}
 use Rattle.workers_account.proofs.Begun.{BegunInPart, all-has, begun-in-part}
 use Rattle.workers_account.proofs.Follows.{begun-new}
 use Rattle.workers_account.proofs.Own.{since-is}
-
--- a program that began is among what began
-pub program-begun : (log : List GateEntry) (begun : BegunRequest) → Contains (programs_of log) begun → Contains (begun_in log) begun
-program-begun log begun h = program-among log begun h
 
 -- what an entry began has the entry's author
 pub begun-author : (author : ℕ) (deed : GateDeed) (begun : BegunRequest) → Contains (begun_by author deed) begun → author ≡ begun.author
@@ -125,7 +122,7 @@ module _ (laws : PhaseLaws) (shared : Shared) (script : Script) (upto : ℕ) (st
   visit-since author low (Applied home number) visit h own = absurd (has_none visit h)
   visit-since author low (Collected bound) visit h own = absurd (has_none visit h)
 
-  -- so each visit of the closed logs is
+  -- each visit in the closed logs is of a request that began before, or since by its author
   pub visit-of : (shard : ℕ) (visit : Visit) → Contains (visits_of (shard_log closed shard)) visit → BeganBefore visit.request ⊎ BeganSince visit.request visit.author
   visit-of shard visit there =
       let from = flat_has (λ (e : ShardEntry). visit_by e.author e.deed) (shard_log closed shard) visit there in

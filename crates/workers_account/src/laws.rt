@@ -20,33 +20,16 @@ ghost use Rattle.weaver_core.specs.Sessions.{log_of_client};
 ghost use Rattle.weaver_locks.specs.declared.hand.Hand.{Hand};
 ghost use Rattle.weaver_locks.specs.declared.shared.Shared.{Shared};
 ghost use Rattle.weaver_locks.specs.Closing.{logs_of, seen_by_number, AreInOrder, MayStart};
-ghost use Rattle.weaver_locks.specs.Following.{VisitsItsOwnPrograms};
 ghost use Rattle.weaver_locks.specs.Hands.{seen_by, IsHand};
 ghost use Rattle.weaver_locks.specs.Locks.{hands_of, start_of};
 ghost use Rattle.weaver_workers.specs.ClientWork.{Goes, HasReplies, Stand};
-ghost use Rattle.weaver_workers.specs.Keeping.{AreLocksOf, HasLanded, KeepsClient};
-ghost use Rattle.workers_account.specs.Followed.{IsFollowed};
+ghost use Rattle.weaver_workers.specs.Keeping.{HasLanded, KeepsClient};
 ghost use Rattle.workers_account.specs.Phase.{IsClosedBy, IsPhaseEnd, IsPhaseRun, IsPhaseStart};
 
-use crate::in_step_laws::in_step_stands_on;
 use crate::phase_laws::{phases_keep_their_laws, values_stay_by_their_laws};
 use crate::read_laws::hands_read_by_their_laws;
 use crate::ready_laws::phases_start_by_their_laws;
-use crate::turn_laws::turns_keep_their_laws;
 use weave_entries::laws::begun_and_replied_are_decided;
-
-/// A client's worker follows its session: what it did and what the session's log says are in step, and each thing is as
-/// the script asks it.
-pub fn workers_follow_their_sessions()
-    ensures { (shared : Shared) (script : Script) (number upto : ℕ) (from at : Stand) (path : List Stand)
-        → IsWithinLimits script → AreLocksOf script shared → KeepsClient shared script number from.hand from.client
-        → VisitsItsOwnPrograms shared from.hand → Goes shared script number upto from path at
-        → IsFollowed shared script number upto from at }
-{
-    hands_read_by_their_laws();
-    in_step_stands_on();
-    turns_keep_their_laws();
-}
 
 /// What a client's worker begins is of its phase, if at the start all requests of earlier phases had their replies: the
 /// requests that its session's log gained come no earlier than the phase, and before its end.

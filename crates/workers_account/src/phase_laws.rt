@@ -2,7 +2,7 @@
 ghost use Rattle.weaver_core.specs.Staying.{StayLaws};
 ghost use Rattle.workers_account.specs.PhaseLaws.{PhaseLaws};
 
-use crate::laws::workers_follow_their_sessions;
+use crate::session_laws::workers_follow_their_sessions;
 use hands_account::laws::{
     closed_logs_are_an_account, closed_logs_go_on, last_stamps_are_those_of_sessions,
 };

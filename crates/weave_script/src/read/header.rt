@@ -1,6 +1,6 @@
 //! The first line of a script.
 ghost use Rattle.std.specs.Prelude.{◌≡◌, map};
-ghost use Rattle.weave_script.specs.HeaderLine.{header_of, sizes_of};
+ghost use Rattle.weave_script.specs.Header.{header_of, sizes_of};
 ghost use Rattle.weave_text.specs.Numbers.{is_number};
 
 use crate::fault::Cause;

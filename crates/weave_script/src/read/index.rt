@@ -5,10 +5,10 @@ ghost use Rattle.graph_ops.specs.Mentions.{with_name};
 ghost use Rattle.graph_ops.specs.declared.op.Op.{Op};
 ghost use Rattle.program_defs.specs.declared.script.Request.{Request};
 ghost use Rattle.program_defs.specs.declared.script.Work.TheVariants.{Change, Look};
-ghost use Rattle.weave_script.specs.declared.read.reading.Opening.{Opening};
+ghost use Rattle.weave_script.specs.declared.read.partial_script.Opening.{Opening};
 ghost use Rattle.weave_script.specs.Indexed.{IsSetOf, IsIndexOf, IsNewRequest};
 ghost use Rattle.weave_script.specs.Limits.{with_names, vertices_of_op, vertices_of_program};
-ghost use Rattle.weave_script.specs.RequestLines.{request_of};
+ghost use Rattle.weave_script.specs.Requests.{request_of};
 
 use graph_ops::Op;
 use program_defs::Program;

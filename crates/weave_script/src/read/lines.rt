@@ -4,14 +4,14 @@ ghost use Rattle.program_defs.specs.declared.script.Work.TheVariants.{Change};
 ghost use Rattle.weave_script.specs.Indexed.{GivesReading, IsIndexed, IsIndexOf, IsReaderReady};
 ghost use Rattle.weave_script.specs.Limits.{over_limit};
 ghost use Rattle.weave_script.specs.Reading.{counts_so_far, start, after_tx, after_prog, after_phase, after_steps, after_item, after_header, after_line_inside, after_step, after_line_at, within_limits, after_line};
-ghost use Rattle.weave_script.specs.RequestLines.{request_of};
+ghost use Rattle.weave_script.specs.Requests.{request_of};
 
 use crate::fault::{Cause, LineFault};
 use crate::limits::over_limit;
 use crate::read::header::header_of;
 use crate::read::index::Index;
 use crate::read::ops::{is_end, op_of};
-use crate::read::reading::{Counts, Opening, Place, Reading};
+use crate::read::partial_script::{Counts, Opening, Place, Reading};
 use crate::read::requests::{prog_of, tx_of};
 use crate::read::steps::{Sizes, step_of};
 use graph_ops::Op;

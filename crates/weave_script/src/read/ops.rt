@@ -1,6 +1,6 @@
 //! The lines of a transaction.
 ghost use Rattle.std.specs.Prelude.{◌≡◌, ◌∷◌, [], map};
-ghost use Rattle.weave_script.specs.OpLines.{is_end, op_of};
+ghost use Rattle.weave_script.specs.Ops.{is_end, op_of};
 
 use crate::fault::Cause;
 use crate::read::fields::name_of;

@@ -1,5 +1,6 @@
 //! The lines of a text, up to where its script ends.
 ghost use Rattle.std.specs.Prelude.{◌≡◌, ◌≤◌, ◌<◌, ◌^◌, ◌+◌, map, take, length, IfOk, OnOk};
+ghost use Rattle.weave_data.specs.Limits.{most_bytes};
 ghost use Rattle.weave_text.specs.Cutting.{lines_of, words_of, is_skipped};
 ghost use Rattle.weave_script.specs.Indexed.{IsReaderReady};
 ghost use Rattle.weave_script.specs.Parts.{GivesPart, TakesLine};
@@ -8,7 +9,7 @@ ghost use Rattle.weave_script.specs.Reading.{start};
 
 use crate::fault::{Cause, LineFault, ScriptFault};
 use crate::read::lines::{Reader, after_line, start};
-use crate::read::reading::Place;
+use crate::read::partial_script::Place;
 use std::alloc::{AllocError, Global};
 use weave_data::MOST_BYTES;
 use weave_text::{Pieces, first_line, is, is_skipped};
@@ -28,7 +29,7 @@ pub(crate) struct Part<'a> {
 pub(crate) fn read_part(alloc: Global, report: bool, bytes: &[u8]) -> Result<Part<'_>, ScriptFault>
     ensures part { GivesPart result (read_part report bytes.now) }
     ensures from_one { IfOk result (λ part. 1 ≤ part.line) }
-    ensures room { IfOk result (λ part. part.line + length part.left.now ≤ 4194305) }
+    ensures room { IfOk result (λ part. part.line + length part.left.now ≤ most_bytes + 1) }
 {
     if bytes.len() > MOST_BYTES {
         return Err(ScriptFault::Refused {
@@ -43,7 +44,7 @@ fn read_on(alloc: Global, report: bool, bytes: &[u8]) -> Result<Part<'_>, Script
     requires { length bytes.now ≤ MOST_BYTES }
     ensures part { GivesPart result (read_on report 1 start (lines_of bytes.now)) }
     ensures from_one { IfOk result (λ part. 1 ≤ part.line) }
-    ensures room { IfOk result (λ part. part.line + length part.left.now ≤ 4194305) }
+    ensures room { IfOk result (λ part. part.line + length part.left.now ≤ most_bytes + 1) }
 {
     let mut reader = start(alloc);
     let mut words = Vec::new(alloc);

@@ -1,10 +1,11 @@
 //! The lines that begin a transaction, and those that are a program.
 ghost use Rattle.std.specs.Prelude.{◌≡◌, map};
-ghost use Rattle.weave_script.specs.RequestLines.{opening_of, tx_of, filter_of, tag_of, bound_word, show_program, reach_program, around_program, path_program, show_of, reach_of, around_of, path_of, program_of, prog_of};
+ghost use Rattle.weave_script.specs.Requests.{opening_of, tx_of, filter_of, tag_of, bound_word, show_program, reach_program, around_program, path_program, show_of, reach_of, around_of, path_of, program_of, prog_of};
 
 use crate::fault::Cause;
+use crate::limits::MOST_BOUND;
 use crate::read::fields::{name_of, number_in};
-use crate::read::reading::Opening;
+use crate::read::partial_script::Opening;
 use program_defs::{Filter, Program};
 use weave_data::MOST_SESSIONS;
 use weave_text::is;
@@ -153,7 +154,7 @@ fn path_program(
 fn bound_of(word: &[u8]) -> Result<u32, Cause>
     ensures { result ≡ bound_word word.now }
 {
-    number_in(0, 1_000, Cause::Bound, word)
+    number_in(0, MOST_BOUND, Cause::Bound, word)
 }
 
 // No filter, or the one after `where`.

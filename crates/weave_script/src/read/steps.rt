@@ -1,9 +1,10 @@
 //! The lines of steps.
 ghost use Rattle.std.specs.Prelude.{◌≡◌, map};
 ghost use Rattle.weave_data.specs.Pairs.{at_key};
-ghost use Rattle.weave_script.specs.StepLines.{named_request, gate_word, shard_word, notice_word, epoch_word, step_of, step_of_one, step_of_two, step_of_three, hear_of, nop_of, apply_of, epoch_step_of, deliver_of, of_gate, of_shard, of_request};
+ghost use Rattle.weave_script.specs.Steps.{named_request, gate_word, shard_word, notice_word, epoch_word, step_of, step_of_one, step_of_two, step_of_three, hear_of, nop_of, apply_of, epoch_step_of, deliver_of, of_gate, of_shard, of_request};
 
 use crate::fault::Cause;
+use crate::limits::{MOST_EPOCH, MOST_NOTICE};
 use crate::read::fields::{name_of, number_in};
 use program_defs::Step;
 use std::collections::HashMap;
@@ -146,11 +147,11 @@ fn shard_of(sizes: Sizes, word: &[u8]) -> Result<u32, Cause>
 fn notice_of(word: &[u8]) -> Result<u64, Cause>
     ensures { result ≡ notice_word word.now }
 {
-    Ok(u64::from(number_in(1, 100_000, Cause::Number, word)?))
+    Ok(u64::from(number_in(1, MOST_NOTICE, Cause::Number, word)?))
 }
 
 fn epoch_of(word: &[u8]) -> Result<u64, Cause>
     ensures { result ≡ epoch_word word.now }
 {
-    Ok(u64::from(number_in(1, 1_000_000, Cause::Number, word)?))
+    Ok(u64::from(number_in(1, MOST_EPOCH, Cause::Number, word)?))
 }

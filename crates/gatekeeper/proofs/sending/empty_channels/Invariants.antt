@@ -1,6 +1,6 @@
 use Rattle.std.proofs.Common.{◌≡◌, [], All}
 use Rattle.std.specs.Vec.{vec_len}
-use Rattle.shard_queue.specs.Sent.{Channel}
+use Rattle.shard_queue.specs.Outbox.{Channel}
 use Rattle.gatekeeper.specs.declared.places.Place.{Place}
 use Rattle.gatekeeper.proofs.sending.empty_channels.Given as goal
 

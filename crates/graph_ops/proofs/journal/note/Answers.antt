@@ -1,4 +1,4 @@
-use Rattle.std.proofs.Common.{◌≡◌, ◌++◌, [], ◌∷◌, sym, ap, ◌∙◌, subst}
+use Rattle.std.proofs.Common.{◌++◌, [], ◌∷◌, sym, ap, ◌∙◌, subst}
 use Rattle.graph_ops.specs.Slots.{states_of}
 use Rattle.graph_ops.specs.Journals.{CanRewindIn, Keeps}
 use Rattle.graph_ops.specs.TakingBack.{graph_rewound}

@@ -5,7 +5,8 @@ use Rattle.chronicle.specs.declared.note.Note.{Note}
 use Rattle.lock_row.specs.Meetings.{CanMeet, AllMet}
 use Rattle.oracle_lock.specs.Seen.{gates_noted, of_gates}
 use Rattle.lock_row.proofs.Lists.{written}
-use Rattle.oracle_lock.proofs.Notes.{as_many, all_can, met_ready, met_one, notes_on, passes_on, met_legal}
+use Rattle.lock_row.proofs.Meetings.{as_many}
+use Rattle.oracle_lock.proofs.Notes.{all_can, met_ready, met_one, notes_on, passes_on, met_legal}
 use Rattle.oracle_lock.proofs.meeting.meet_gates.Goals as goal
 
 pub meet_others-requires-clause-can : goal.meet_others-requires-clause-can

@@ -6,7 +6,7 @@ use Rattle.graph_ops.specs.PlainGraph.{empty_graph}
 use Rattle.weave_data.specs.Facts.{AllHold, BreaksFirstAt}
 use Rattle.report_rules.specs.Replay.{replay_from, graph_after}
 use Rattle.report_rules.specs.Lookups.{request_at}
-use Rattle.order_witness.specs.Replayed.{MatchesItsReply, TellsOf}
+use Rattle.order_witness.specs.Replay.{MatchesItsReply, TellsOf}
 use Rattle.order_witness.proofs.Replays.{one_more, first_break}
 use Rattle.order_witness.proofs.Visiting.{AreMarkedTo, marked_all, marked_next}
 use Rattle.order_witness.proofs.replay.first_fault.Goals as goal

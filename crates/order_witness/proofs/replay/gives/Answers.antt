@@ -4,7 +4,7 @@ use Rattle.graph_ops.specs.Graphs.{plain_of}
 use Rattle.graph_ops.specs.PlainGraph.{graph_left, transaction}
 use Rattle.graph_ops.specs.declared.tx.Got.{Got}
 use Rattle.order_witness.specs.Answers.{same_got}
-use Rattle.order_witness.specs.Replayed.{GivesAnswers, TellsOf}
+use Rattle.order_witness.specs.Replay.{GivesAnswers, TellsOf}
 use Rattle.order_witness.proofs.Replays.{gave}
 use Rattle.order_witness.proofs.replay.gives.Goals as goal
 

@@ -6,7 +6,7 @@ use Rattle.report_rules.specs.declared.report.Pair.{Pair}
 use Rattle.report_rules.specs.declared.report.Reply.{Reply}
 use Rattle.report_rules.specs.Replay.{MatchesReply, graph_after}
 use Rattle.report_rules.specs.Lookups.{AreBoth, reply_at}
-use Rattle.order_witness.specs.Replayed.{TellsOf}
+use Rattle.order_witness.specs.Replay.{TellsOf}
 use Rattle.order_witness.specs.Visited.{AreMarkedAt, AreMarkedBy}
 use Rattle.order_witness.proofs.Testing.{is_numbered}
 use Rattle.order_witness.proofs.replay.replay.Goals as goal

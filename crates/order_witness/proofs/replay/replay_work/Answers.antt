@@ -5,7 +5,7 @@ use Rattle.graph_ops.specs.PlainGraph.{graph_left, transaction}
 use Rattle.graph_ops.specs.declared.op.Op.{Op}
 use Rattle.program_defs.specs.declared.script.Work.{Work}
 use Rattle.report_rules.specs.Replay.{AnswerMatchesReply, MatchesReply, OutcomeMatchesReply, graph_after_work}
-use Rattle.order_witness.specs.Replayed.{TellsOf}
+use Rattle.order_witness.specs.Replay.{TellsOf}
 use Rattle.order_witness.proofs.Visiting.{with_graph}
 use Rattle.order_witness.proofs.replay.replay_work.Goals as goal
 

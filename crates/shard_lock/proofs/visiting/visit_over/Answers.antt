@@ -9,7 +9,7 @@ use Rattle.chronicle.specs.Holds.{log_at_entry, machine_of}
 use Rattle.lock_row.specs.Rows.{names_of}
 use Rattle.seen_logs.specs.Entries.{oracle_pairs}
 use Rattle.oracle_lock.specs.Seen.{gates_seen, of_gates, OracleView}
-use Rattle.oracle_lock.proofs.Notes.{as_many}
+use Rattle.lock_row.proofs.Meetings.{as_many}
 use Rattle.shard_lock.proofs.Lending.{follows, visited-over}
 use Rattle.shard_lock.proofs.Visits.{stamp-stays}
 use Rattle.shard_lock.proofs.visiting.visit_over.Goals as goal

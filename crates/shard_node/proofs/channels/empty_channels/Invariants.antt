@@ -1,6 +1,6 @@
 use Rattle.std.proofs.Common.{◌≡◌, All}
 use Rattle.std.specs.Vec.{vec_len}
-use Rattle.shard_queue.specs.Incoming.{Incoming, nothing_arrived}
+use Rattle.shard_queue.specs.Inbox.{Incoming, nothing_arrived}
 use Rattle.shard_node.specs.declared.waiting.Waiting.{Waiting}
 use Rattle.shard_node.proofs.channels.empty_channels.Given as goal
 

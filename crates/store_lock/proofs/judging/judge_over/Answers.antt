@@ -10,7 +10,7 @@ use Rattle.lock_row.specs.Rows.{names_of}
 use Rattle.chronicle.specs.Holds.{log_at_entry}
 use Rattle.seen_logs.specs.Entries.{oracle_pairs}
 use Rattle.oracle_lock.specs.Seen.{gates_seen, of_gates, OracleView}
-use Rattle.oracle_lock.proofs.Notes.{as_many}
+use Rattle.lock_row.proofs.Meetings.{as_many}
 use Rattle.store_lock.proofs.Begun.{stamp-stays}
 use Rattle.store_lock.proofs.Committing.{follows}
 use Rattle.store_lock.proofs.judging.judge_over.Goals as goal

@@ -1,6 +1,4 @@
-use Rattle.std.proofs.Common.{arith, ◌≡◌, ◌≤◌, ◌+◌, ◌*◌, take, drop, length, sym, ap, ◌∙◌, subst}
-use Rattle.std.specs.Ordering.{nat_cmp, ordering_then}
-use Rattle.std.specs.Cmp.Lexicographic.{slice_cmp}
+use Rattle.std.proofs.Common.{arith, ◌≡◌, ◌+◌, ◌*◌, sym, ◌∙◌}
 use Rattle.weave_data.proofs.Spelling.{eight_on, decided, undecided}
 use Rattle.weave_data.proofs.letters.order.Goals as goal
 

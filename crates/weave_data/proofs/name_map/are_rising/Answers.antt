@@ -1,4 +1,4 @@
-use Rattle.std.proofs.Common.{◌≡◌, true≢false, refl, sym}
+use Rattle.std.proofs.Common.{true≢false, refl, sym}
 use Rattle.weave_data.proofs.Adjacent.{all_rise, out_of_place}
 use Rattle.weave_data.proofs.name_map.are_rising.Goals as goal
 

@@ -1,7 +1,7 @@
 use Rattle.std.proofs.Common.{◌≡◌, Option, Contains, subst}
 use Rattle.std.specs.Prelude.{IfOk, option_copied}
 use Rattle.std.specs.Option.{ForSome}
-use Rattle.shard_queue.specs.Sent.{sent_as}
+use Rattle.shard_queue.specs.Outbox.{sent_as}
 use Rattle.weave_entries.specs.declared.message.Message.{Message}
 use Rattle.weave_entries.specs.GateReplay.{addressed_to, channel_of}
 use Rattle.weave_account.specs.Seen.{IsMade}

@@ -2,7 +2,8 @@ use Rattle.std.proofs.Common.{ℕ, [], length, sym, ap, ◌∙◌, subst}
 use Rattle.seen_logs.specs.Seen.{AreLegal, IsWithin}
 use Rattle.lock_row.specs.Meetings.{AllMet}
 use Rattle.gate_lock.specs.Notes.{NotedGateView, frame_of_gate, seen_by_gate_passes, seen_of_gate}
-use Rattle.gate_lock.proofs.Meeting.{are_met, as_many, at_locks, can_meet, frame_still, kept_met, notes_on, one_account, passes_on}
+use Rattle.lock_row.proofs.Meetings.{as_many}
+use Rattle.gate_lock.proofs.Meeting.{are_met, at_locks, can_meet, frame_still, kept_met, notes_on, one_account, passes_on}
 use Rattle.gate_lock.proofs.noted_gate.NotedGate.meet.Goals as goal
 
 pub meet-requires-clause-gate_notes : goal.meet-requires-clause-gate_notes

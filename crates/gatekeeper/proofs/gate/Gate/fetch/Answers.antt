@@ -1,7 +1,7 @@
 use Rattle.std.proofs.Common.{refl, sym, ap, ◌∙◌, ◌≡◌, ◌≤◌, arith, length, slice_get, Some}
 use Rattle.std.specs.Option.{option_and_then}
 use Rattle.std.proofs.lemmas.Option.{slice_get_read}
-use Rattle.shard_queue.specs.Sent.{sent_as}
+use Rattle.shard_queue.specs.Outbox.{sent_as}
 use Rattle.gatekeeper.specs.Places.{message_at}
 use Rattle.gatekeeper.specs.Gates.{GateView}
 use Rattle.gatekeeper.proofs.Begins.{fetched_beyond, fetched_at}

@@ -1,5 +1,5 @@
 use Rattle.std.proofs.Common.{refl, sym, ap, subst, ◌∙◌, arith, ◌≡◌, ◌-◌, ◌++◌, ◌∷◌, [], List, Some, length, vec_len, vec_capacity}
-use Rattle.shard_queue.specs.Sent.{Channel}
+use Rattle.shard_queue.specs.Outbox.{Channel}
 use Rattle.weave_entries.specs.declared.message.Addressed.{Addressed}
 use Rattle.weave_entries.specs.declared.gate_log.GateDeed.TheVariants.{Sent}
 use Rattle.weave_entries.specs.GateReplay.{flight_of}

@@ -1,5 +1,4 @@
 use Rattle.std.proofs.Common.{sym, ap, ◌∙◌}
-use Rattle.graph_ops.specs.Graphs.{Vertices}
 use Rattle.graph_ops.specs.PlainGraph.{PlainGraph}
 use Rattle.graph_ops.specs.Pendings.{BothVertices}
 use Rattle.graph_ops.proofs.States.{get_held}

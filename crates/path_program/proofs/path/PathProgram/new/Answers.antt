@@ -1,5 +1,5 @@
 use Rattle.std.proofs.Common.{sym, subst, [], Some}
-use Rattle.path_program.specs.Pathing.{HasPathed}
+use Rattle.path_program.specs.Path.{HasPathed}
 use Rattle.path_program.proofs.path.PathProgram.new.Goals as goal
 
 pub returns-clause-reads : goal.returns-clause-reads

@@ -1,6 +1,6 @@
 use Rattle.std.proofs.Common.{◌≡◌, ◌∙◌, sym, subst}
 use Rattle.program_defs.specs.Visits.{next_visit}
-use Rattle.path_program.specs.Pathing.{HasPathed, path_asked}
+use Rattle.path_program.specs.Path.{HasPathed, path_asked}
 use Rattle.path_program.proofs.path.PathProgramNodeProgram.next_vertex.Goals as goal
 
 pub returns-clause-visit : goal.returns-clause-visit

@@ -1,7 +1,7 @@
 use Rattle.std.proofs.Common.{sym, subst}
 use Rattle.program_defs.specs.LeastWalks.{HasWalked}
 use Rattle.program_defs.specs.declared.program.Program.TheVariants.{Path}
-use Rattle.path_program.specs.Pathing.{HasPathed}
+use Rattle.path_program.specs.Path.{HasPathed}
 use Rattle.path_program.proofs.path.PathProgramNodeProgram.ready.Goals as goal
 
 pub returns-clause-reads : goal.returns-clause-reads

@@ -1,7 +1,7 @@
 use Rattle.std.proofs.Common.{sym, subst, ◌≡◌, ◌∷◌, Some}
 use Rattle.program_defs.specs.LeastWalks.{HasWalked}
 use Rattle.program_defs.specs.declared.program.Program.TheVariants.{Path}
-use Rattle.path_program.specs.Pathing.{HasPathed, next_pathed, path_asked}
+use Rattle.path_program.specs.Path.{HasPathed, next_pathed, path_asked}
 use Rattle.path_program.proofs.path.PathProgramNodeProgram.see.Goals as goal
 
 pub returns-clause-reads : goal.returns-clause-reads

@@ -1,6 +1,6 @@
 use Rattle.std.proofs.Common.{sym, subst, [], Some, None}
 use Rattle.reach_program.specs.declared.reach.Goal.TheVariants.{To}
-use Rattle.reach_program.specs.Reaching.{HasReached}
+use Rattle.reach_program.specs.Reach.{HasReached}
 use Rattle.reach_program.proofs.reach.ReachProgram.new.Goals as goal
 
 pub returns-clause-reads : goal.returns-clause-reads

@@ -3,7 +3,7 @@ use Rattle.program_defs.specs.PlainAnswer.{IsPlainAnswer}
 use Rattle.program_defs.specs.declared.program.Program.TheVariants.{Reach, Around}
 use Rattle.program_defs.specs.declared.program.Answer.TheVariants.{Reached, Found}
 use Rattle.program_defs.specs.Visits.{graph_read}
-use Rattle.reach_program.specs.Reaching.{program_asked, HasReached}
+use Rattle.reach_program.specs.Reach.{program_asked, HasReached}
 use Rattle.reach_program.proofs.reach.ReachProgramNodeProgram.outcome.Goals as goal
 
 pub returns-in-To : goal.returns-in-To

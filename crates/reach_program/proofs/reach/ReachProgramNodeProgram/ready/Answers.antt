@@ -1,6 +1,6 @@
 use Rattle.std.proofs.Common.{sym, subst}
 use Rattle.program_defs.specs.Searching.{HasSearched}
-use Rattle.reach_program.specs.Reaching.{HasReached, program_asked}
+use Rattle.reach_program.specs.Reach.{HasReached, program_asked}
 use Rattle.reach_program.proofs.reach.ReachProgramNodeProgram.ready.Goals as goal
 
 pub returns-clause-reads : goal.returns-clause-reads

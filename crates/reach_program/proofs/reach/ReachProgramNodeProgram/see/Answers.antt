@@ -1,6 +1,6 @@
 use Rattle.std.proofs.Common.{sym, subst, ◌≡◌, ◌∷◌, Some}
 use Rattle.program_defs.specs.Searching.{HasSearched}
-use Rattle.reach_program.specs.Reaching.{HasReached, next_reached, program_asked}
+use Rattle.reach_program.specs.Reach.{HasReached, next_reached, program_asked}
 use Rattle.reach_program.proofs.reach.ReachProgramNodeProgram.see.Goals as goal
 
 pub returns-clause-reads : goal.returns-clause-reads

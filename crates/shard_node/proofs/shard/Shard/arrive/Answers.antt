@@ -1,5 +1,5 @@
 use Rattle.std.proofs.Common.{◌≡◌, ◌++◌, ◌∷◌, [], ◌<◌, Bool, true, false, cond, is_some, List, length, refl, sym, ap, subst, ◌∙◌, arith}
-use Rattle.shard_queue.specs.Incoming.{has_arrived}
+use Rattle.shard_queue.specs.Inbox.{has_arrived}
 use Rattle.shard_queue.specs.declared.inbox.Arrival.TheVariants.{Kept, Repeat}
 use Rattle.weave_entries.specs.declared.shard_log.ShardEntry.{ShardEntry}
 use Rattle.weave_entries.specs.declared.shard_log.ShardDeed.TheVariants.{Arrived}

@@ -1,6 +1,6 @@
 use Rattle.std.proofs.Common.{ap}
 use Rattle.std.specs.Result.{is_ok}
-use Rattle.shard_queue.specs.Sent.{Channel}
+use Rattle.shard_queue.specs.Outbox.{Channel}
 use Rattle.shard_queue.proofs.Rising.{rise_sent}
 use Rattle.shard_queue.proofs.outbox.Outbox.push.Goals as goal
 

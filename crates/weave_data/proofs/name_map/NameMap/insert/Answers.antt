@@ -1,4 +1,4 @@
-use Rattle.std.proofs.Common.{◌≡◌, ◌+◌, ◌≤◌, vec_len, vec_capacity, sym, ap, ◌∙◌, subst, le_trans}
+use Rattle.std.proofs.Common.{◌+◌, ◌≤◌, vec_len, vec_capacity, ap, ◌∙◌, subst, le_trans}
 use Rattle.weave_data.specs.Changes.{places}
 use Rattle.weave_data.specs.Pairs.{put}
 use Rattle.weave_data.specs.Places.{IsGap}

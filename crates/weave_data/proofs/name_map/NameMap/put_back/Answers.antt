@@ -1,4 +1,4 @@
-use Rattle.std.proofs.Common.{◌≡◌, ◌+◌, ◌≤◌, ◌<◌, true, is_some, length, vec_len, vec_capacity, sym, ap, ◌∙◌, subst, le_trans, le_of_eq}
+use Rattle.std.proofs.Common.{◌≡◌, ◌+◌, ◌≤◌, ◌<◌, true, length, vec_len, sym, ap, ◌∙◌, subst, le_trans, le_of_eq}
 use Rattle.weave_data.specs.Changes.{places}
 use Rattle.weave_data.specs.Pairs.{has, put}
 use Rattle.weave_data.specs.Places.{IsAt}

@@ -1,5 +1,4 @@
-use Rattle.std.proofs.Common.{◌≡◌, ◌+◌, ◌-◌, ◌<◌, ◌≤◌, false, is_some, length, sym, ap, ◌∙◌, subst}
-use Rattle.weave_data.specs.Changes.{places}
+use Rattle.std.proofs.Common.{◌≡◌, ◌+◌, false, is_some, sym, ap, ◌∙◌, subst}
 use Rattle.weave_data.specs.Pairs.{has}
 use Rattle.weave_data.specs.Places.{IsGap}
 use Rattle.weave_data.proofs.Finding.{none_in_gap}

@@ -2,8 +2,8 @@ use Rattle.std.proofs.Common.{◌≡◌, [], ◌∷◌, ◌++◌, length, map, O
 use Rattle.program_defs.specs.declared.script.Work.TheVariants.{Look}
 use Rattle.weave_script.specs.Indexed.{IsIndexOf}
 use Rattle.weave_script.specs.Reading.{requests_so_far}
-use Rattle.weave_script.specs.RequestLines.{request_of}
-use Rattle.weave_script.specs.StepLines.{place_of}
+use Rattle.weave_script.specs.Requests.{request_of}
+use Rattle.weave_script.specs.Steps.{place_of}
 use Rattle.weave_script.proofs.Lines.{after_prog-ok, is_free}
 use Rattle.weave_script.proofs.read.lines.after_prog.Goals as goal
 

@@ -1,8 +1,8 @@
 use Rattle.std.proofs.Common.{ℕ, [], ◌∷◌, ◌++◌, map, Option, Ok, sym, ap, ◌∙◌}
 use Rattle.weave_data.specs.declared.name.Name.{Name}
 use Rattle.weave_data.specs.Steps.{◌>>=◌}
-use Rattle.weave_script.specs.StepLines.{step_of}
-use Rattle.weave_script.specs.declared.read.reading.Place.TheVariants.{Behind}
+use Rattle.weave_script.specs.Steps.{step_of}
+use Rattle.weave_script.specs.declared.read.partial_script.Place.TheVariants.{Behind}
 use Rattle.weave_script.proofs.read.lines.after_step.Goals as goal
 
 pub returns-in-Err : goal.returns-in-Err

@@ -3,9 +3,9 @@ use Rattle.program_defs.specs.declared.script.Work.TheVariants.{Change}
 use Rattle.weave_data.specs.Steps.{◌>>=◌}
 use Rattle.weave_script.specs.Indexed.{IsIndexOf}
 use Rattle.weave_script.specs.Reading.{requests_so_far, unless_taken}
-use Rattle.weave_script.specs.RequestLines.{request_of}
-use Rattle.weave_script.specs.StepLines.{place_of}
-use Rattle.weave_script.specs.declared.read.reading.Place.TheVariants.{Inside}
+use Rattle.weave_script.specs.Requests.{request_of}
+use Rattle.weave_script.specs.Steps.{place_of}
+use Rattle.weave_script.specs.declared.read.partial_script.Place.TheVariants.{Inside}
 use Rattle.weave_script.proofs.Lines.{is_free, unless_taken-free}
 use Rattle.weave_script.proofs.read.lines.after_tx.Goals as goal
 

@@ -1,5 +1,5 @@
 use Rattle.std.proofs.Common.{◌≡◌, ◌<◌, [], length, get_or, sym, ap, subst, ◌∙◌}
-use Rattle.shard_queue.specs.Sent.{sent_as}
+use Rattle.shard_queue.specs.Outbox.{sent_as}
 use Rattle.weave_entries.specs.GateReplay.{channel_of}
 use Rattle.weaver_core.specs.GateTable.{GateTable, gate_log_at, log_of_gate}
 use Rattle.weaver_core.proofs.Tables.{image-at, read-at, within-image}

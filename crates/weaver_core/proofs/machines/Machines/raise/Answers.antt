@@ -1,7 +1,7 @@
 use Rattle.std.proofs.Common.{◌≡◌, ◌∙◌, sym, subst}
 use Rattle.program_defs.specs.declared.script.Step.TheVariants.{Epoch}
 use Rattle.report_rules.specs.declared.report.StepAnswer.{StepAnswer}
-use Rattle.weaver_core.specs.Clocking.{Raises}
+use Rattle.weaver_core.specs.Clocks.{Raises}
 use Rattle.weaver_core.specs.Cores.{MachinesDo, MachinesView, CanBeGiven, machines_of}
 use Rattle.weaver_core.proofs.ClockDone.{raise-done}
 use Rattle.weaver_core.proofs.Resting.{gate-there, same-gates}

@@ -1,7 +1,7 @@
 use Rattle.std.proofs.Common.{sym, ap, ◌∙◌, subst, arith, ◌+◌}
 use Rattle.program_defs.specs.declared.script.Work.TheVariants.{Look}
 use Rattle.weave_script.specs.Indexed.{IsSetOf}
-use Rattle.weave_script.specs.RequestLines.{request_of}
+use Rattle.weave_script.specs.Requests.{request_of}
 use Rattle.weave_script.proofs.Indexing.{places_put, vertices_of-push, gets_of-push, programs_of-push}
 use Rattle.weave_script.proofs.read.index.Index.add_program.Goals as goal
 

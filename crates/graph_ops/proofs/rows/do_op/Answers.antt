@@ -1,4 +1,4 @@
-use Rattle.graph_ops.proofs.op.do_op.Goals as goal
+use Rattle.graph_ops.proofs.rows.do_op.Goals as goal
 
 pub returns-in-Create : goal.returns-in-Create
 returns-in-Create c = rw c.in-Create.is (c.create.ensures c.in-Create.v)

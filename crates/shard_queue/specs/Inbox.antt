@@ -4,7 +4,7 @@ use Rattle.std.specs.Option.{option_map}
 use Rattle.std.specs.Ordering.{nat_cmp}
 use Rattle.std.specs.Map.{lookup, remove_entry}
 use Rattle.std.specs.BTreeMap.{insert_entry, is_at}
-use Rattle.shard_queue.specs.Sent.{sent_as}
+use Rattle.shard_queue.specs.Outbox.{sent_as}
 use Rattle.vector_stamp.specs.declared.clock.Stamp.{Stamp}
 
 -- how many messages were processed, the stamp of the last of these, and what waits under its number, in rising order of

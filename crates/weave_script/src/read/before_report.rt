@@ -1,5 +1,6 @@
 //! Reads a script that a report follows.
 ghost use Rattle.std.specs.Prelude.{◌≤◌, ◌+◌, length, IfOk};
+ghost use Rattle.weave_data.specs.Limits.{most_bytes};
 ghost use Rattle.weave_script.specs.Parts.{GivesHead};
 ghost use Rattle.weave_script.specs.ReadText.{head_of_text};
 
@@ -22,7 +23,7 @@ pub(crate) struct Head<'a> {
 pub(crate) fn read_head(alloc: Global, bytes: &[u8]) -> Result<Head<'_>, ScriptFault>
     ensures head { GivesHead result (head_of_text bytes.now) }
     ensures from_one { IfOk result (λ head. 1 ≤ head.line) }
-    ensures room { IfOk result (λ head. head.line + length head.left.now ≤ 4194305) }
+    ensures room { IfOk result (λ head. head.line + length head.left.now ≤ most_bytes + 1) }
 {
     let Part { reader, line, left } = read_part(alloc, true, bytes)?;
     match script_at(reader.reading) {

@@ -5,7 +5,7 @@ use Rattle.workers_account.proofs.InStep.{in-step}
 use Rattle.workers_account.proofs.OwnPrograms.{visits-its-own}
 use Rattle.workers_account.proofs.RepliesKept.{replies-by-hand}
 use Rattle.workers_account.proofs.TurnsKept.{read-in-turn}
-use Rattle.workers_account.proofs.laws.workers_follow_their_sessions.Goals as goal
+use Rattle.workers_account.proofs.session_laws.workers_follow_their_sessions.Goals as goal
 
 pub returns : goal.returns
 returns c = λ shared script number upto from at path within locks keeps own went.

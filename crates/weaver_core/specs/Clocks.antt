@@ -1,7 +1,7 @@
 -- What the machines do at `hear` and `epoch`. No public contract cites this.
 use Rattle.std.specs.Prelude.{◌≡◌, ℕ, true, false, not, nat_lt, List, None, Some}
 use Rattle.vector_stamp.specs.declared.clock.Clock.{Clock}
-use Rattle.shard_queue.specs.Sent.{sent_as}
+use Rattle.shard_queue.specs.Outbox.{sent_as}
 use Rattle.report_rules.specs.declared.report.StepAnswer.{StepAnswer}
 use Rattle.report_rules.specs.declared.report.StepAnswer.TheVariants.{Ok, Old, Unknown}
 use Rattle.weave_entries.specs.declared.gate_log.GateDeed.TheVariants.{Heard, Raised}

@@ -9,7 +9,7 @@ use Rattle.program_defs.specs.declared.script.Request.{Request}
 use Rattle.program_defs.specs.declared.script.Work.{Work}
 use Rattle.weave_text.specs.Lines.{Word, Line}
 use Rattle.weave_script.specs.declared.fault.Cause.TheVariants as causes
-use Rattle.weave_script.specs.declared.read.reading.Opening.{Opening}
+use Rattle.weave_script.specs.declared.read.partial_script.Opening.{Opening}
 use Rattle.weave_data.specs.Steps.{◌>>=◌}
 use Rattle.weave_data.specs.Limits.{last_session, most_bound}
 use Rattle.weave_script.specs.Fields.{ReadOrCause, or_refused, name_word, number_in}
