@@ -14,6 +14,8 @@ import sys
 TOP = sys.argv[1] if len(sys.argv) > 1 else "."
 DECLARED = re.compile(r"^(\s*)(?:pub |abbrev |unfoldable |opaque )*(?:record |data )?([^\s:(){}]+)\s*(?:\([^)]*\)\s*|\{[^}]*\}\s*)*:\s")
 WORD = re.compile(r"^ *(?:pub )?(abbrev|unfoldable|record|data) (?:pub )?([^\s:(){}]+)", re.MULTILINE)
+PLAIN_WORD = re.compile(r"^(?:pub )?(?!use |mod |module |pub )([^\s:(){}]+)(?: *(?:\([^)]*\)|\{[^}]*\}))* : ", re.MULTILINE)
+RECORD = re.compile(r"^(\s*)(?:pub )?(?:record|data) ([^\s:(){}]+)")
 FIRST_WORDS = re.compile(r"^\s*(?:pub |abbrev |unfoldable )*")
 OF_A_FUNCTION = ("Answers.antt", "Invariants.antt", "Proof.antt")
 
@@ -28,7 +30,7 @@ def declarations(path):
             if re.match(r"\s*(use|module|mod|pub mod|pub use)\b", line):
                 last = None
                 continue
-            begins = DECLARED.match(line)
+            begins = DECLARED.match(line) or RECORD.match(line)
             if begins and len(begins[1]) <= 4:
                 is_local = bool(begins[1]) and "abbrev " in line[: begins.start(2)]
                 last = (begins[2], [FIRST_WORDS.sub("", line).strip()], is_local)
@@ -50,9 +52,10 @@ def files(part):
 words, lemmas, names = (collections.defaultdict(set) for _ in range(3))
 for path in files("specs"):
     with open(path, encoding="utf-8") as file:
-        for kind, word in WORD.findall(file.read()):
-            if word[0].isupper() or kind not in ("record", "data"):
-                words[word].add(os.path.relpath(path, f"{TOP}/crates"))
+        text = file.read()
+    for kind, word in [*WORD.findall(text), *(("", it) for it in PLAIN_WORD.findall(text))]:
+        if word[0].isupper() or kind not in ("record", "data"):
+            words[word].add(os.path.relpath(path, f"{TOP}/crates"))
 for path in files("proofs"):
     for name, text, is_local in declarations(path):
         if len(text) > 60:

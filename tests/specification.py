@@ -1,6 +1,6 @@
 #!/usr/bin/env python3
 """Checks a docs/SPECIFICATION.md against a repository: every file, word, function, law, proof, test and edit that a
-table names. Usage: specification.py [root of the repository [the page]]"""
+table names; and the paths that docs/CHANGING.md names. Usage: specification.py [root of the repository [the page]]"""
 import glob, os, re, sys
 ROOT = sys.argv[1] if len(sys.argv) > 1 else '.'
 PAGE = sys.argv[2] if len(sys.argv) > 2 else f'{ROOT}/docs/SPECIFICATION.md'
@@ -171,6 +171,20 @@ for line in re.sub(r'^\|.*$', '', text, flags=re.M).split('\n'):
         if not known(w): print(f'note: nothing in the repository is called `{w}`')
 alle = {(p.split('/')[-3], os.path.splitext(os.path.basename(p))[0]) for p in glob.glob(f'{CR}/*/must-fail/*')}
 print(f'{rules} rules in words, {rows} rows in {len(sections) - 1} sections')
+def check_paths(page):
+    """Each path of a page that says what to touch: `src/..`, `specs/..` or `proofs/..` of a crate that its line names, or a
+    path of the repository."""
+    for number, line in enumerate((read(f'{ROOT}/docs/{page}') or '').split('\n'), 1):
+        crates = [it for it in re.findall(r'`(\w+)`', line) if os.path.isdir(f'{CR}/{it}')]
+        for path in re.findall(r'`([\w./]+)`', line):
+            if '/' not in path or path.endswith('/') or 'NAME' in path: continue
+            count('paths of pages')
+            places = [f'{ROOT}/{path}', f'{CR}/{path}', *(f'{CR}/{it}/{path}' for it in crates)]
+            if not any(os.path.exists(it + end) for it in places for end in ('', '.antt', '.rt')):
+                err(f'{page}:{number}', f'no path {path} in the crates that the line names')
+
+check_paths('CHANGING.md')
+
 print('checked: ' + ', '.join(f'{v} {k}' for k, v in sorted(counts.items())))
 print(f'edits of the repository reached from a row: {len(reached & alle)} of {len(alle)}'
       + ''.join(f'\n  not reached: {c} {n}' for c, n in sorted(alle - reached)))

@@ -1,7 +1,7 @@
 #!/usr/bin/env python3
-"""Lists places that break the rules of layout: lines of definitions and contracts over 120 columns, statements over 500
-characters, public lemmas without a comment line, and names that a file imports from a file of definitions that doesn't
-declare them.
+"""Lists places that break the rules of layout: lines of definitions and contracts over 120 columns, statements and
+clauses over 500 characters, public lemmas without a comment line, and names that a file imports from a file of
+definitions that doesn't declare them.
 
 Run it by hand at the top of the repository, or give the top as the argument. It proves nothing and takes seconds; the
 last list is what to look at first after words were renamed by a script.
@@ -58,6 +58,20 @@ def long_statements(path, lines):
             yield f"{path}:{at + 1}: {len(text)} characters, {begins[2]}"
 
 
+def long_clauses(path, lines):
+    """A clause is what stands in braces after `requires` or `ensures`."""
+    text = "\n".join(it for it in lines if not is_comment(it))
+    for begins in re.finditer(r"\b(?:requires|ensures)(?: \w+)? \{", text):
+        depth, at = 1, begins.end()
+        while depth and at < len(text):
+            depth += {"{": 1, "}": -1}.get(text[at], 0)
+            at += 1
+        size = len(re.sub(r"\s+", " ", text[begins.end() : at - 1]).strip())
+        if size > 500:
+            function = re.findall(r"\bfn (\w+)", text[: begins.start()])
+            yield f"{path}: a clause of {function[-1] if function else '?'} has {size} characters"
+
+
 def bare_lemmas(path, lines):
     inside = None
     for at, line in enumerate(lines):
@@ -101,6 +115,8 @@ for path, name in files():
         found[kinds[0]] += long_lines(path, lines)
     if inside in ("specs", "proofs"):
         found[kinds[1]] += long_statements(path, lines)
+    if inside == "src":
+        found[kinds[1]] += long_clauses(path, lines)
     if inside == "proofs" and name not in OF_A_FUNCTION:
         found[kinds[2]] += bare_lemmas(path, lines)
     found[kinds[3]] += unknown_imports(path, lines)
