@@ -40,7 +40,7 @@ module _ (laws : TextLaws) where
 
   shown_read : (program : Program) (words : List Word) (answer : Answer) → ((state : State) → has_form_for program (Shown state) ≡ true) → is_state_form words ≡ true → shown_in words ≡ Ok answer → IsAnswer program words answer
   shown_read program words answer form h e =
-      let one = bind_ok (read_state words) (λ state. Ok (Shown state)) answer e in
+      let one = bind_ok _ _ answer e in
       let state = (state_read laws) words one.0 h one.1 in
       subst (IsAnswer program words) (ok_is (Shown one.0) answer one.2) (record { form = form one.0; typed = state.0; told = state.1 })
 
@@ -66,7 +66,7 @@ module _ (laws : TextLaws) where
   found_read : (program : Program) (words : List Word) (answer : Answer) → ((names : List Name) → has_form_for program (Found names) ≡ true) → is_found_form words ≡ true → read_found words ≡ Ok answer → IsAnswer program words answer
   found_read program [] answer form h e = absurd cc
   found_read program (word ∷ words) answer form h e =
-      let one = bind_ok (read_names words) (λ names. Ok (Found names)) answer e in
+      let one = bind_ok _ _ answer e in
       let names = (names_read laws) [] words one.0 one.1 in
       subst (IsAnswer program (word ∷ words)) (ok_is (Found one.0) answer one.2) (record {
         form = form one.0;
@@ -79,7 +79,7 @@ module _ (laws : TextLaws) where
   walk_read program (word ∷ words) answer form h e =
       elim (chosen (bytes_eq word (codes "path")) (read_names words >>= λ names. Ok (Walk (Some names))) (Ok (Walk None)) (Ok answer) e) [
         | inl k ↦
-            let one = bind_ok (read_names words) (λ names. Ok (Walk (Some names))) answer k.1 in
+            let one = bind_ok _ _ answer k.1 in
             let names = (names_read laws) [] words one.0 one.1 in
             subst (IsAnswer program (word ∷ words)) (ok_is (Walk (Some one.0)) answer one.2) (record {
               form = form (Some one.0);
@@ -111,7 +111,7 @@ module _ (laws : TextLaws) where
       → (is_answer_form program (answer_words answer) ≡ true) × (answer_in program (answer_words answer) ≡ Ok answer)
   answer_again (Show v) (Shown state) form h =
       let again = (state_again laws) state h in
-      (again.0, then_ok (read_state (state_words state)) (λ state. Ok (Shown state)) state _ again.1 refl)
+      (again.0, then_ok _ _ state _ again.1 refl)
   answer_again (Show v) (Reached b) form h = absurd cc
   answer_again (Show v) (Found names) form h = absurd cc
   answer_again (Show v) (Walk walk) form h = absurd cc
@@ -120,12 +120,12 @@ module _ (laws : TextLaws) where
   answer_again (Reach from to pass) (Shown state) form h = absurd cc
   answer_again (Reach from to pass) (Found names) form h = absurd cc
   answer_again (Reach from to pass) (Walk walk) form h = absurd cc
-  answer_again (Around from bound pass) (Found names) form h = (refl, then_ok (read_names names) (λ names. Ok (Found names)) names _ ((names_again laws) [] names h) refl)
+  answer_again (Around from bound pass) (Found names) form h = (refl, then_ok _ _ names _ ((names_again laws) [] names h) refl)
   answer_again (Around from bound pass) (Shown state) form h = absurd cc
   answer_again (Around from bound pass) (Reached b) form h = absurd cc
   answer_again (Around from bound pass) (Walk walk) form h = absurd cc
   answer_again (Path from to bound pass) (Walk None) form h = (refl, refl)
-  answer_again (Path from to bound pass) (Walk (Some names)) form h = (refl, then_ok (read_names names) (λ names. Ok (Walk (Some names))) names _ ((names_again laws) [] names h) refl)
+  answer_again (Path from to bound pass) (Walk (Some names)) form h = (refl, then_ok _ _ names _ ((names_again laws) [] names h) refl)
   answer_again (Path from to bound pass) (Shown state) form h = absurd cc
   answer_again (Path from to bound pass) (Reached b) form h = absurd cc
   answer_again (Path from to bound pass) (Found names) form h = absurd cc
@@ -165,12 +165,12 @@ module _ (laws : TextLaws) where
   step_answer_read [] answer h e = absurd cc
   step_answer_read (word ∷ []) answer h e = bare_read word answer (or_cause_read cause.Line (bare_answer word) answer e)
   step_answer_read (word ∷ vertex ∷ []) answer h e =
-      let one = bind_ok (name_in vertex) (λ vertex. Ok (step.Waits vertex)) answer e in
+      let one = bind_ok _ _ answer e in
       let name = (name_read laws) vertex one.0 one.1 in
       subst (IsStepAnswer (word ∷ vertex ∷ [])) (ok_is (step.Waits one.0) answer one.2) (record { typed = name.0; told = λ i. is_word word (codes "waits") h i ∷ name.1 i ∷ [] })
   step_answer_read (word ∷ shard ∷ gate ∷ []) answer h e =
-      let one = bind_ok (small_number_in shard) (λ shard. small_number_in gate >>= λ gate. Ok (step.Again shard gate)) answer e in
-      let two = bind_ok (small_number_in gate) (λ gate. Ok (step.Again one.0 gate)) answer one.2 in
+      let one = bind_ok _ _ answer e in
+      let two = bind_ok _ _ answer one.2 in
       let s = (small_number_read laws) shard one.0 one.1 in
       let g = (small_number_read laws) gate two.0 two.1 in
       subst (IsStepAnswer (word ∷ shard ∷ gate ∷ [])) (ok_is (step.Again one.0 two.0) answer two.2) (record { typed = (s.1, g.1); told = λ i. is_word word (codes "again") h i ∷ s.0 i ∷ g.0 i ∷ [] })
@@ -187,9 +187,9 @@ module _ (laws : TextLaws) where
   step_answer_again step.Unknown h = (refl, refl)
   step_answer_again step.Repeat h = (refl, refl)
   step_answer_again step.Empty h = (refl, refl)
-  step_answer_again (step.Waits vertex) h = (refl, then_ok (name_in vertex) (λ vertex. Ok (step.Waits vertex)) vertex _ ((name_again laws) vertex h) refl)
+  step_answer_again (step.Waits vertex) h = (refl, then_ok _ _ vertex _ ((name_again laws) vertex h) refl)
   step_answer_again (step.Again shard gate) h = (
     refl,
-    then_ok (small_number_in (decimal shard)) (λ shard. small_number_in (decimal gate) >>= λ gate. Ok (step.Again shard gate)) shard _ ((small_number_again laws) shard h.0)
-        (then_ok (small_number_in (decimal gate)) (λ gate. Ok (step.Again shard gate)) gate _ ((small_number_again laws) gate h.1) refl),
+    then_ok _ _ shard _ ((small_number_again laws) shard h.0)
+        (then_ok _ _ gate _ ((small_number_again laws) gate h.1) refl),
   )

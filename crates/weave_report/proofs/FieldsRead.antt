@@ -39,7 +39,7 @@ module _ (laws : TextLaws) where
   pub names_read : (before : List Name) (words : List Word) (names : List Name) → names_from before words ≡ Ok names → (names ≡ before ++ words) × AllByRecursion IsName words
   names_read before [] names e = (sym (ok_is before names e) ∙ sym (append-nil before), tt)
   names_read before (word ∷ words) names e =
-      let one = bind_ok (name_in word) (λ name. names_from (before ++ name ∷ []) words) names e in
+      let one = bind_ok _ _ names e in
       let name = name_read word one.0 one.1 in
       let rest = names_read (before ++ one.0 ∷ []) words names one.2 in
       (rest.0 ∙ append_assoc before (one.0 ∷ []) words ∙ ap (λ name. before ++ name ∷ words) (sym name.1), (subst IsName (sym name.1) name.0, rest.1))
@@ -48,7 +48,7 @@ module _ (laws : TextLaws) where
   pub names_again : (before names : List Name) → AllByRecursion IsName names → names_from before names ≡ Ok (before ++ names)
   names_again before [] h = ap (λ names. Ok names) (sym (append-nil before))
   names_again before (name ∷ names) h =
-      then_ok (name_in name) (λ name. names_from (before ++ name ∷ []) names) name _ (name_again name h.0)
+      then_ok _ _ name _ (name_again name h.0)
       (names_again (before ++ name ∷ []) names h.1 ∙ ap (λ names. Ok names) (append_assoc before (name ∷ []) names))
 
   -- ---- numbers
@@ -64,7 +64,7 @@ module _ (laws : TextLaws) where
   -- a word that is read as a number of 32 bits is this number's word, and the number has 32 bits
   pub small_number_read : (word : Word) (n : ℕ) → small_number_in word ≡ Ok n → (word ≡ decimal n) × (n < 2 ^ 32)
   small_number_read word n e =
-      let one = bind_ok (read_number word) (λ number. cond (nat_lt number (2 ^ 32)) (Ok number) (Err cause.Number)) n e in
+      let one = bind_ok _ _ n e in
       let test = passed (nat_lt one.0 (2 ^ 32)) (Ok one.0) cause.Number n one.2 in
       let same = ok_is one.0 n test.1 in
       ((number_read word one.0 one.1).0 ∙ ap decimal same, subst (λ n. n < 2 ^ 32) same (ltb-true one.0 (2 ^ 32) test.0))
@@ -72,7 +72,7 @@ module _ (laws : TextLaws) where
   -- a number of 32 bits is read from its word as one
   pub small_number_again : (n : ℕ) → n < 2 ^ 32 → small_number_in (decimal n) ≡ Ok n
   small_number_again n h =
-      then_ok (read_number (decimal n)) (λ number. cond (nat_lt number (2 ^ 32)) (Ok number) (Err cause.Number)) n _ (number_again n (omega arith))
+      then_ok _ _ n _ (number_again n (omega arith))
       (cond-true (nat_lt n (2 ^ 32)) _ _ (lt-ltb n (2 ^ 32) h))
 
   is_equal : (n : ℕ) (read : Option ℕ) → option_eq nat_eq read (Some n) ≡ true → read ≡ Some n

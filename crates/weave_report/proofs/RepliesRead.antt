@@ -83,8 +83,8 @@ module _ (laws : TextLaws) where
 
   unbegun_read : (program : Bool) (script : Script) (name : Word) (line : ReplyLine) → unbegun_in program script name ≡ Ok line → IsReplyLine script (kind_text program ∷ name ∷ codes "unbegun" ∷ []) line
   unbegun_read program script name line e =
-      let one = bind_ok (name_in name) (λ name. kind_named program script name >>= λ r. Ok (Whole (record { request = r; stamp = None; state = told.Unbegun }))) line e in
-      let two = bind_ok (kind_named program script one.0) (λ r. Ok (Whole (record { request = r; stamp = None; state = told.Unbegun }))) line one.2 in
+      let one = bind_ok _ _ line e in
+      let two = bind_ok _ _ line one.2 in
       let kind = kind_read program script one.0 two.0 two.1 in
       let text : name ≡ name_at script two.0 = ((name_read laws) name one.0 one.1).1 ∙ kind.named in
       subst (IsReplyLine script (kind_text program ∷ name ∷ codes "unbegun" ∷ [])) (ok_is (Whole (record { request = two.0; stamp = None; state = told.Unbegun })) line two.2) (record {
@@ -100,9 +100,9 @@ module _ (laws : TextLaws) where
 
   begun_read : (program : Bool) (script : Script) (name stamp : Word) (line : ReplyLine) → read_begun program script name stamp ≡ Ok line → IsReplyLine script (kind_text program ∷ name ∷ stamp ∷ begun_text program ∷ []) line
   begun_read program script name stamp line e =
-      let one = bind_ok (name_in name) (λ name. read_stamp script.gates stamp >>= λ stamp. kind_named program script name >>= λ r. Ok (Whole (record { request = r; stamp = Some stamp; state = told.Begun }))) line e in
-      let two = bind_ok (read_stamp script.gates stamp) (λ stamp. kind_named program script one.0 >>= λ r. Ok (Whole (record { request = r; stamp = Some stamp; state = told.Begun }))) line one.2 in
-      let three = bind_ok (kind_named program script one.0) (λ r. Ok (Whole (record { request = r; stamp = Some two.0; state = told.Begun }))) line two.2 in
+      let one = bind_ok _ _ line e in
+      let two = bind_ok _ _ line one.2 in
+      let three = bind_ok _ _ line two.2 in
       let kind = kind_read program script one.0 three.0 three.1 in
       let text : name ≡ name_at script three.0 = ((name_read laws) name one.0 one.1).1 ∙ kind.named in
       let stamp_is = (stamp_read laws) script stamp two.0 two.1 in
@@ -121,10 +121,10 @@ module _ (laws : TextLaws) where
 
   committed_read : (script : Script) (name stamp number : Word) (line : ReplyLine) → committed_in script name stamp number ≡ Ok line → IsReplyLine script (codes "tx" ∷ name ∷ stamp ∷ codes "committed" ∷ number ∷ []) line
   committed_read script name stamp number line e =
-      let one = bind_ok (name_in name) (λ name. read_stamp script.gates stamp >>= λ stamp. read_number number >>= λ number. kind_named false script name >>= λ r. Ok (Committed (record { request = r; stamp = stamp; number = number; gets = get_numbers script r }))) line e in
-      let two = bind_ok (read_stamp script.gates stamp) (λ stamp. read_number number >>= λ number. kind_named false script one.0 >>= λ r. Ok (Committed (record { request = r; stamp = stamp; number = number; gets = get_numbers script r }))) line one.2 in
-      let three = bind_ok (read_number number) (λ number. kind_named false script one.0 >>= λ r. Ok (Committed (record { request = r; stamp = two.0; number = number; gets = get_numbers script r }))) line two.2 in
-      let four = bind_ok (kind_named false script one.0) (λ r. Ok (Committed (record { request = r; stamp = two.0; number = three.0; gets = get_numbers script r }))) line three.2 in
+      let one = bind_ok _ _ line e in
+      let two = bind_ok _ _ line one.2 in
+      let three = bind_ok _ _ line two.2 in
+      let four = bind_ok _ _ line three.2 in
       let kind = kind_read false script one.0 four.0 four.1 in
       let text : name ≡ name_at script four.0 = ((name_read laws) name one.0 one.1).1 ∙ kind.named in
       let stamp_is = (stamp_read laws) script stamp two.0 two.1 in
@@ -136,12 +136,12 @@ module _ (laws : TextLaws) where
 
   conflict_read : (script : Script) (name stamp vertex newer : Word) (line : ReplyLine) → conflict_in script name stamp vertex newer ≡ Ok line → IsReplyLine script (codes "tx" ∷ name ∷ stamp ∷ codes "conflict" ∷ vertex ∷ newer ∷ []) line
   conflict_read script name stamp vertex newer line e =
-      let one = bind_ok (name_in name) (λ name. read_stamp script.gates stamp >>= λ stamp. name_in vertex >>= λ vertex. name_in newer >>= λ newer. kind_named false script name >>= λ r. any_named script newer >>= λ newer. Ok (Whole (record { request = r; stamp = Some stamp; state = told.Conflict vertex newer }))) line e in
-      let two = bind_ok (read_stamp script.gates stamp) (λ stamp. name_in vertex >>= λ vertex. name_in newer >>= λ newer. kind_named false script one.0 >>= λ r. any_named script newer >>= λ newer. Ok (Whole (record { request = r; stamp = Some stamp; state = told.Conflict vertex newer }))) line one.2 in
-      let three = bind_ok (name_in vertex) (λ vertex. name_in newer >>= λ newer. kind_named false script one.0 >>= λ r. any_named script newer >>= λ newer. Ok (Whole (record { request = r; stamp = Some two.0; state = told.Conflict vertex newer }))) line two.2 in
-      let four = bind_ok (name_in newer) (λ newer. kind_named false script one.0 >>= λ r. any_named script newer >>= λ newer. Ok (Whole (record { request = r; stamp = Some two.0; state = told.Conflict three.0 newer }))) line three.2 in
-      let five = bind_ok (kind_named false script one.0) (λ r. any_named script four.0 >>= λ newer. Ok (Whole (record { request = r; stamp = Some two.0; state = told.Conflict three.0 newer }))) line four.2 in
-      let six = bind_ok (any_named script four.0) (λ newer. Ok (Whole (record { request = five.0; stamp = Some two.0; state = told.Conflict three.0 newer }))) line five.2 in
+      let one = bind_ok _ _ line e in
+      let two = bind_ok _ _ line one.2 in
+      let three = bind_ok _ _ line two.2 in
+      let four = bind_ok _ _ line three.2 in
+      let five = bind_ok _ _ line four.2 in
+      let six = bind_ok _ _ line five.2 in
       let kind = kind_read false script one.0 five.0 five.1 in
       let text : name ≡ name_at script five.0 = ((name_read laws) name one.0 one.1).1 ∙ kind.named in
       let stamp_is = (stamp_read laws) script stamp two.0 two.1 in
@@ -158,12 +158,12 @@ module _ (laws : TextLaws) where
   refused_read : (script : Script) (name stamp op reason at : Word) (line : ReplyLine) → refused_in script name stamp op reason at ≡ Ok line
       → IsReplyLine script (codes "tx" ∷ name ∷ stamp ∷ codes "refused" ∷ op ∷ reason ∷ codes "at" ∷ at ∷ []) line
   refused_read script name stamp op reason at line e =
-      let one = bind_ok (name_in name) (λ name. read_stamp script.gates stamp >>= λ stamp. small_number_in op >>= λ op. reason_in reason >>= λ reason. read_number at >>= λ at. kind_named false script name >>= λ r. Ok (Whole (record { request = r; stamp = Some stamp; state = told.Refused op reason at }))) line e in
-      let two = bind_ok (read_stamp script.gates stamp) (λ stamp. small_number_in op >>= λ op. reason_in reason >>= λ reason. read_number at >>= λ at. kind_named false script one.0 >>= λ r. Ok (Whole (record { request = r; stamp = Some stamp; state = told.Refused op reason at }))) line one.2 in
-      let three = bind_ok (small_number_in op) (λ op. reason_in reason >>= λ reason. read_number at >>= λ at. kind_named false script one.0 >>= λ r. Ok (Whole (record { request = r; stamp = Some two.0; state = told.Refused op reason at }))) line two.2 in
-      let four = bind_ok (reason_in reason) (λ reason. read_number at >>= λ at. kind_named false script one.0 >>= λ r. Ok (Whole (record { request = r; stamp = Some two.0; state = told.Refused three.0 reason at }))) line three.2 in
-      let five = bind_ok (read_number at) (λ at. kind_named false script one.0 >>= λ r. Ok (Whole (record { request = r; stamp = Some two.0; state = told.Refused three.0 four.0 at }))) line four.2 in
-      let six = bind_ok (kind_named false script one.0) (λ r. Ok (Whole (record { request = r; stamp = Some two.0; state = told.Refused three.0 four.0 five.0 }))) line five.2 in
+      let one = bind_ok _ _ line e in
+      let two = bind_ok _ _ line one.2 in
+      let three = bind_ok _ _ line two.2 in
+      let four = bind_ok _ _ line three.2 in
+      let five = bind_ok _ _ line four.2 in
+      let six = bind_ok _ _ line five.2 in
       let kind = kind_read false script one.0 six.0 six.1 in
       let text : name ≡ name_at script six.0 = ((name_read laws) name one.0 one.1).1 ∙ kind.named in
       let stamp_is = (stamp_read laws) script stamp two.0 two.1 in
@@ -210,8 +210,8 @@ module _ (laws : TextLaws) where
       absurd (err_is_not cause.Request line one.2)
   finished_told script name stamp answer (Some (r, program)) line h e =
       let test = passed (is_answer_form program answer) (read_stamp script.gates stamp >>= λ stamp. answer_in program answer >>= λ answer. Ok (Whole (record { request = r; stamp = Some stamp; state = told.Finished answer }))) cause.Line line e in
-      let one = bind_ok (read_stamp script.gates stamp) (λ stamp. answer_in program answer >>= λ answer. Ok (Whole (record { request = r; stamp = Some stamp; state = told.Finished answer }))) line test.1 in
-      let two = bind_ok (answer_in program answer) (λ answer. Ok (Whole (record { request = r; stamp = Some one.0; state = told.Finished answer }))) line one.2 in
+      let one = bind_ok _ _ line test.1 in
+      let two = bind_ok _ _ line one.2 in
       let at = program_read script name r program h in
       let stamp_is = (stamp_read laws) script stamp one.0 one.1 in
       let answer_is = (answer_read laws) program answer two.0 test.0 two.1 in
@@ -226,7 +226,7 @@ module _ (laws : TextLaws) where
 
   finished_read : (script : Script) (name stamp : Word) (answer : List Word) (line : ReplyLine) → finished_in script name stamp answer ≡ Ok line → IsReplyLine script (codes "prog" ∷ name ∷ stamp ∷ codes "done" ∷ answer) line
   finished_read script name stamp answer line e =
-      let one = bind_ok (name_in name) (λ name. finished_by (program_named script name) script stamp answer) line e in
+      let one = bind_ok _ _ line e in
       let same = ((name_read laws) name one.0 one.1).1 in
       subst (λ (name : Word). IsReplyLine script (codes "prog" ∷ name ∷ stamp ∷ codes "done" ∷ answer) line) (sym same) (finished_told script one.0 stamp answer (program_named script one.0) line refl one.2)
 
@@ -262,8 +262,8 @@ module _ (laws : TextLaws) where
   got_read op (word ∷ number ∷ state) got e =
       let test = passed (bytes_eq word (codes "got") && is_state_form state) (this_number_in op number >>= λ op. read_state state >>= λ state. Ok (record { op = op; state = state })) cause.Line got e in
       let forms = and_parts (bytes_eq word (codes "got")) (is_state_form state) test.0 in
-      let one = bind_ok (this_number_in op number) (λ op. read_state state >>= λ state. Ok (record { op = op; state = state })) got test.1 in
-      let two = bind_ok (read_state state) (λ state. Ok (record { op = one.0; state = state })) got one.2 in
+      let one = bind_ok _ _ got test.1 in
+      let two = bind_ok _ _ got one.2 in
       let number_is = (this_number_read laws) op number one.0 one.1 in
       let state_is = (state_read laws) state two.0 forms.1 two.1 in
       subst (IsGot op (word ∷ number ∷ state)) (ok_is (record { op = one.0; state = two.0 }) got two.2) (record {
@@ -277,5 +277,5 @@ module _ (laws : TextLaws) where
   got_again got h =
       let state = (state_again laws) got.state h.state in
       cond-true (is_state_form (state_words got.state)) _ _ state.0
-      ∙ then_ok (this_number_in got.op (decimal got.op)) (λ op. read_state (state_words got.state) >>= λ state. Ok (record { op = op; state = state })) got.op _ ((this_number_again laws) got.op (omega (arith, h.op)))
-      (then_ok (read_state (state_words got.state)) (λ state. Ok (record { op = got.op; state = state })) got.state _ state.1 refl)
+      ∙ then_ok _ _ got.op _ ((this_number_again laws) got.op (omega (arith, h.op)))
+      (then_ok _ _ got.state _ state.1 refl)

@@ -59,43 +59,43 @@ module _ (laws : TextLaws) where
   unbegun_again : (program : Bool) (script : Script) (r : ℕ) → IsReadable script → r < length script.requests → is_program script r ≡ program
       → unbegun_in program script (name_at script r) ≡ Ok (Whole (record { request = r; stamp = None; state = told.Unbegun }))
   unbegun_again program script r h within kind =
-      then_ok (name_in (name_at script r)) (λ name. kind_named program script name >>= λ r. Ok (Whole (record { request = r; stamp = None; state = told.Unbegun }))) (name_at script r) _ ((name_again laws) (name_at script r) (name_is_name script r h.typed within))
-      (then_ok (kind_named program script (name_at script r)) (λ r. Ok (Whole (record { request = r; stamp = None; state = told.Unbegun }))) r _ (kind_again program script r h.tells within kind) refl)
+      then_ok _ _ (name_at script r) _ ((name_again laws) (name_at script r) (name_is_name script r h.typed within))
+      (then_ok _ _ r _ (kind_again program script r h.tells within kind) refl)
 
   begun_again : (program : Bool) (script : Script) (r : ℕ) (stamp : Stamp) → IsReadable script → r < length script.requests → is_program script r ≡ program → IsTrue (is_stamp_of script stamp)
       → read_begun program script (name_at script r) (stamp_text script.gates stamp) ≡ Ok (Whole (record { request = r; stamp = Some stamp; state = told.Begun }))
   begun_again program script r stamp h within kind k =
-      then_ok (name_in (name_at script r)) (λ name. read_stamp script.gates (stamp_text script.gates stamp) >>= λ stamp. kind_named program script name >>= λ r. Ok (Whole (record { request = r; stamp = Some stamp; state = told.Begun }))) (name_at script r) _ ((name_again laws) (name_at script r) (name_is_name script r h.typed within))
-      (then_ok (read_stamp script.gates (stamp_text script.gates stamp)) (λ stamp. kind_named program script (name_at script r) >>= λ r. Ok (Whole (record { request = r; stamp = Some stamp; state = told.Begun }))) stamp _ ((stamp_again laws) script stamp h.typed.gates k)
-      (then_ok (kind_named program script (name_at script r)) (λ r. Ok (Whole (record { request = r; stamp = Some stamp; state = told.Begun }))) r _ (kind_again program script r h.tells within kind) refl))
+      then_ok _ _ (name_at script r) _ ((name_again laws) (name_at script r) (name_is_name script r h.typed within))
+      (then_ok _ _ stamp _ ((stamp_again laws) script stamp h.typed.gates k)
+      (then_ok _ _ r _ (kind_again program script r h.tells within kind) refl))
 
   committed_again : (script : Script) (r : ℕ) (stamp : Stamp) (number : ℕ) → IsReadable script → r < length script.requests → is_program script r ≡ false → IsTrue (is_stamp_of script stamp) → number < 2 ^ 64
       → committed_in script (name_at script r) (stamp_text script.gates stamp) (decimal number) ≡ Ok (Committed (record { request = r; stamp = stamp; number = number; gets = get_numbers script r }))
   committed_again script r stamp number h within kind k small =
-      then_ok (name_in (name_at script r)) (λ name. read_stamp script.gates (stamp_text script.gates stamp) >>= λ stamp. read_number (decimal number) >>= λ number. kind_named false script name >>= λ r. Ok (Committed (record { request = r; stamp = stamp; number = number; gets = get_numbers script r }))) (name_at script r) _ ((name_again laws) (name_at script r) (name_is_name script r h.typed within))
-      (then_ok (read_stamp script.gates (stamp_text script.gates stamp)) (λ stamp. read_number (decimal number) >>= λ number. kind_named false script (name_at script r) >>= λ r. Ok (Committed (record { request = r; stamp = stamp; number = number; gets = get_numbers script r }))) stamp _ ((stamp_again laws) script stamp h.typed.gates k)
-      (then_ok (read_number (decimal number)) (λ number. kind_named false script (name_at script r) >>= λ r. Ok (Committed (record { request = r; stamp = stamp; number = number; gets = get_numbers script r }))) number _ ((number_again laws) number small)
-      (then_ok (kind_named false script (name_at script r)) (λ r. Ok (Committed (record { request = r; stamp = stamp; number = number; gets = get_numbers script r }))) r _ (kind_again false script r h.tells within kind) refl)))
+      then_ok _ _ (name_at script r) _ ((name_again laws) (name_at script r) (name_is_name script r h.typed within))
+      (then_ok _ _ stamp _ ((stamp_again laws) script stamp h.typed.gates k)
+      (then_ok _ _ number _ ((number_again laws) number small)
+      (then_ok _ _ r _ (kind_again false script r h.tells within kind) refl)))
 
   conflict_again : (script : Script) (r : ℕ) (stamp : Stamp) (vertex : Name) (newer : ℕ) → IsReadable script → r < length script.requests → is_program script r ≡ false → IsTrue (is_stamp_of script stamp) → IsName vertex → newer < length script.requests
       → conflict_in script (name_at script r) (stamp_text script.gates stamp) vertex (name_at script newer) ≡ Ok (Whole (record { request = r; stamp = Some stamp; state = told.Conflict vertex newer }))
   conflict_again script r stamp vertex newer h within kind k named there =
-      then_ok (name_in (name_at script r)) (λ name. read_stamp script.gates (stamp_text script.gates stamp) >>= λ stamp. name_in vertex >>= λ vertex. name_in (name_at script newer) >>= λ newer. kind_named false script name >>= λ r. any_named script newer >>= λ newer. Ok (Whole (record { request = r; stamp = Some stamp; state = told.Conflict vertex newer }))) (name_at script r) _ ((name_again laws) (name_at script r) (name_is_name script r h.typed within))
-      (then_ok (read_stamp script.gates (stamp_text script.gates stamp)) (λ stamp. name_in vertex >>= λ vertex. name_in (name_at script newer) >>= λ newer. kind_named false script (name_at script r) >>= λ r. any_named script newer >>= λ newer. Ok (Whole (record { request = r; stamp = Some stamp; state = told.Conflict vertex newer }))) stamp _ ((stamp_again laws) script stamp h.typed.gates k)
-      (then_ok (name_in vertex) (λ vertex. name_in (name_at script newer) >>= λ newer. kind_named false script (name_at script r) >>= λ r. any_named script newer >>= λ newer. Ok (Whole (record { request = r; stamp = Some stamp; state = told.Conflict vertex newer }))) vertex _ ((name_again laws) vertex named)
-      (then_ok (name_in (name_at script newer)) (λ newer. kind_named false script (name_at script r) >>= λ r. any_named script newer >>= λ newer. Ok (Whole (record { request = r; stamp = Some stamp; state = told.Conflict vertex newer }))) (name_at script newer) _ ((name_again laws) (name_at script newer) (name_is_name script newer h.typed there))
-      (then_ok (kind_named false script (name_at script r)) (λ r. any_named script (name_at script newer) >>= λ newer. Ok (Whole (record { request = r; stamp = Some stamp; state = told.Conflict vertex newer }))) r _ (kind_again false script r h.tells within kind)
-      (then_ok (any_named script (name_at script newer)) (λ newer. Ok (Whole (record { request = r; stamp = Some stamp; state = told.Conflict vertex newer }))) newer _ (any_again script newer h.tells there) refl)))))
+      then_ok _ _ (name_at script r) _ ((name_again laws) (name_at script r) (name_is_name script r h.typed within))
+      (then_ok _ _ stamp _ ((stamp_again laws) script stamp h.typed.gates k)
+      (then_ok _ _ vertex _ ((name_again laws) vertex named)
+      (then_ok _ _ (name_at script newer) _ ((name_again laws) (name_at script newer) (name_is_name script newer h.typed there))
+      (then_ok _ _ r _ (kind_again false script r h.tells within kind)
+      (then_ok _ _ newer _ (any_again script newer h.tells there) refl)))))
 
   refused_again : (script : Script) (r : ℕ) (stamp : Stamp) (op : ℕ) (reason : Reason) (at : ℕ) → IsReadable script → r < length script.requests → is_program script r ≡ false → IsTrue (is_stamp_of script stamp) → op < 2 ^ 32 → at < 2 ^ 64
       → refused_in script (name_at script r) (stamp_text script.gates stamp) (decimal op) (reason_text reason) (decimal at) ≡ Ok (Whole (record { request = r; stamp = Some stamp; state = told.Refused op reason at }))
   refused_again script r stamp op reason at h within kind k small fits =
-      then_ok (name_in (name_at script r)) (λ name. read_stamp script.gates (stamp_text script.gates stamp) >>= λ stamp. small_number_in (decimal op) >>= λ op. reason_in (reason_text reason) >>= λ reason. read_number (decimal at) >>= λ at. kind_named false script name >>= λ r. Ok (Whole (record { request = r; stamp = Some stamp; state = told.Refused op reason at }))) (name_at script r) _ ((name_again laws) (name_at script r) (name_is_name script r h.typed within))
-      (then_ok (read_stamp script.gates (stamp_text script.gates stamp)) (λ stamp. small_number_in (decimal op) >>= λ op. reason_in (reason_text reason) >>= λ reason. read_number (decimal at) >>= λ at. kind_named false script (name_at script r) >>= λ r. Ok (Whole (record { request = r; stamp = Some stamp; state = told.Refused op reason at }))) stamp _ ((stamp_again laws) script stamp h.typed.gates k)
-      (then_ok (small_number_in (decimal op)) (λ op. reason_in (reason_text reason) >>= λ reason. read_number (decimal at) >>= λ at. kind_named false script (name_at script r) >>= λ r. Ok (Whole (record { request = r; stamp = Some stamp; state = told.Refused op reason at }))) op _ ((small_number_again laws) op small)
-      (then_ok (reason_in (reason_text reason)) (λ reason. read_number (decimal at) >>= λ at. kind_named false script (name_at script r) >>= λ r. Ok (Whole (record { request = r; stamp = Some stamp; state = told.Refused op reason at }))) reason _ ((reason_again laws) reason)
-      (then_ok (read_number (decimal at)) (λ at. kind_named false script (name_at script r) >>= λ r. Ok (Whole (record { request = r; stamp = Some stamp; state = told.Refused op reason at }))) at _ ((number_again laws) at fits)
-      (then_ok (kind_named false script (name_at script r)) (λ r. Ok (Whole (record { request = r; stamp = Some stamp; state = told.Refused op reason at }))) r _ (kind_again false script r h.tells within kind) refl)))))
+      then_ok _ _ (name_at script r) _ ((name_again laws) (name_at script r) (name_is_name script r h.typed within))
+      (then_ok _ _ stamp _ ((stamp_again laws) script stamp h.typed.gates k)
+      (then_ok _ _ op _ ((small_number_again laws) op small)
+      (then_ok _ _ reason _ ((reason_again laws) reason)
+      (then_ok _ _ at _ ((number_again laws) at fits)
+      (then_ok _ _ r _ (kind_again false script r h.tells within kind) refl)))))
 
   finished_again : (script : Script) (r : ℕ) (request : Request) (program : Program) (stamp : Stamp) (answer : Answer) → IsReadable script → request_at script r ≡ Some request → request.work ≡ Look program → IsTrue (is_stamp_of script stamp)
       → has_form_for program answer ≡ true → IsTypedAnswer answer
@@ -103,11 +103,11 @@ module _ (laws : TextLaws) where
   finished_again script r request program stamp answer h there work k form typed =
       let words = answer_words answer in
       let again = (answer_again laws) program answer form typed in
-      then_ok (name_in (name_at script r)) (λ name. finished_by (program_named script name) script (stamp_text script.gates stamp) words) (name_at script r) _ ((name_again laws) (name_at script r) (name_is_name script r h.typed (within_place script.requests r request there)))
+      then_ok _ _ (name_at script r) _ ((name_again laws) (name_at script r) (name_is_name script r h.typed (within_place script.requests r request there)))
       (ap (λ o. finished_by o script (stamp_text script.gates stamp) words) (program_again script r request program h.tells there work)
       ∙ cond-true (is_answer_form program words) _ _ again.0
-      ∙ then_ok (read_stamp script.gates (stamp_text script.gates stamp)) (λ stamp. answer_in program words >>= λ answer. Ok (Whole (record { request = r; stamp = Some stamp; state = told.Finished answer }))) stamp _ ((stamp_again laws) script stamp h.typed.gates k)
-      (then_ok (answer_in program words) (λ answer. Ok (Whole (record { request = r; stamp = Some stamp; state = told.Finished answer }))) answer _ again.1 refl))
+      ∙ then_ok _ _ stamp _ ((stamp_again laws) script stamp h.typed.gates k)
+      (then_ok _ _ answer _ again.1 refl))
 
   -- ---- several lines
 
@@ -226,11 +226,11 @@ module _ (laws : TextLaws) where
       let ends = and_parts (is_request_of script pair.earlier) (is_request_of script pair.later) of in
       let earlier = request_within script pair.earlier ends.0 in
       let later = request_within script pair.later ends.1 in
-      then_ok (name_in pair.vertex) (λ vertex. name_in (name_at script pair.earlier) >>= λ earlier. name_in (name_at script pair.later) >>= λ later. any_named script earlier >>= λ earlier. any_named script later >>= λ later. Ok (record { vertex = vertex; earlier = earlier; later = later })) pair.vertex _ ((name_again laws) pair.vertex named)
-      (then_ok (name_in (name_at script pair.earlier)) (λ earlier. name_in (name_at script pair.later) >>= λ later. any_named script earlier >>= λ earlier. any_named script later >>= λ later. Ok (record { vertex = pair.vertex; earlier = earlier; later = later })) (name_at script pair.earlier) _ ((name_again laws) (name_at script pair.earlier) (name_is_name script pair.earlier h.typed earlier))
-      (then_ok (name_in (name_at script pair.later)) (λ later. any_named script (name_at script pair.earlier) >>= λ earlier. any_named script later >>= λ later. Ok (record { vertex = pair.vertex; earlier = earlier; later = later })) (name_at script pair.later) _ ((name_again laws) (name_at script pair.later) (name_is_name script pair.later h.typed later))
-      (then_ok (any_named script (name_at script pair.earlier)) (λ earlier. any_named script (name_at script pair.later) >>= λ later. Ok (record { vertex = pair.vertex; earlier = earlier; later = later })) pair.earlier _ (any_again script pair.earlier h.tells earlier)
-      (then_ok (any_named script (name_at script pair.later)) (λ later. Ok (record { vertex = pair.vertex; earlier = pair.earlier; later = later })) pair.later _ (any_again script pair.later h.tells later) refl))))
+      then_ok _ _ pair.vertex _ ((name_again laws) pair.vertex named)
+      (then_ok _ _ (name_at script pair.earlier) _ ((name_again laws) (name_at script pair.earlier) (name_is_name script pair.earlier h.typed earlier))
+      (then_ok _ _ (name_at script pair.later) _ ((name_again laws) (name_at script pair.later) (name_is_name script pair.later h.typed later))
+      (then_ok _ _ pair.earlier _ (any_again script pair.earlier h.tells earlier)
+      (then_ok _ _ pair.later _ (any_again script pair.later h.tells later) refl))))
 
   pairs_again : (script : Script) (replies : List Reply) (before pairs : List Pair) → IsReadable script → AllByRecursion (IsPairOf script) pairs → AllByRecursion (λ (pair : Pair). IsName pair.vertex) pairs
       → (after_kept laws) script (built replies before [] [] Pairs) (map (pair_line script) pairs) ≡ Ok (built replies (before ++ pairs) [] [] Pairs)
@@ -251,7 +251,7 @@ module _ (laws : TextLaws) where
 
   order_in_again : (script : Script) (order : List ℕ) → IsReadable script → AllByRecursion (λ r. IsTrue (is_request_of script r)) order → order_in script (map (name_at script) order) ≡ Ok order
   order_in_again script order h of =
-      then_ok (read_names (map (name_at script) order)) (λ names. named_from script [] names) (map (name_at script) order) _ ((names_again laws) [] (map (name_at script) order) (names_told script order h.typed of)) (all_again script [] order h.tells of)
+      then_ok _ _ (map (name_at script) order) _ ((names_again laws) [] (map (name_at script) order) (names_told script order h.typed of)) (all_again script [] order h.tells of)
 
   order_again : (script : Script) (replies : List Reply) (pairs : List Pair) (order : List ℕ) → IsReadable script → AllByRecursion (λ r. IsTrue (is_request_of script r)) order
       → (after_kept laws) script (built replies pairs [] [] (place_behind pairs)) (order_line script order ∷ []) ≡ Ok (built replies pairs order [] Answers)
@@ -262,7 +262,7 @@ module _ (laws : TextLaws) where
   did_again number answer small typed =
       let again = (step_answer_again laws) answer typed in
       cond-true (is_step_form (step_answer_words answer)) _ _ again.0
-      ∙ then_ok (this_number_in number (decimal number)) (λ number. step_answer_in (step_answer_words answer)) number _ ((this_number_again laws) number small) again.1
+      ∙ then_ok _ _ number _ ((this_number_again laws) number small) again.1
 
   answers_again : (script : Script) (replies : List Reply) (pairs : List Pair) (order : List ℕ) (before answers : List StepAnswer) → AllByRecursion IsTypedStepAnswer answers → length before + length answers < 2 ^ 64
       → (after_kept laws) script (built replies pairs order before Answers) (map did_line (enumerate_from (length before + 1) answers)) ≡ Ok (built replies pairs order (before ++ answers) Answers)

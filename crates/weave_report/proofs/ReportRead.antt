@@ -191,11 +191,11 @@ module _ (laws : TextLaws) where
   pair_read script (a ∷ []) pair e = absurd (err_is_not cause.Line pair e)
   pair_read script (a ∷ b ∷ []) pair e = absurd (err_is_not cause.Line pair e)
   pair_read script (vertex ∷ earlier ∷ later ∷ []) pair e =
-      let one = bind_ok (name_in vertex) (λ vertex. name_in earlier >>= λ earlier. name_in later >>= λ later. any_named script earlier >>= λ earlier. any_named script later >>= λ later. Ok (record { vertex = vertex; earlier = earlier; later = later })) pair e in
-      let two = bind_ok (name_in earlier) (λ earlier. name_in later >>= λ later. any_named script earlier >>= λ earlier. any_named script later >>= λ later. Ok (record { vertex = one.0; earlier = earlier; later = later })) pair one.2 in
-      let three = bind_ok (name_in later) (λ later. any_named script two.0 >>= λ earlier. any_named script later >>= λ later. Ok (record { vertex = one.0; earlier = earlier; later = later })) pair two.2 in
-      let four = bind_ok (any_named script two.0) (λ earlier. any_named script three.0 >>= λ later. Ok (record { vertex = one.0; earlier = earlier; later = later })) pair three.2 in
-      let five = bind_ok (any_named script three.0) (λ later. Ok (record { vertex = one.0; earlier = four.0; later = later })) pair four.2 in
+      let one = bind_ok _ _ pair e in
+      let two = bind_ok _ _ pair one.2 in
+      let three = bind_ok _ _ pair two.2 in
+      let four = bind_ok _ _ pair three.2 in
+      let five = bind_ok _ _ pair four.2 in
       let vertex_is = (name_read laws) vertex one.0 one.1 in
       let earlier_is = any_read script two.0 four.0 four.1 in
       let later_is = any_read script three.0 five.0 five.1 in
@@ -230,7 +230,7 @@ module _ (laws : TextLaws) where
   order_leads : (script : Script) (report : Report) (words : List Word) (order : List ℕ) → IsRead script report → HasPairs report → order_in script words ≡ Ok order
       → LeadsTo script (pair_part script report ++ (codes "order" ∷ words) ∷ []) (reading (with_order report order) Answers)
   order_leads script report words order h place e =
-      let one = bind_ok (read_names words) (λ names. named_from script [] names) order e in
+      let one = bind_ok _ _ order e in
       let names = (names_read laws) [] words one.0 one.1 in
       let all = all_read script [] one.0 order one.2 in
       let text : words ≡ map (name_at script) order = sym names.0 ∙ all.named ∙ ap (map (name_at script)) (sym all.behind) in
@@ -256,11 +256,11 @@ module _ (laws : TextLaws) where
       elim (chosen (bytes_eq word (codes "settled")) (pair_in script words >>= λ pair. Ok (reading (with_pair report pair) Pairs))
       (cond (bytes_eq word (codes "order")) (order_in script words >>= λ order. Ok (reading (with_order report order) Answers)) (Err cause.Line)) (Ok next) e) [
         | inl k ↦
-            let one = bind_ok (pair_in script words) (λ pair. Ok (reading (with_pair report pair) Pairs)) next k.1 in
+            let one = bind_ok _ _ next k.1 in
             moved word (codes "settled") words (reading (with_pair report one.0) Pairs) (is_word word (codes "settled") k.0) (ok_is (reading (with_pair report one.0) Pairs) next one.2) (pair_leads script report words one.0 h place (pair_read script words one.0 one.1))
         | inr k ↦
             let test = passed (bytes_eq word (codes "order")) (order_in script words >>= λ order. Ok (reading (with_order report order) Answers)) cause.Line next k.1 in
-            let one = bind_ok (order_in script words) (λ order. Ok (reading (with_order report order) Answers)) next test.1 in
+            let one = bind_ok _ _ next test.1 in
             moved word (codes "order") words (reading (with_order report one.0) Answers) (is_word word (codes "order") test.0) (ok_is (reading (with_order report one.0) Answers) next one.2) (order_leads script report words one.0 h place one.1)
       ]
     where
@@ -276,11 +276,11 @@ module _ (laws : TextLaws) where
       elim (chosen (bytes_eq word (codes "tx")) (transaction_in script words >>= λ line. Ok (behind_reply report line))
       (cond (bytes_eq word (codes "prog")) (program_in script words >>= λ line. Ok (behind_reply report line)) (after_pairs script report (word ∷ words))) (Ok next) e) [
         | inl k ↦
-            let one = bind_ok (transaction_in script words) (λ line. Ok (behind_reply report line)) next k.1 in
+            let one = bind_ok _ _ next k.1 in
             led (codes "tx") one.0 (is_word word (codes "tx") k.0) (ok_is (behind_reply report one.0) next one.2) ((transaction_read laws) script words one.0 one.1)
         | inr k ↦ elim (chosen (bytes_eq word (codes "prog")) (program_in script words >>= λ line. Ok (behind_reply report line)) (after_pairs script report (word ∷ words)) (Ok next) k.1) [
           | inl j ↦
-              let one = bind_ok (program_in script words) (λ line. Ok (behind_reply report line)) next j.1 in
+              let one = bind_ok _ _ next j.1 in
               led (codes "prog") one.0 (is_word word (codes "prog") j.0) (ok_is (behind_reply report one.0) next one.2) ((program_line_read laws) script words one.0 one.1)
           | inr j ↦
               let no_pair : pair_part script report ≡ reply_part script report = ap (λ pairs. reply_part script report ++ map (pair_line script) pairs) place.no_pairs ∙ append-nil (reply_part script report) in
@@ -323,7 +323,7 @@ module _ (laws : TextLaws) where
       → next_get commit answers ≡ o → after_got o report commit answers line ≡ Ok next → LeadsTo script (reply_part script report ++ (commit_line laws) script commit ∷ map got_line answers ++ line ∷ []) next
   gots_lead script report commit answers line None next tells h place first k e = absurd (err_is_not cause.Line next e)
   gots_lead script report commit answers line (Some op) next tells h place first k e =
-      let one = bind_ok (got_in op line) (λ got. Ok (behind_commit report commit (answers ++ got ∷ []))) next e in
+      let one = bind_ok _ _ next e in
       let got = (got_read laws) op line one.0 one.1 in
       let all = answers ++ one.0 ∷ [] in
       let numbers : map (λ (got : Got). got.op) all ≡ take (length all) commit.gets =
@@ -352,7 +352,7 @@ module _ (laws : TextLaws) where
   did_read number [] answer e = absurd (err_is_not cause.Line answer e)
   did_read number (word ∷ words) answer e =
       let test = passed (is_step_form words) (this_number_in number word >>= λ number. step_answer_in words) cause.Line answer e in
-      let one = bind_ok (this_number_in number word) (λ number. step_answer_in words) answer test.1 in
+      let one = bind_ok _ _ answer test.1 in
       let number_is = (this_number_read laws) number word one.0 one.1 in
       let answer_is = (step_answer_read laws) words answer test.0 one.2 in
       record { text = λ i. codes "did" ∷ number_is.0 i ∷ answer_is.told i; typed = answer_is.typed; small = number_is.2 }
@@ -385,7 +385,7 @@ module _ (laws : TextLaws) where
       elim (chosen (bytes_eq word (codes "did")) (did_in (length report.answers + 1) words >>= λ answer. Ok (reading (with_answer report answer) Answers))
       (cond (bytes_eq word (codes "end") && is_empty words) (Ok (reading report Ended)) (Err cause.Line)) (Ok next) e) [
         | inl k ↦
-            let one = bind_ok (did_in (length report.answers + 1) words) (λ answer. Ok (reading (with_answer report answer) Answers)) next k.1 in
+            let one = bind_ok _ _ next k.1 in
             subst (λ (word : Word). LeadsTo script (answer_part script report ++ (word ∷ words) ∷ []) next) (sym (is_word word (codes "did") k.0))
             (subst (LeadsTo script (answer_part script report ++ (codes "did" ∷ words) ∷ [])) (ok_is (reading (with_answer report one.0) Answers) next one.2)
             (did_leads script report words one.0 h (did_read (length report.answers + 1) words one.0 one.1)))
@@ -432,7 +432,7 @@ module _ (laws : TextLaws) where
   lines_lead : (script : Script) (before : Reading) (so_far lines : List Line) (last : Reading) → HasDistinctNames script → LeadsTo script so_far before → after_kept script before lines ≡ Ok last → LeadsTo script (so_far ++ lines) last
   lines_lead script before so_far [] last tells h e = subst (λ lines. LeadsTo script lines last) (sym (append-nil so_far)) (subst (LeadsTo script so_far) (ok_is before last e) h)
   lines_lead script before so_far (line ∷ lines) last tells h e =
-      let one = bind_ok (after_report_line script before line) (λ next. after_kept script next lines) last e in
+      let one = bind_ok _ _ last e in
       let led = line_leads script before.place before.report line one.0 tells h.read h.place one.1 in
       let next : LeadsTo script (so_far ++ line ∷ []) one.0 = subst (λ (so_far : List Line). LeadsTo script (so_far ++ line ∷ []) one.0) h.told led in
       subst (λ lines. LeadsTo script lines last) (append_assoc so_far (line ∷ []) lines) (lines_lead script one.0 (so_far ++ line ∷ []) lines last tells next one.2)
@@ -502,7 +502,7 @@ module _ (laws : TextLaws) where
           ∙ rest (number + 1) before (sym (ap (λ b. after_kept script before (cond b (kept_lines lines) (words_of line ∷ kept_lines lines))) h) ∙ e)
       by_test false h rest =
           let left = sym (ap (λ b. after_kept script before (cond b (kept_lines lines) (words_of line ∷ kept_lines lines))) h) ∙ e in
-          let one = bind_ok (after_report_line script before (words_of line)) (λ next. after_kept script next (kept_lines lines)) (reading report Ended) left in
+          let one = bind_ok _ _ (reading report Ended) left in
           ap (λ b. behind_line number (cond b (Ok before) (after_report_line script before (words_of line))) (λ next. after_lines script (number + 1) next lines)) h
           ∙ ap (λ one. behind_line number one (λ next. after_lines script (number + 1) next lines)) one.1
           ∙ rest (number + 1) one.0 one.2

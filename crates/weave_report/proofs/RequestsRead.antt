@@ -120,7 +120,7 @@ pub record AreNamed (script : Script) (before : List ℕ) (names : List Name) (o
 pub all_read : (script : Script) (before : List ℕ) (names : List Name) (order : List ℕ) → named_from script before names ≡ Ok order → AreNamed script before names order
 all_read script before [] order e = record { own = []; behind = sym (ok_is before order e) ∙ sym (append-nil before); named = refl; each = tt }
 all_read script before (name ∷ names) order e =
-    let one = bind_ok (any_named script name) (λ r. named_from script (before ++ r ∷ []) names) order e in
+    let one = bind_ok _ _ order e in
     let read = any_read script name one.0 one.1 in
     let rest = all_read script (before ++ one.0 ∷ []) names order one.2 in
     record {
@@ -134,7 +134,7 @@ all_read script before (name ∷ names) order e =
 pub all_again : (script : Script) (before order : List ℕ) → HasDistinctNames script → AllByRecursion (λ r. IsTrue (is_request_of script r)) order → named_from script before (map (name_at script) order) ≡ Ok (before ++ order)
 all_again script before [] h k = ap (λ (order : List ℕ). Ok order) (sym (append-nil before))
 all_again script before (r ∷ order) h k =
-    then_ok (any_named script (name_at script r)) (λ r. named_from script (before ++ r ∷ []) (map (name_at script) order)) r _ (any_again script r h (request_within script r k.0))
+    then_ok _ _ r _ (any_again script r h (request_within script r k.0))
     (all_again script (before ++ r ∷ []) order h k.1 ∙ ap (λ (order : List ℕ). Ok order) (append_assoc before (r ∷ []) order))
 
 -- if a script is typed, the names of requests of it are names

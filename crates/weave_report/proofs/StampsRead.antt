@@ -41,7 +41,7 @@ module _ (laws : TextLaws) where
   counts_read : (before : List ℕ) (words : List Word) (counts : List ℕ) → counts_from before words ≡ Ok counts → AreCounts before words counts
   counts_read before [] counts e = record { own = []; behind = sym (ok_is before counts e) ∙ sym (append-nil before); told = refl; small = refl }
   counts_read before (word ∷ words) counts e =
-      let one = bind_ok (count_in word) (λ count. counts_from (before ++ count ∷ []) words) counts e in
+      let one = bind_ok _ _ counts e in
       let count = count_read word one.0 one.1 in
       let rest = counts_read (before ++ one.0 ∷ []) words counts one.2 in
       record {
@@ -55,7 +55,7 @@ module _ (laws : TextLaws) where
   counts_again before [] h = ap (λ counts. Ok counts) (sym (append-nil before))
   counts_again before (count ∷ counts) h =
       let parts = and_parts (fits count) (list_all fits counts) h in
-      then_ok (count_in (decimal count)) (λ count. counts_from (before ++ count ∷ []) (map decimal counts)) count _ (count_again count (ltb-true count (2 ^ 64) parts.0))
+      then_ok _ _ count _ (count_again count (ltb-true count (2 ^ 64) parts.0))
       (counts_again (before ++ count ∷ []) counts parts.1 ∙ ap (λ counts. Ok counts) (append_assoc before (count ∷ []) counts))
 
   -- ---- eight counts
@@ -173,9 +173,9 @@ module _ (laws : TextLaws) where
       let gates = script.gates in
       let parts = three_parts gates (pieces_of 58 word) stamp e in
       let a = parts.0 in let b = parts.1 in let c = parts.2 in
-      let one = bind_ok (count_in a) (λ epoch. count_in b >>= λ home. counts_from [] (pieces_of 44 c) >>= λ counts. stamp_with_counts gates epoch home counts) stamp parts.4 in
-      let two = bind_ok (count_in b) (λ home. counts_from [] (pieces_of 44 c) >>= λ counts. stamp_with_counts gates one.0 home counts) stamp one.2 in
-      let three = bind_ok (counts_from [] (pieces_of 44 c)) (λ counts. stamp_with_counts gates one.0 two.0 counts) stamp two.2 in
+      let one = bind_ok _ _ stamp parts.4 in
+      let two = bind_ok _ _ stamp one.2 in
+      let three = bind_ok _ _ stamp two.2 in
       let epoch = count_read a one.0 one.1 in
       let home = count_read b two.0 two.1 in
       let counts = counts_read [] (pieces_of 44 c) three.0 three.1 in
@@ -244,7 +244,7 @@ module _ (laws : TextLaws) where
       ap (pieces_of 58) (sym (three_joined (decimal clock.epoch) (decimal stamp.home) joined)) ∙ laws.pieces_come_back 58 (decimal clock.epoch) (decimal stamp.home ∷ joined ∷ []) lack in
       let tests : (nat_lt stamp.home gates && (length shown == min gates 8)) ≡ true = and_from _ _ home.0 (eq-eqb (length shown) (min gates 8) few) in
       ap (stamp_parts gates) parts
-      ∙ then_ok (count_in (decimal clock.epoch)) (λ epoch. count_in (decimal stamp.home) >>= λ home. counts_from [] (pieces_of 44 joined) >>= λ counts. stamp_with_counts gates epoch home counts) clock.epoch _ (count_again clock.epoch epoch)
-      (then_ok (count_in (decimal stamp.home)) (λ home. counts_from [] (pieces_of 44 joined) >>= λ counts. stamp_with_counts gates clock.epoch home counts) stamp.home _ (count_again stamp.home home_fits)
-      (then_ok (counts_from [] (pieces_of 44 joined)) (λ counts. stamp_with_counts gates clock.epoch stamp.home counts) shown _ (ap (counts_from []) cut.1 ∙ counts_again [] shown fit)
+      ∙ then_ok _ _ clock.epoch _ (count_again clock.epoch epoch)
+      (then_ok _ _ stamp.home _ (count_again stamp.home home_fits)
+      (then_ok _ _ shown _ (ap (counts_from []) cut.1 ∙ counts_again [] shown fit)
       (cond-true _ _ _ tests ∙ ap (λ (counts : List ℕ). Ok (record { home = stamp.home; clock = record { epoch = clock.epoch; counts = counts } })) (again_eight gates clock.counts eight zeros.1))))

@@ -113,8 +113,8 @@ module _ (laws : TextLaws) where
 
   pair_read : (key value : Bytes) (pair : Name × Name) → key_and_value key value ≡ Ok pair → ArePair key value pair
   pair_read key value pair e =
-      let one = bind_ok (name_in key) (λ key. name_in value >>= λ value. Ok (key, value)) pair e in
-      let two = bind_ok (name_in value) (λ value. Ok (one.0, value)) pair one.2 in
+      let one = bind_ok _ _ pair e in
+      let two = bind_ok _ _ pair one.2 in
       let k = (name_read laws) key one.0 one.1 in
       let v = (name_read laws) value two.0 two.1 in
       let same : (one.0, two.0) ≡ pair = ok_is (one.0, two.0) pair two.2 in
@@ -122,8 +122,8 @@ module _ (laws : TextLaws) where
 
   pair_again : (key value : Name) → IsName key → IsName value → key_and_value key value ≡ Ok (key, value)
   pair_again key value h k =
-      then_ok (name_in key) (λ key. name_in value >>= λ value. Ok (key, value)) key _ ((name_again laws) key h)
-      (then_ok (name_in value) (λ value. Ok (key, value)) value _ ((name_again laws) value k) refl)
+      then_ok _ _ key _ ((name_again laws) key h)
+      (then_ok _ _ value _ ((name_again laws) value k) refl)
 
   property_joined : (key value : Name) → property_text (key, value) ≡ key ++ 61 ∷ value
   property_joined key value = append_assoc key (codes "=") value
@@ -189,8 +189,8 @@ module _ (laws : TextLaws) where
       let same = ok_is before tags e in
       record { typed = subst (IsTypedMap IsName) same h; words_are = sym (ap (map property_text) same) ∙ sym (append-nil (map property_text before)) }
   tags_read before (word ∷ words) tags e h =
-      let one = bind_ok (tag_in word) (λ tag. with_last before tag.0 tag.1 >>= λ tags. tags_in tags words) tags e in
-      let two = bind_ok (with_last before one.0.0 one.0.1) (λ tags. tags_in tags words) tags one.2 in
+      let one = bind_ok _ _ tags e in
+      let two = bind_ok _ _ tags one.2 in
       let tag = tag_read word one.0 one.1 in
       let last = last_read IsName before two.0 one.0.0 one.0.1 two.1 h tag.key tag.value in
       let rest = tags_read two.0 words tags two.2 last.0 in
@@ -206,8 +206,8 @@ module _ (laws : TextLaws) where
   tags_again before ((key, value) ∷ tags) h =
       let names = each_at IsName before tags key value h.each in
       let words = map property_text tags in
-      then_ok (tag_in (property_text (key, value))) (λ tag. with_last before tag.0 tag.1 >>= λ tags. tags_in tags words) (key, value) _ (tag_again key value names.0 names.1)
-      (then_ok (with_last before key value) (λ tags. tags_in tags words) (before ++ (key, value) ∷ []) _ (last_again IsName before tags key value h)
+      then_ok _ _ (key, value) _ (tag_again key value names.0 names.1)
+      (then_ok _ _ (before ++ (key, value) ∷ []) _ (last_again IsName before tags key value h)
       (tags_again (before ++ (key, value) ∷ []) tags (regrouped IsName before tags key value h) ∙ ap (λ tags. Ok tags) (append_assoc before ((key, value) ∷ []) tags)))
 
   no_pairs : {X : Type 0} (P : X → Type 0) → IsTypedMap P []
@@ -223,8 +223,8 @@ module _ (laws : TextLaws) where
   unfolding edge_words
   edge_read [] edge e = absurd (err_is_not cause.Name edge e)
   edge_read (word ∷ words) edge e =
-      let one = bind_ok (name_in word) (λ target. tags_in [] words >>= λ tags. Ok (record { target = target; tags = tags })) edge e in
-      let two = bind_ok (tags_in [] words) (λ tags. Ok (record { target = one.0; tags = tags })) edge one.2 in
+      let one = bind_ok _ _ edge e in
+      let two = bind_ok _ _ edge one.2 in
       let target = (name_read laws) word one.0 one.1 in
       let tags = tags_read [] words two.0 two.1 (no_pairs IsName) in
       let made : Edge = record { target = one.0; tags = two.0 } in
@@ -234,8 +234,8 @@ module _ (laws : TextLaws) where
   edge_again : (edge : Edge) → IsTypedEdge edge → edge_of (edge_words edge) ≡ Ok edge
   unfolding edge_words
   edge_again edge h =
-      then_ok (name_in edge.target) (λ target. tags_in [] (map property_text edge.tags) >>= λ tags. Ok (record { target = target; tags = tags })) edge.target _ ((name_again laws) edge.target h.target)
-      (then_ok (tags_in [] (map property_text edge.tags)) (λ tags. Ok (record { target = edge.target; tags = tags })) edge.tags _ (tags_again [] edge.tags h.tags) refl)
+      then_ok _ _ edge.target _ ((name_again laws) edge.target h.target)
+      (then_ok _ _ edge.tags _ (tags_again [] edge.tags h.tags) refl)
 
   edge_joined : (name : Name) (edge : Edge) → edge_text (name, edge) ≡ name ++ 62 ∷ joined_texts (44 ∷ []) (edge_words edge)
   unfolding edge_words
@@ -276,13 +276,13 @@ module _ (laws : TextLaws) where
       let cut = cut_read is_item_mark word before mark behind e in
       elim (chosen (is_equals mark) (key_and_value before behind >>= λ pair. Ok (Property pair.0 pair.1)) (name_in before >>= λ name. edge_of (pieces_of 44 behind) >>= λ edge. Ok (Link name edge)) (Ok item) k) [
         | inl h ↦
-            let one = bind_ok (key_and_value before behind) (λ pair. Ok (Property pair.0 pair.1)) item h.1 in
+            let one = bind_ok _ _ item h.1 in
             let pair = pair_read before behind one.0 one.1 in
             let same = ok_is (Property one.0.0 one.0.1) item one.2 in
             (subst IsTypedItem same (pair.key_is_name, pair.value_is_name), property_is word before mark behind one.0 cut.whole h.0 pair ∙ ap item_text same)
         | inr h ↦
-            let one = bind_ok (name_in before) (λ name. edge_of (pieces_of 44 behind) >>= λ edge. Ok (Link name edge)) item h.1 in
-            let two = bind_ok (edge_of (pieces_of 44 behind)) (λ edge. Ok (Link one.0 edge)) item one.2 in
+            let one = bind_ok _ _ item h.1 in
+            let two = bind_ok _ _ item one.2 in
             let name = (name_read laws) before one.0 one.1 in
             let edge = edge_read (pieces_of 44 behind) two.0 two.1 in
             let same = ok_is (Link one.0 two.0) item two.2 in
@@ -298,14 +298,14 @@ module _ (laws : TextLaws) where
   property_item_again key value h k =
       ap (λ word. item_of (cut_first is_item_mark word)) (property_joined key value)
       ∙ ap item_of (cut_again is_item_mark key 61 value (name_unmarked key h) refl)
-      ∙ then_ok (key_and_value key value) (λ pair. Ok (Property pair.0 pair.1)) (key, value) _ (pair_again key value h k) refl
+      ∙ then_ok _ _ (key, value) _ (pair_again key value h k) refl
 
   edge_item_again : (name : Name) (edge : Edge) → IsName name → IsTypedEdge edge → item_in (edge_text (name, edge)) ≡ Ok (Link name edge)
   edge_item_again name edge h k =
       ap (λ word. item_of (cut_first is_item_mark word)) (edge_joined name edge)
       ∙ ap item_of (cut_again is_item_mark name 62 (joined_texts (44 ∷ []) (edge_words edge)) (name_unmarked name h) refl)
-      ∙ then_ok (name_in name) (λ name. edge_of (pieces_of 44 (joined_texts (44 ∷ []) (edge_words edge))) >>= λ edge. Ok (Link name edge)) name _ ((name_again laws) name h)
-      (then_ok (edge_of (pieces_of 44 (joined_texts (44 ∷ []) (edge_words edge)))) (λ edge. Ok (Link name edge)) edge _ (ap edge_of (edge_pieces edge k) ∙ edge_again edge k) refl)
+      ∙ then_ok _ _ name _ ((name_again laws) name h)
+      (then_ok _ _ edge _ (ap edge_of (edge_pieces edge k) ∙ edge_again edge k) refl)
 
   -- ---- records
 
@@ -318,7 +318,7 @@ module _ (laws : TextLaws) where
       → IsTypedRecord (record { props = props; edges = edges }) → IsName key → IsName value → HasItem (record { props = props; edges = edges }) (Property key value) next
   unfolding item_text
   property_put props [] key value next e h k v =
-      let one = bind_ok (with_last props key value) (λ props. Ok (record { props = props; edges = [] })) next e in
+      let one = bind_ok _ _ next e in
       let last = last_read IsName props one.0 key value one.1 h.props k v in
       let made : Record = record { props = one.0; edges = [] } in
       let same = ok_is made next one.2 in
@@ -333,7 +333,7 @@ module _ (laws : TextLaws) where
   unfolding item_text IsTypedItem
   item_put held (Property key value) next e h k = property_put held.props held.edges key value next e h k.0 k.1
   item_put held (Link name edge) next e h k =
-      let one = bind_ok (with_last held.edges name edge) (λ edges. Ok (record { props = held.props; edges = edges })) next e in
+      let one = bind_ok _ _ next e in
       let last = last_read IsTypedEdge held.edges one.0 name edge one.1 h.edges k.0 k.1 in
       let made : Record = record { props = held.props; edges = one.0 } in
       let same = ok_is made next one.2 in
@@ -349,8 +349,8 @@ module _ (laws : TextLaws) where
       let same = ok_is held final e in
       (subst IsTypedRecord same h, sym (ap content_words same) ∙ sym (append-nil (content_words held)))
   items_read held (word ∷ words) final e h =
-      let one = bind_ok (item_in word) (λ item. with_item_read held item >>= λ held. items_in held words) final e in
-      let two = bind_ok (with_item_read held one.0) (λ held. items_in held words) final one.2 in
+      let one = bind_ok _ _ final e in
+      let two = bind_ok _ _ final one.2 in
       let item = item_read word one.0 one.1 in
       let put = item_put held one.0 two.0 two.1 h item.0 in
       let rest = items_read two.0 words final two.2 put.typed in
@@ -363,9 +363,9 @@ module _ (laws : TextLaws) where
       let names = each_at IsName before props key value h.each in
       let rest = map property_text props ++ words in
       let held : Record = record { props = before; edges = [] } in
-      then_ok (item_in (property_text (key, value))) (λ item. with_item_read held item >>= λ held. items_in held rest) (Property key value) _ (property_item_again key value names.0 names.1)
-      (then_ok (with_item_read held (Property key value)) (λ held. items_in held rest) (record { props = before ++ (key, value) ∷ []; edges = [] }) _
-      (then_ok (with_last before key value) (λ (props : List (Name × Name)). Ok (record { props = props; edges = [] })) (before ++ (key, value) ∷ []) _ (last_again IsName before props key value h) refl)
+      then_ok _ _ (Property key value) _ (property_item_again key value names.0 names.1)
+      (then_ok _ _ (record { props = before ++ (key, value) ∷ []; edges = [] }) _
+      (then_ok _ _ (before ++ (key, value) ∷ []) _ (last_again IsName before props key value h) refl)
       (props_again (before ++ (key, value) ∷ []) props words (regrouped IsName before props key value h)
       ∙ ap (λ (props : List (Name × Name)). items_in (record { props = props; edges = [] }) words) (append_assoc before ((key, value) ∷ []) props)))
 
@@ -376,9 +376,9 @@ module _ (laws : TextLaws) where
       let typed = each_at IsTypedEdge before edges name edge h.each in
       let rest = map edge_text edges in
       let held : Record = record { props = props; edges = before } in
-      then_ok (item_in (edge_text (name, edge))) (λ item. with_item_read held item >>= λ held. items_in held rest) (Link name edge) _ (edge_item_again name edge typed.0 typed.1)
-      (then_ok (with_item_read held (Link name edge)) (λ held. items_in held rest) (record { props = props; edges = before ++ (name, edge) ∷ [] }) _
-      (then_ok (with_last before name edge) (λ (edges : List (Name × Edge)). Ok (record { props = props; edges = edges })) (before ++ (name, edge) ∷ []) _ (last_again IsTypedEdge before edges name edge h) refl)
+      then_ok _ _ (Link name edge) _ (edge_item_again name edge typed.0 typed.1)
+      (then_ok _ _ (record { props = props; edges = before ++ (name, edge) ∷ [] }) _
+      (then_ok _ _ (before ++ (name, edge) ∷ []) _ (last_again IsTypedEdge before edges name edge h) refl)
       (edges_again props (before ++ (name, edge) ∷ []) edges (regrouped IsTypedEdge before edges name edge h)
       ∙ ap (λ (edges : List (Name × Edge)). Ok (record { props = props; edges = edges })) (append_assoc before ((name, edge) ∷ []) edges)))
 
@@ -396,7 +396,7 @@ module _ (laws : TextLaws) where
   state_read (word ∷ items) state form e =
       elim (chosen (bytes_eq word (codes "record")) (items_in empty_record items >>= λ held. Ok (Some held)) (Ok None) (Ok state) e) [
         | inl h ↦
-            let one = bind_ok (items_in empty_record items) (λ held. Ok (Some held)) state h.1 in
+            let one = bind_ok _ _ state h.1 in
             let same = ok_is (Some one.0) state one.2 in
             let items = items_read empty_record items one.0 one.1 nothing_held in
             (subst IsTypedState same items.0, (λ i. is_word word (codes "record") h.0 i ∷ sym items.1 i) ∙ ap state_words same)
@@ -414,4 +414,4 @@ module _ (laws : TextLaws) where
   pub state_again : (state : State) → IsTypedState state → (is_state_form (state_words state) ≡ true) × (read_state (state_words state) ≡ Ok state)
   state_again None h = (refl, refl)
   state_again (Some held) h =
-      (refl, then_ok (items_in empty_record (content_words held)) (λ held. Ok (Some held)) held _ (record_again held h) refl)
+      (refl, then_ok _ _ held _ (record_again held h) refl)
