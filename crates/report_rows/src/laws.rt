@@ -13,7 +13,8 @@ pub fn meetings_need_an_order()
 }
 
 /// Of two phases, each of one transaction: the later one must not precede the earlier one, conflict with it, have the
-/// lower commit number, or be refused before its commit. The earlier one must not be refused after the later one's commit.
+/// lower commit number, or be refused before its commit. The earlier one must not be refused after the commit of the
+/// later one.
 pub fn phases_are_apart()
     ensures precedence { ¬ PhasesAreKept two_phases later_phase_first }
     ensures conflict { ¬ PhasesAreKept two_phases conflict_across_phases }
