@@ -21,7 +21,7 @@ use Rattle.weave_entries.specs.declared.verdict.Verdict.{Verdict}
 use Rattle.weave_entries.specs.declared.verdict.Verdict.TheVariants.{Committed, Conflict, Refused}
 use Rattle.graph_ops.specs.declared.tx.Got.{Got}
 use Rattle.weave_entries.specs.StoreReplay.{Commit, commit_by, commits_of, names_vertex, count_naming}
-use Rattle.weave_entries.specs.StoreRule.{LastCommit, lasts_of, asked_stamps, asked_vertices, conflict_or, verdict_on}
+use Rattle.weave_entries.specs.StoreRule.{LastCommit, lasts_of, asked_stamps, asked_vertices, conflict_or, verdict_on, ops_bound}
 use Rattle.backing_store.specs.declared.lasts.KeptCommit.{KeptCommit}
 use Rattle.backing_store.specs.declared.asked.Asked.{Asked}
 use Rattle.backing_store.specs.Commits.{stamps_judged, stamps_kept, is_judge_asked}
@@ -112,8 +112,8 @@ module _ (graph : PlainGraph) (lasts : List (Name × KeptCommit)) (made : ℕ) (
   pub vertices_are : asked.vertices ≡ asked_vertices stamp (lasts_of ops (commits_of log))
   vertices_are = vertices_asked lasts (commits_of log) kept.lasts_are ops stamp asked all_asked
 
-  -- with fewer than 2 to the power of 31 operations it asks about fewer than 2 to the power of 32 stamps
-  pub few_asked : length ops < 2 ^ 31 → length asked.stamps < 2 ^ 32
+  -- with fewer operations than the bound it asks about fewer than 2 to the power of 32 stamps
+  pub few_asked : length ops < ops_bound → length asked.stamps < 2 ^ 32
   few_asked few = let e : length asked.stamps ≡ length (asked_stamps stamp (lasts_of ops (commits_of log))) = ap length stamps_are in omega (arith, asked_le stamp ops (commits_of log))
 
   -- if the new stamp has another id than each judged one, it has another id than each one that is asked

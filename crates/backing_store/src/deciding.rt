@@ -12,7 +12,7 @@ ghost use Rattle.backing_store.specs.Trying.{IsTrial, IsBefore, verdict_asked, g
 ghost use Rattle.backing_store.specs.Keeping.{first_newer as newer_of};
 ghost use Rattle.backing_store.specs.Commits.{of_commit};
 ghost use Rattle.weave_entries.specs.StoreReplay.{Commit};
-ghost use Rattle.weave_entries.specs.StoreRule.{verdict_on};
+ghost use Rattle.weave_entries.specs.StoreRule.{ops_bound, verdict_on};
 
 use crate::asked::Asked;
 use crate::judge_calls::ask;
@@ -131,7 +131,7 @@ pub(crate) fn judge_tx<J: Judge>(
     stamp: Stamp,
     ops: &[Op],
 ) -> Result<Decided, AllocError>
-    requires few_ops { length ops.now < 2 ^ 31 }
+    requires few_ops { length ops.now < ops_bound }
     requires room { made < 2 ^ 63 }
     requires few { length asked.now.stamps < 2 ^ 32 }
     requires vertices { length asked.now.vertices ≡ length asked.now.stamps }

@@ -13,7 +13,7 @@ ghost use Rattle.backing_store.specs.Commits.{stamps_judged, stamps_kept, asked_
 ghost use Rattle.backing_store.specs.Keeping.{held_at, held_after};
 ghost use Rattle.backing_store.specs.Trying.{counts_in, commits_by};
 ghost use Rattle.weave_entries.specs.StoreReplay.{Judgement, judged_by, commits_of, judgement_of, graph_committed};
-ghost use Rattle.weave_entries.specs.StoreRule.{IsStoreLog};
+ghost use Rattle.weave_entries.specs.StoreRule.{IsStoreLog, ops_bound};
 
 use crate::asked::asked_at;
 use crate::deciding::{Decided, judge_tx};
@@ -88,7 +88,7 @@ impl Store {
         ops: &[Op],
         judge: &mut J,
     ) -> Result<Verdict, AllocError>
-        requires few { length ops.now < 2 ^ 31 }
+        requires few { length ops.now < ops_bound }
         requires new { All (λ (judged : Stamp). id_of judged ≢ id_of stamp) (stamps_judged self.old) }
         requires coherent { AreCoherent (stamp ∷ stamps_kept (commits_of self.old) ++ J.known judge.old) }
 

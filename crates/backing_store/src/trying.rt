@@ -2,6 +2,7 @@
 ghost use Rattle.std.specs.Prelude.{◌≡◌, ◌<◌, ◌^◌, length, Ok, IfOk, OnErr};
 ghost use Rattle.graph_ops.specs.Graphs.{plain_of};
 ghost use Rattle.graph_ops.specs.PlainGraph.{PlainGraph, TxOutcome, transaction, graph_left};
+ghost use Rattle.weave_entries.specs.StoreRule.{ops_bound};
 ghost use Rattle.backing_store.specs.Trying.{verdict_of_ops, IsTrial};
 
 use graph_ops::{Got, Graph, Op, Pending, TxFault};
@@ -29,7 +30,7 @@ pub(crate) fn try_ops(
     counts: Items<Counted>,
     ops: &[Op],
 ) -> Result<Tried, AllocError>
-    requires few { length ops.now < 2 ^ 31 }
+    requires few { length ops.now < ops_bound }
     requires room { made < 2 ^ 63 }
     ensures logged { IfOk result (λ tried. tried.logged
         ≡ verdict_of_ops made counts (transaction ops.now (plain_of graph.old))) }

@@ -6,13 +6,13 @@
 #![tactic(auto)]
 
 mod adding;
-mod nested;
+mod nested_holds;
 mod noted;
 mod tally;
 #[cfg(test)]
 mod tests;
 
 pub use adding::{add, add_range, tallied, total};
-pub use nested::{Owner, add_to_both};
+pub use nested_holds::{Owner, add_to_both};
 pub use noted::{Noted, five_noted, with_note};
 pub use tally::{Refused, Tally};

@@ -1,24 +1,8 @@
--- Lists: pairs of images, the first elements of a list, numbers in a row, and what some members give.
--- Used by ReadsLeft, ReadyFor, SentMessages and SomeHead.
-use Rattle.std.proofs.Common.{◌≡◌, ℕ, zero, suc, ◌+◌, ◌<◌, ◌≤◌, List, [], ◌∷◌, ◌++◌, map, take, length, Contains, AllPairs, Option, None, Some, inl, inr, refl, ap, subst, ◌∙◌, arith}
+-- Lists: what is in the first elements of one, numbers in a row, and what some members give.
+-- Used by ReadyFor and SomeHead.
+use Rattle.std.proofs.Common.{◌≡◌, ℕ, zero, suc, ◌+◌, ◌<◌, ◌≤◌, List, [], ◌∷◌, ◌++◌, take, length, Contains, Option, None, Some, inl, inr, refl, ap, ◌∙◌, arith}
 use Rattle.std.specs.List.{filter_map, cons_option, range_with_len}
-use Rattle.weave_data.proofs.Members.{has_head, has_map, has_none, has_read, has_tail}
-use Rattle.weave_data.proofs.Ordered.{pairs_cons, pairs_head, pairs_none, pairs_tail}
-
--- what holds of all pairs of images holds of the elements
-pub pairs-of-images : {A B : Type 0} (f : A → B) (R : B → B → Type 0) (xs : List A) → AllPairs R (map f xs) → AllPairs (λ a b. R (f a) (f b)) xs
-pairs-of-images f R [] pairs = pairs_none (λ a b. R (f a) (f b))
-pairs-of-images f R (x ∷ xs) pairs =
-    pairs_cons (λ a b. R (f a) (f b)) x xs (λ y h. pairs_head R (f x) (map f xs) (f y) pairs (has_map f xs y h)) (pairs-of-images f R xs (pairs_tail R (f x) (map f xs) pairs))
-
--- one of the first elements is an element
-pub in-take : {A : Type 0} (n : ℕ) (xs : List A) (x : A) → Contains (take n xs) x → Contains xs x
-in-take zero xs x h = absurd (has_none x h)
-in-take (suc n) [] x h = absurd (has_none x h)
-in-take (suc n) (y ∷ xs) x h = elim (has_read y (take n xs) x h) [
-  | inl same ↦ subst (λ k. Contains (y ∷ xs) k) same (has_head y xs)
-  | inr more ↦ has_tail y xs x (in-take n xs x more)
-]
+use Rattle.weave_data.proofs.Members.{has_head, has_none, has_read, has_tail}
 
 -- an element is among the first n, if fewer are before it
 pub take-has : {A : Type 0} (n : ℕ) (front : List A) (x : A) (back : List A) → length front < n → Contains (take n (front ++ x ∷ back)) x

@@ -7,6 +7,7 @@ use Rattle.weave_data.specs.declared.name.Name.{Name}
 use Rattle.weave_data.specs.Names.{same_name}
 use Rattle.graph_ops.specs.Mentions.{is_among, named_by}
 use Rattle.graph_ops.specs.declared.part.Part.{Part}
+use Rattle.graph_ops.proofs.Vertices.{same_name-refl}
 use Rattle.program_defs.specs.declared.script.Script.{Script}
 use Rattle.weave_entries.specs.declared.gate_log.GateEntry.{GateEntry}
 use Rattle.weave_entries.specs.declared.message.Addressed.{Addressed}
@@ -22,7 +23,6 @@ use Rattle.weave_entries.specs.StoreReplay.{Commit, commit_by, commits_of, count
 use Rattle.weave_account.specs.declared.account.Account.{Account}
 use Rattle.weave_account.specs.Account.{gate_log}
 use Rattle.weave_account.specs.Seen.{IsMade, PassesAs}
-use Rattle.weave_account.proofs.SameName.{same_name-refl}
 use Rattle.weave_account.proofs.Basis.{BasisWith}
 use Rattle.drive_rules.specs.LowerLaws.{LawsForReadiness}
 

@@ -8,10 +8,8 @@ use Rattle.std.proofs.lemmas.List.Elements.{filter-append}
 use Rattle.weave_data.proofs.Ends.{by_last}
 use Rattle.weave_data.specs.declared.name.Name.{Name}
 use Rattle.weave_entries.specs.declared.store_log.StoreEntry.{StoreEntry}
-use Rattle.weave_entries.specs.declared.store_log.StoreDeed.{StoreDeed}
-use Rattle.weave_entries.specs.declared.store_log.StoreDeed.TheVariants.{Judged}
-use Rattle.weave_entries.specs.declared.verdict.Verdict.TheVariants.{Committed, Conflict, Refused}
 use Rattle.weave_entries.specs.StoreReplay.{Commit, commit_by, commits_naming, commits_of, count_naming, names_vertex}
+use Rattle.weave_entries.proofs.StoreLogs.{commit-cases}
 use Rattle.drive_rules.specs.LowerLaws.{LawsForReadiness}
 
 -- the commits that name the vertex, cut at one of them
@@ -34,11 +32,6 @@ pub record IsAtPlace (v : Name) (log : List StoreEntry) (place : ℕ) : Type 0 w
   pub commit_is : commit_by entry.deed ≡ commit ∷ []
   pub named : IsTrue (names_vertex v commit)
   pub place_is : count_naming v (commits_of before) ≡ place
-
-commit-cases : (deed : StoreDeed) → (commit_by deed ≡ []) ⊎ ((c : Commit) × (commit_by deed ≡ c ∷ []))
-commit-cases (Judged r stamp ops asked (Committed number answers counts)) = inr (record { request = r; stamp = stamp; ops = ops }, refl)
-commit-cases (Judged r stamp ops asked (Conflict v newer)) = inl refl
-commit-cases (Judged r stamp ops asked (Refused op reason at)) = inl refl
 
 -- there is one at each place below their count
 pub at-place : (laws : LawsForReadiness) (v : Name) (log : List StoreEntry) (place : ℕ) → place < count_naming v (commits_of log) → IsAtPlace v log place

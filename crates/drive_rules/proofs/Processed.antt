@@ -1,4 +1,4 @@
--- What a shard has processed: of each channel the first messages, each once, and each of them had arrived.
+-- What a shard has processed: of each channel the messages from 1 to its processed count, and each of them had arrived.
 -- Used by ReadyFor and SomeHead.
 use Rattle.std.proofs.Common.{◌≡◌, ℕ, ◌+◌, ◌≤◌, nat_eq, cond, List, [], ◌∷◌, ◌++◌, Contains, Some, inl, inr, refl, sym, ap, subst, ◌∙◌, arith}
 use Rattle.std.proofs.lemmas.Bool.{cases_eq, eq-eqb, ne_eqb}
@@ -106,7 +106,7 @@ module _ (laws : LawsForReadiness) where
   deed-keeps script account shard log author (Visited r stamp v n settled) fits so-far = still log (record { author = author; deed = Visited r stamp v n settled }) refl so-far
   deed-keeps script account shard log author (Collected bound) fits so-far = still log (record { author = author; deed = Collected bound }) refl so-far
 
-  -- this holds in each log of the shard
+  -- in a log of right deeds the processed messages of each channel are the first ones, and had arrived
   pub are-first : (script : Script) (account : Account) (shard : ℕ) (log : List ShardEntry) → AreShardDeeds script account shard log → AreFirst log
   are-first script account shard =
       by_entries (λ before (entry : ShardEntry). ShardFitsAs script account shard before entry.deed) AreFirst

@@ -1,4 +1,5 @@
--- How many vertices a program can still read: at most one, and one for each link of the script. So each visit leaves one
+-- How many vertices a program can still read: at most one, and one for each link of the script. So each visit leaves
+-- one
 -- less.
 -- Used by `programs_read_few`.
 use Rattle.std.proofs.Common.{◌≡◌, ◌≢◌, ℕ, ◌≤◌, Bool, true, false, not, cond, ◌==◌, List, [], ◌∷◌, ◌++◌, take, length, Contains, AllPairs, IsTrue, Option, Some, None, inl, inr, refl, sym, ap, subst, ◌∙◌, arith}
@@ -9,7 +10,7 @@ use Rattle.std.proofs.lemmas.List.{get_or_default, length-append, length-map}
 use Rattle.std.proofs.lemmas.List.Elements.{Contains-append_cases, Contains-append_left, Contains-append_right}
 use Rattle.weave_data.proofs.Ends.{by_last, count_push, flat_push}
 use Rattle.weave_data.proofs.Images.{get-has}
-use Rattle.weave_data.proofs.Members.{cut_at, filter_has, find_has, flat_has, has_flat, has_head, has_map, has_none, has_read, has_tail, map_has, only}
+use Rattle.weave_data.proofs.Members.{cut_at, filter_has, find_has, flat_has, has_flat, has_head, has_map, has_none, has_read, has_tail, map_has, only, take_has}
 use Rattle.weave_data.proofs.Ordered.{pairs_cons, pairs_head, pairs_none, pairs_tail}
 use Rattle.weave_data.specs.Names.{same_name, shard_of}
 use Rattle.weave_data.specs.declared.name.Name.{Name}
@@ -38,7 +39,6 @@ use Rattle.weave_account.specs.Account.{commits_in, reads_of, shard_log}
 use Rattle.weave_account.specs.Shards.{ShardFitsAs, update_of}
 use Rattle.drive_rules.specs.Links.{is_link, link_count, ops_of_script}
 use Rattle.drive_rules.specs.LowerLaws.{LawsForReadiness}
-use Rattle.drive_rules.proofs.ListFacts.{in-take}
 use Rattle.drive_rules.proofs.NamedParts.{among-from}
 use Rattle.drive_rules.proofs.Visitable.{LeadsIn, start_of, target_by, updates-lead, visits-in}
 use Rattle.weave_account.proofs.Basis.{BasisWith}
@@ -118,7 +118,7 @@ module _ (script : Script) (account : Account) (basis : BasisWith LawsForReadine
   update-ops v update h op k =
       let are = basis.laws.accounts.updates script account basis.limits basis.is v in
       let from = map_has (update_of v) _ update (subst (λ us. Contains us update) are h) in
-      let commit = filter_has (names_vertex v) (commits_in account) from.0 (in-take _ (commits_naming v (commits_in account)) from.0 from.1) in
+      let commit = filter_has (names_vertex v) (commits_in account) from.0 (take_has _ (commits_naming v (commits_in account)) from.0 from.1) in
       let in-commit = filter_has _ from.0.ops op (subst (λ (u : Update). Contains u.ops op) (sym from.2) k) in
       commit-ops from.0 commit.0 op in-commit.0
 
@@ -150,7 +150,7 @@ module _ (script : Script) (account : Account) (basis : BasisWith LawsForReadine
         let here : shard_of image.0.vertex script.shards ≡ shard = visit-here shard place.before entry.0.author entry.0.deed (basis.is.shards.deeds shard place.before entry.0 place.after place.is) image.0 entry.2 in
         subst (λ (k : Name × State). LeadsIn visitable k.1) image.2
         (updates-lead visitable (take image.0.updates (updates_of image.0.vertex from.0))
-        (λ update u op o. target-visitable op (update-ops image.0.vertex update (subst (λ l. Contains (updates_of image.0.vertex l) update) (sym log-is ∙ ap (shard_log account) (sym here)) (in-take _ (updates_of image.0.vertex from.0) update u)) op o)))
+        (λ update u op o. target-visitable op (update-ops image.0.vertex update (subst (λ l. Contains (updates_of image.0.vertex l) update) (sym log-is ∙ ap (shard_log account) (sym here)) (take_has _ (updates_of image.0.vertex from.0) update u)) op o)))
 
     graph-leads : (reads : List (Name × State)) → ((read : Name × State) → Contains reads read → LeadsIn visitable read.1) → (v : Name) → LeadsIn visitable (graph_read reads v)
     graph-leads [] each v = tt
@@ -170,7 +170,7 @@ module _ (script : Script) (account : Account) (basis : BasisWith LawsForReadine
         let reads = reads_of account r in
         let visits = visits_to (length reads) (graph_read reads) program in
         let turn = basis.is.programs r request program request-is work-is in
-        visit-visitable v (in-take (length reads) visits v ((basis.laws.among (take (length reads) visits) v).0 ((turn.first_ones v).0 (among-from (keys_of reads) v h))))
+        visit-visitable v (take_has (length reads) visits v ((basis.laws.among (take (length reads) visits) v).0 ((turn.first_ones v).0 (among-from (keys_of reads) v h))))
 
     -- if there is a next vertex, fewer were read than can be
     pub visits-left : (v : Name) → next_visit (reads_of account r) program ≡ Some v → length (reads_of account r) ≤ link_count script

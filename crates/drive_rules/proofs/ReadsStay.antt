@@ -1,4 +1,5 @@
--- What a program has read stays the same at each step but a visit of its own; so, if it has no next vertex, at each step.
+-- What a program has read stays the same at each step but a visit of its own; so, if it has no next vertex, at each
+-- step.
 -- Used by `reads_stay`.
 use Rattle.std.proofs.Common.{◌≡◌, ◌≢◌, ℕ, ◌+◌, ◌<◌, ◌≤◌, ◌==◌, Bool, true, false, cond, List, [], ◌∷◌, ◌++◌, length, Option, None, Some, ◌⊎◌, inl, inr, refl, sym, ap, ◌∙◌, get_or, get_or-set_same, get_or-set_other, arith}
 use Rattle.std.specs.Prelude.{filter, slice_set}

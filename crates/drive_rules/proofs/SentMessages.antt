@@ -10,7 +10,7 @@ use Rattle.std.proofs.lemmas.List.Elements.{Contains-get_or}
 use Rattle.std.proofs.lemmas.List.FromFn.{get_or-range_with_len, length-range_with_len}
 use Rattle.weave_data.proofs.Members.{cut_at, find_has, flat_has, has_map, has_none, only}
 use Rattle.weave_data.proofs.Images.{within-list}
-use Rattle.weave_data.proofs.Ordered.{pairs_cases}
+use Rattle.weave_data.proofs.Ordered.{pairs_cases, pairs-of-images}
 use Rattle.vector_stamp.specs.declared.clock.Stamp.{Stamp}
 use Rattle.vector_stamp.specs.Order.{stamp_before}
 use Rattle.program_defs.specs.declared.script.Script.{Script}
@@ -28,7 +28,6 @@ use Rattle.weave_account.specs.declared.account.Account.{Account}
 use Rattle.weave_account.specs.Account.{gate_log, shard_log}
 use Rattle.weave_account.specs.Shards.{ShardFitsAs}
 use Rattle.drive_rules.proofs.Basis.{below-eight}
-use Rattle.drive_rules.proofs.ListFacts.{pairs-of-images}
 use Rattle.weave_account.proofs.Basis.{BasisWith}
 use Rattle.drive_rules.specs.LowerLaws.{LawsForReadiness}
 

@@ -1,4 +1,5 @@
--- If no transaction is in flight and all that was sent to a shard has arrived there, one of its heads can be applied, if
+-- If no transaction is in flight and all that was sent to a shard has arrived there, one of its heads can be applied,
+-- if
 -- it has a head at all: one that no other head precedes.
 -- Used by `no_shard_is_stuck`.
 use Rattle.std.proofs.Common.{◌≡◌, ℕ, zero, suc, ◌+◌, ◌<◌, ◌≤◌, true, not, ◌==◌, List, [], ◌∷◌, ◌++◌, map, take, length, Contains, AllPairs, IsTrue, Option, Some, None, ◌⊎◌, inl, inr, refl, sym, ap, subst, ◌∙◌, arith}
@@ -6,11 +7,13 @@ use Rattle.std.specs.List.{filter, find}
 use Rattle.std.specs.Option.{option_map}
 use Rattle.std.proofs.lemmas.Bool.{both_ways, cases_Bool, cases_order, cases_eq, cases_lt, eq-eqb}
 use Rattle.std.proofs.lemmas.List.{append_assoc}
+use Rattle.std.proofs.lemmas.Option.{same_Some}
 use Rattle.weave_data.proofs.Members.{find_has, flat_has, has_cut, has_filter, has_flat, has_head, has_map, map_has}
 use Rattle.weave_data.proofs.Ordered.{pairs_across}
 use Rattle.weave_data.specs.declared.name.Name.{Name}
 use Rattle.weave_data.specs.Names.{same_name, shard_of}
 use Rattle.graph_ops.specs.declared.part.Part.{Part}
+use Rattle.graph_ops.proofs.Vertices.{same_name-refl}
 use Rattle.vector_stamp.specs.declared.clock.Stamp.{Stamp}
 use Rattle.vector_stamp.specs.Order.{stamp_before}
 use Rattle.vector_stamp.specs.Precedence.{ByStamps, Through, precedes}
@@ -23,10 +26,10 @@ use Rattle.weave_entries.specs.GateReplay.{addressed_to}
 use Rattle.weave_entries.specs.ShardReplay.{Update, applied_messages, arrived_at, head_of, processed_count, processed_of, updates_in, updates_of, waits_at}
 use Rattle.weave_entries.specs.StoreReplay.{Commit, commit_by, commits_naming, commits_of, count_naming, names_vertex}
 use Rattle.weave_account.specs.declared.account.Account.{Account}
-use Rattle.weave_account.specs.Account.{Precedence, commits_in, gate_log, pairs_in, shard_log}
+use Rattle.weave_account.specs.Account.{Precedence, commits_in, gate_log, pairs_in, shard_log, NoneInFlight}
 use Rattle.weave_account.specs.OnTheWay.{CommitIsInFlight, IsOnChannel}
 use Rattle.weave_account.specs.Shards.{update_of}
-use Rattle.drive_rules.specs.Heads.{AllArrived, AllProcessed, CanApply, IsQuiet}
+use Rattle.drive_rules.specs.Heads.{AllArrived, AllProcessed, CanApply}
 use Rattle.drive_rules.specs.LowerLaws.{LawsForReadiness}
 use Rattle.drive_rules.proofs.ListFacts.{filter_map-from, take-front, take-has}
 use Rattle.drive_rules.proofs.NamedParts.{IsPartOf, part-of}
@@ -34,14 +37,10 @@ use Rattle.drive_rules.proofs.NamingCommits.{IsAtPlace, at-place, naming-cut}
 use Rattle.drive_rules.proofs.Processed.{AreFirst, are-first}
 use Rattle.drive_rules.proofs.SentMessages.{as_sent, arrived-sent, either-sent, home-inside, home-is, lower-sent, number-within}
 use Rattle.weave_account.proofs.Ready.{filter_map-has}
-use Rattle.weave_account.proofs.SameName.{same_name-refl}
 use Rattle.weave_account.proofs.Basis.{BasisWith}
 
 not-eq : (n k : ℕ) → IsTrue (not (n == k)) → n ≡ k → ⊥
 not-eq n k h e = let t : n == k ≡ true = eq-eqb n k e in let f : not true ≡ true = sym (ap not t) ∙ h in cc
-
-some-is : {A : Type 0} (a b : A) → Some a ≡ Some b → a ≡ b
-some-is a b e = cc
 
 module _ (script : Script) (account : Account) (basis : BasisWith LawsForReadiness script account) (shard : ℕ) where
   abbrev log : List ShardEntry
@@ -83,7 +82,7 @@ module _ (script : Script) (account : Account) (basis : BasisWith LawsForReadine
       -- the n-th head is not before itself
       itself : (m : Message) → head_of n (shard_log account shard) ≡ Some m → (other : ℕ) (k : Message) → other ≡ n → head_of other (shard_log account shard) ≡ Some k → Precedence account k.stamp m.stamp → ⊥
       itself m e other k same h p =
-          strict m.stamp (subst (λ (x : Message). Precedence account x.stamp m.stamp) (some-is k m (sym h ∙ ap (λ g. head_of g (shard_log account shard)) same ∙ e)) p)
+          strict m.stamp (subst (λ (x : Message). Precedence account x.stamp m.stamp) (same_Some k m (sym h ∙ ap (λ g. head_of g (shard_log account shard)) same ∙ e)) p)
 
       at : (o : Option Message) → head_of n (shard_log account shard) ≡ o → NoHeads n ⊎ IsLeast n → NoHeads (suc n) ⊎ IsLeast (suc n)
       at None e (inl none) = inl (λ home below. elim (cases_eq home n) [
@@ -124,7 +123,7 @@ module _ (script : Script) (account : Account) (basis : BasisWith LawsForReadine
           head = l.head;
           least = λ other k below h p. elim (cases_eq other n) [
             | inl same ↦
-                let k-is : k ≡ m = some-is k m (sym h ∙ ap (λ g. head_of g (shard_log account shard)) same ∙ e) in
+                let k-is : k ≡ m = same_Some k m (sym h ∙ ap (λ g. head_of g (shard_log account shard)) same ∙ e) in
                 both_ways (precedes (pairs_in account) m.stamp l.message.stamp) after ((basis.laws.stamps.tested (pairs_in account) m.stamp l.message.stamp).0 (subst (λ (x : Message). Precedence account x.stamp l.message.stamp) k-is p))
             | inr differ ↦ l.least other k (omega (arith, below, differ)) h p
           ];
@@ -161,7 +160,7 @@ module _ (script : Script) (account : Account) (basis : BasisWith LawsForReadine
         | inr (inr more) ↦ basis.laws.stamps.irreflexive m.stamp (subst (λ s. IsTrue (stamp_before m.stamp s)) (by.4 ∙ stamp-is) more.1)
       ]
 
-  module _ (quiet : IsQuiet account) (arrived : AllArrived account shard) where
+  module _ (quiet : NoneInFlight account) (arrived : AllArrived account shard) where
     -- a processed message's part was applied
     part-applied : (home : ℕ) (a : Addressed) → Contains (addressed_to shard (gate_log account home)) a → a.number ≤ processed_count home (shard_log account shard)
         → (part : Part) → Contains a.message.parts part → Contains (updates_of part.vertex (shard_log account shard)) (record { stamp = a.message.stamp; ops = part.ops })

@@ -2,14 +2,10 @@
 use Rattle.std.specs.Prelude.{◌≡◌, ℕ, ◌≤◌, Contains, None, Some}
 use Rattle.weave_entries.specs.declared.message.Addressed.{Addressed}
 use Rattle.weave_entries.specs.declared.message.Message.{Message}
-use Rattle.weave_entries.specs.GateReplay.{addressed_to, flight_of}
+use Rattle.weave_entries.specs.GateReplay.{addressed_to}
 use Rattle.weave_entries.specs.ShardReplay.{arrived_at, head_of, processed_count, waits_at}
 use Rattle.weave_account.specs.declared.account.Account.{Account}
 use Rattle.weave_account.specs.Account.{gate_log, shard_log}
-
--- no transaction is in flight
-abbrev pub IsQuiet : Account → Type 0
-IsQuiet account = (home : ℕ) → flight_of (gate_log account home) ≡ None
 
 -- all messages that were sent to a shard have arrived there
 abbrev pub AllArrived : Account → ℕ → Type 0

@@ -20,14 +20,14 @@ ghost use Rattle.weave_entries.specs.declared.message.Message.{Message};
 ghost use Rattle.weave_entries.specs.GateReplay.{addressed_to, channel_of, clock_of, next_stamp, stamps_of};
 ghost use Rattle.weave_entries.specs.ShardReplay.{arrived_at, first_unready, head_of, processed_count};
 ghost use Rattle.weave_account.specs.declared.account.Account.{Account};
-ghost use Rattle.weave_account.specs.Account.{gate_log, reads_of, shard_log};
+ghost use Rattle.weave_account.specs.Account.{gate_log, reads_of, shard_log, NoneInFlight};
 ghost use Rattle.weave_account.specs.Clocks.{IsKnown};
 ghost use Rattle.weave_account.specs.GoesOn.{GoesOn};
 ghost use Rattle.weave_account.specs.IsAccount.{IsAccount};
 ghost use Rattle.step_rules.specs.CoreState.{CoreState};
 ghost use Rattle.step_rules.specs.IsCore.{IsCore, IsStepOf};
 ghost use Rattle.step_rules.specs.Trace.{state_after};
-ghost use Rattle.drive_rules.specs.Heads.{AllArrived, AllProcessed, CanApply, IsQuiet};
+ghost use Rattle.drive_rules.specs.Heads.{AllArrived, AllProcessed, CanApply};
 ghost use Rattle.drive_rules.specs.Links.{link_count};
 ghost use Rattle.drive_rules.specs.Readiness.{IsPassed};
 
@@ -65,12 +65,12 @@ pub fn messages_arrive_as_sent()
 /// processed.
 pub fn no_shard_is_stuck()
     ensures some_head { (script : Script) (account : Account) → IsWithinLimits script → IsAccount script account
-        → IsQuiet account → (shard : ℕ) → AllArrived account shard
+        → NoneInFlight account → (shard : ℕ) → AllArrived account shard
         → ((home : ℕ) → head_of home (shard_log account shard) ≡ None)
         ⊎ ((home : ℕ) × CanApply account shard home) }
     ensures all_processed { (script : Script) (account : Account) → IsWithinLimits script → IsAccount script account
-        → IsQuiet account → (shard : ℕ) → AllArrived account shard
-        → ((home : ℕ) → ¬ CanApply account shard home) → AllProcessed account shard }
+        → NoneInFlight account → (shard : ℕ)
+        → AllArrived account shard → ((home : ℕ) → ¬ CanApply account shard home) → AllProcessed account shard }
 {
     the_crates_below_keep_their_laws();
 }

@@ -5,7 +5,6 @@ use Rattle.std.specs.Prelude.{Result, Ok, Err, IfOk, OnErr}
 use Rattle.std.specs.Option.{ForSome}
 use Rattle.std.proofs.lemmas.List.{append-nil, length-append, length-map}
 use mathlib.Core.Logic.{dite}
-use mathlib.Core.List.{IsPrefix}
 use native.Mathlib.Decide.{ℕ_discrete}
 use Rattle.weave_data.proofs.Ends.{count_push, flat_push, split_last}
 use Rattle.program_defs.specs.declared.script.Script.{Script}
@@ -25,6 +24,7 @@ use Rattle.weave_account.specs.GoesOn.{GoesOn}
 use Rattle.seen_logs.specs.References.{GateRefersAs}
 use Rattle.seen_logs.specs.Seen.{AreLegal, IsWithin}
 use Rattle.chronicle.specs.Passes.{seen_by_note}
+use Rattle.chronicle.proofs.Logs.{prefix_refl}
 use Rattle.gate_lock.specs.declared.notes.GateNotes.{GateNotes}
 use Rattle.gate_lock.specs.LowerLaws.{LawsForGateNotes}
 use Rattle.gate_lock.specs.Notes.{GateIsKept, seen_of_gate}
@@ -109,15 +109,12 @@ module _ (laws : LawsForGateNotes) (gate : GateView) (notes : GateNotes) (kept :
   own_after : gate_log after gate.home ≡ gate.log ++ entry_by author deed ∷ []
   own_after = at_home gate.home (gate.log ++ entry_by author deed ∷ []) (map seen_by_note notes.gates.items) (seen_by_note notes.store) (map seen_by_note notes.shards.items) low
 
-  same_prefix : {A : Type 0} (l : List A) → IsPrefix l l
-  same_prefix l = ([], append-nil l)
-
   goes : IsWithin before after
   goes = grows gate.home gate.log (gate.log ++ entry_by author deed ∷ []) (map seen_by_note notes.gates.items) (map seen_by_note notes.gates.items)
       (seen_by_note notes.store) (seen_by_note notes.store)
       (map seen_by_note notes.shards.items) (map seen_by_note notes.shards.items) low low (entry_by author deed ∷ [], refl)
-      (λ k other. same_prefix (get_or (map seen_by_note notes.gates.items) k []))
-      (same_prefix (seen_by_note notes.store)) (λ k. same_prefix (get_or (map seen_by_note notes.shards.items) k []))
+      (λ k other. prefix_refl (get_or (map seen_by_note notes.gates.items) k []))
+      (prefix_refl (seen_by_note notes.store)) (λ k. prefix_refl (get_or (map seen_by_note notes.shards.items) k []))
 
   goes_on : GoesOn before after
   goes_on = record {

@@ -12,7 +12,7 @@ use Rattle.weave_entries.specs.declared.message.Message.{Message}
 use Rattle.weave_entries.specs.declared.gate_log.GateEntry.{GateEntry}
 use Rattle.weave_entries.specs.GateReplay.{BegunRequest, begun_stamp, clock_of, channel_of}
 use Rattle.weave_entries.specs.GateRules.{IsBegunAt, IsGateLog}
-use Rattle.gatekeeper.specs.declared.begun.Flight.{Flight}
+use Rattle.gatekeeper.specs.declared.flight.Flight.{Flight}
 use Rattle.gatekeeper.specs.Opened.{as_begun}
 use Rattle.gatekeeper.specs.declared.places.Place.{Place}
 use Rattle.gatekeeper.specs.Places.{message_at}

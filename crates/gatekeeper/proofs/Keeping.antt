@@ -15,13 +15,12 @@ use Rattle.weave_entries.specs.declared.gate_log.GateDeed.{GateDeed}
 use Rattle.weave_entries.specs.GateReplay.{BegunRequest, clock_after, flight_after, running_after, messages_by, to_shard, stamps_by, stamps_of, running_of, channel_of}
 use Rattle.weave_entries.specs.GateRules.{FitsAs}
 use Rattle.weave_entries.proofs.Replay.{channel-push, clock-push, flight-push, running-push, stamps-push}
-use Rattle.gatekeeper.specs.declared.begun.Flight.{Flight}
+use Rattle.gatekeeper.specs.declared.flight.Flight.{Flight}
 use Rattle.gatekeeper.specs.Opened.{as_begun}
 use Rattle.gatekeeper.specs.Gates.{HaveBits, IsGateReplay}
 use Rattle.gatekeeper.specs.Running.{same_program, HoldsPrograms}
 use Rattle.gatekeeper.specs.declared.places.Place.{Place}
 use Rattle.gatekeeper.specs.Places.{LeadTo}
-use Rattle.gatekeeper.specs.Messages.{KeepsSent}
 use Rattle.gatekeeper.proofs.Leading.{lead-still, LeadAfter}
 use Rattle.weave_data.proofs.Entries.{each_none, each_push}
 use Rattle.weave_data.proofs.Members.{has_none, only}

@@ -22,7 +22,7 @@ use Rattle.weave_entries.specs.declared.gate_log.GateDeed.TheVariants.{Sent, Nop
 use Rattle.weave_entries.specs.GateReplay.{BegunRequest, flight_of, running_of, to_shard, channel_of, next_number, low_mark, nop_message}
 use Rattle.weave_entries.specs.Sending.{is_kept_at as keeps_of, parts_for, shards_named, message_to, messages_of, IsCountsOf}
 use Rattle.weave_entries.specs.GateRules.{Sends}
-use Rattle.gatekeeper.specs.declared.begun.Flight.{Flight}
+use Rattle.gatekeeper.specs.declared.flight.Flight.{Flight}
 use Rattle.gatekeeper.specs.Opened.{as_begun}
 use Rattle.gatekeeper.specs.Gates.{IsGateReplay}
 use Rattle.gatekeeper.specs.declared.places.Place.{Place}

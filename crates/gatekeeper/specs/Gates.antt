@@ -18,7 +18,7 @@ use Rattle.shard_queue.specs.Outbox.{Channel}
 use Rattle.gatekeeper.specs.Opened.{as_begun}
 use Rattle.gatekeeper.specs.Places.{LeadTo}
 use Rattle.gatekeeper.specs.Running.{HoldsPrograms}
-use Rattle.gatekeeper.specs.declared.begun.Flight.{Flight}
+use Rattle.gatekeeper.specs.declared.flight.Flight.{Flight}
 use Rattle.gatekeeper.specs.declared.places.Place.{Place}
 
 -- whose gatekeeper it is, of how many gatekeepers and for how many shards, its log, and for how many more entries there

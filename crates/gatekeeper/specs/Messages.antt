@@ -11,7 +11,7 @@ use Rattle.weave_entries.specs.declared.verdict.Verdict.TheVariants.{Committed, 
 use Rattle.weave_entries.specs.GateReplay.{to_shard}
 use Rattle.weave_entries.specs.Sending.{parts_for, shards_named}
 use Rattle.gatekeeper.specs.Places.{places_to}
-use Rattle.gatekeeper.specs.declared.begun.Flight.{Flight}
+use Rattle.gatekeeper.specs.declared.flight.Flight.{Flight}
 use Rattle.gatekeeper.specs.declared.places.Place.{Place}
 
 -- the places of what was sent to a shard

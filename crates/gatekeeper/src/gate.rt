@@ -13,8 +13,8 @@ ghost use Rattle.gatekeeper.specs.Answers.{IsRefusedWhere};
 ghost use Rattle.gatekeeper.specs.Opened.{as_begun};
 ghost use Rattle.gatekeeper.specs.Gates.{Adds, IsNew, MakesRoom, SendsFlight, HaveBits};
 
-use crate::begun::{Flight, begin, hear};
 use crate::fault::GateFault;
+use crate::flight::{Flight, begin, hear};
 use crate::places::{Place, Places, find_message};
 use crate::running::{Programs, end, is_running, low_mark, start};
 use crate::sending::{empty_channels, make_all_room, make_room, messages_of, send_all, send_one};

@@ -6,8 +6,8 @@
 //! `laws` says what follows from them.
 #![tactic(auto)]
 
-mod begun;
 mod fault;
+mod flight;
 mod gate;
 pub mod laws;
 mod parts;
@@ -15,6 +15,6 @@ mod places;
 mod running;
 mod sending;
 
-pub use begun::Flight;
 pub use fault::GateFault;
+pub use flight::Flight;
 pub use gate::Gate;

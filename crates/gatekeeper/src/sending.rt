@@ -5,7 +5,7 @@ ghost use Rattle.weave_entries.specs.Sending.{shards_named, IsCountsOf};
 ghost use Rattle.weave_entries.specs.declared.verdict.Counted.{Counted};
 ghost use Rattle.gatekeeper.specs.Messages.{made_for, with_parted, has_parts, messages_made, CanAllGo, HasRoomAt, KeepsSent, IsSentOn, AreSent, sent_at};
 
-use crate::begun::Flight;
+use crate::flight::Flight;
 use crate::parts::parts_by_shard;
 use crate::places::{Place, Places};
 use graph_ops::{Op, Part};

@@ -14,7 +14,7 @@ use Rattle.graph_ops.specs.PlainGraph.{PlainGraph}
 use Rattle.graph_ops.specs.VertexOps.{ops_on}
 use Rattle.graph_ops.specs.declared.op.Op.{Op}
 use Rattle.graph_ops.proofs.Alike.{AgreeFor}
-use Rattle.graph_ops.proofs.Vertices.{itself}
+use Rattle.graph_ops.proofs.Vertices.{same_name-refl}
 
 -- Each once
 
@@ -28,7 +28,7 @@ mentions-distinct (x ∷ xs) =
   where
     differs : (y : Name) → IsTrue (not (same_name x y)) → x ≡ y → ⊥
     differs y h same =
-        let there : same_name x y ≡ true = subst (λ k. IsTrue (same_name x k)) same (itself x) in
+        let there : same_name x y ≡ true = subst (λ k. IsTrue (same_name x k)) same (same_name-refl x) in
         both_ways (same_name x y) (at (same_name x y) h) there
       where
         at : (b : Bool) → IsTrue (not b) → b ≡ false
@@ -64,7 +64,7 @@ among-has xs v h =
 
 -- and each name that a list contains is among it
 pub has-among : (xs : List Name) (v : Name) → Contains xs v → IsTrue (is_among xs v)
-has-among xs v h = any_from (λ other. same_name other v) xs v h (itself v)
+has-among xs v h = any_from (λ other. same_name other v) xs v h (same_name-refl v)
 
 -- Operations
 
@@ -86,4 +86,4 @@ agree-named ops g h alike = from ops (λ v there. alike v (mentions-among (map v
   where
     from : (more : List Op) → ((v : Name) → IsTrue (is_among (map vertex_of more) v) → g v ≡ h v) → AgreeFor more g h
     from [] f = tt
-    from (op ∷ more) f = (f (vertex_of op) (or_left _ _ (itself (vertex_of op))), from more (λ v there. f v (or_right _ _ there)))
+    from (op ∷ more) f = (f (vertex_of op) (or_left _ _ (same_name-refl (vertex_of op))), from more (λ v there. f v (or_right _ _ there)))

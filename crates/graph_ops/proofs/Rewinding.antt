@@ -13,7 +13,7 @@ use Rattle.graph_ops.specs.TakingBack.{taken_back, CanTakeBack, step_back, graph
 use Rattle.graph_ops.specs.Journals.{HavePlaces, CanRewindIn, Keeps}
 use Rattle.graph_ops.specs.Pendings.{rewound_map}
 use Rattle.graph_ops.specs.declared.journal.Step.{Step}
-use Rattle.graph_ops.proofs.States.{get_with, get_held, one_map, other_way}
+use Rattle.graph_ops.proofs.States.{get_with, get_held, one_map, same_name-sym}
 
 -- to go back through steps is to take back the last step first, and then to go back through the others
 pub rewound_last : (steps : List Step) (step : Step) (graph : PlainGraph) → graph_rewound (steps ++ step ∷ []) graph ≡ graph_rewound steps (step_back step graph)
@@ -87,7 +87,7 @@ get_rewound [] vertices graph same q = same q
 get_rewound (step ∷ steps) vertices graph same q =
     let rest = get_rewound steps vertices graph same in
     get_with step.v _ (rewound_map steps vertices) q
-    ∙ ap (λ b. cond b (taken_back step.back (map.get (rewound_map steps vertices) step.v)) (map.get (rewound_map steps vertices) q)) (other_way q step.v)
+    ∙ ap (λ b. cond b (taken_back step.back (map.get (rewound_map steps vertices) step.v)) (map.get (rewound_map steps vertices) q)) (same_name-sym q step.v)
     ∙ ap (λ s. cond (same_name step.v q) (taken_back step.back s) (map.get (rewound_map steps vertices) q)) (rest step.v)
     ∙ ap (λ s. cond (same_name step.v q) (taken_back step.back (graph_rewound steps graph step.v)) s) (rest q)
 

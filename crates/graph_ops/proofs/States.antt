@@ -1,5 +1,6 @@
 -- An operation on a table of states passes or is refused as on the table's graph, and leaves the new table's graph.
--- Used by `apply`, `copy`, `copy_slots`, `do_step`, `find`, 8 more and crates gatekeeper and version_graph.
+-- Used by `apply`, `copy`, `copy_slots`, `do_step`, `find`, `make_place`, `new`, `perform`, `read`, `run_tx`, `undo`,
+-- `undo_step`, Rewinding and crates gatekeeper, program_defs and version_graph.
 use Rattle.std.proofs.Common.{◌≡◌, Bool, true, false, cond, List, [], ◌∷◌, Option, Some, None, IsSome, is_some, Result, Ok, Err, IfOk, OnErr, refl, sym, ap, ◌∙◌, subst}
 use Rattle.std.specs.Cmp.{eq_by_cmp_equiv}
 use Rattle.std.specs.Cmp.Lexicographic.{nat_list_cmp_total}
@@ -36,8 +37,8 @@ here_or_else v P here other q =
     ] refl
 
 -- sameness of two names can be turned
-pub other_way : (v q : Name) → same_name v q ≡ same_name q v
-other_way = (eq_by_cmp_equiv nat_list_cmp_total).symm
+pub same_name-sym : (v q : Name) → same_name v q ≡ same_name q v
+same_name-sym = (eq_by_cmp_equiv nat_list_cmp_total).symm
 
 written_state : (b : Bool) (s : State) (x : Option State) → cond b s (state_in x) ≡ state_in (cond b (Some s) x)
 written_state true s x = refl
@@ -175,7 +176,7 @@ first_of (Some s) second = Some s
 -- one more state of a table is copied
 pub copied_more : (v : Name) (s copy : State) (all front rest es fs : List (Name × State)) → front ≡ (v, s) ∷ rest → copy ≡ s → IsDistinct same_name (keys_of front) → Writes v copy es fs → ((q : Name) → first_of (at_key q front) (at_key q es) ≡ at_key q all) → (q : Name) → first_of (at_key q rest) (at_key q fs) ≡ at_key q all
 copied_more v s copy all front rest es fs is same apart writes states q =
-    ap (first_of (at_key q rest)) (writes q ∙ ap (λ x. cond (same_name v q) (Some x) (at_key q es)) same ∙ ap (λ b. cond b (Some s) (at_key q es)) (other_way v q))
+    ap (first_of (at_key q rest)) (writes q ∙ ap (λ x. cond (same_name v q) (Some x) (at_key q es)) same ∙ ap (λ b. cond b (Some s) (at_key q es)) (same_name-sym v q))
     ∙ here_first (same_name q v) (at_key q rest) (at_key q es) gone
     ∙ ap (λ pairs. first_of (at_key q pairs) (at_key q es)) (sym is) ∙ states q
   where

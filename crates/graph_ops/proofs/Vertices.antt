@@ -1,5 +1,5 @@
 -- A transaction leaves at each vertex what its operations there leave, and passes exactly if those of each vertex do.
--- Used by `vertices_are_independent`, Naming and 6 crates above.
+-- Used by `vertices_are_independent`, Naming and 8 crates above.
 use Rattle.std.proofs.Common.{◌≡◌, ℕ, ◌+◌, Bool, true, false, ◌&&◌, cond, List, [], ◌∷◌, IsTrue, Ok, Err, is_ok, refl, sym, ap, subst, ◌∙◌}
 use Rattle.std.proofs.lemmas.Bool.{and_parts}
 use Rattle.std.specs.Cmp.{eq_by_cmp_equiv}
@@ -14,8 +14,8 @@ use Rattle.graph_ops.specs.declared.op.Answered.{Answered}
 use Rattle.graph_ops.specs.declared.tx.Got.{Got}
 
 -- each name is the same as itself
-pub itself : (v : Name) → IsTrue (same_name v v)
-itself = (eq_by_cmp_equiv nat_list_cmp_total).refl
+pub same_name-refl : (v : Name) → IsTrue (same_name v v)
+same_name-refl = (eq_by_cmp_equiv nat_list_cmp_total).refl
 
 -- What a transaction that passes leaves
 
@@ -75,7 +75,7 @@ after-ok gots (Err stopped) h = h
 first-passes : (op : Op) (ops : List Op) (graph : PlainGraph) → ((v : Name) → IsTrue (none_refused (ops_on v (op ∷ ops)) (graph v))) → IsTrue (is_ok (outcome_of_op op (graph (vertex_of op))))
 first-passes op ops graph each =
     let u = vertex_of op in
-    let here : IsTrue (none_refused (op ∷ ops_on u ops) (graph u)) = subst (λ b. IsTrue (none_refused (cond b (op ∷ ops_on u ops) (ops_on u ops)) (graph u))) (itself u) (each u) in
+    let here : IsTrue (none_refused (op ∷ ops_on u ops) (graph u)) = subst (λ b. IsTrue (none_refused (cond b (op ∷ ops_on u ops) (ops_on u ops)) (graph u))) (same_name-refl u) (each u) in
     (and_parts _ _ here).0
 
 rest-passes : (op : Op) (ops : List Op) (graph : PlainGraph) (now : State) (answered : Answered) → outcome_of_op op (graph (vertex_of op)) ≡ Ok (now, answered) → ((v : Name) → IsTrue (none_refused (ops_on v (op ∷ ops)) (graph v))) → (v : Name) → IsTrue (none_refused (ops_on v ops) (with_state (vertex_of op) now graph v))

@@ -564,24 +564,9 @@ fn operations() -> Result<[Op; 11], Fail> {
     ])
 }
 
-// The word of an operation, and its names.
-fn fields(op: &Op) -> (&'static str, [Option<Name>; 4]) {
-    match *op {
-        Op::Create { v } => ("create", [Some(v), None, None, None]),
-        Op::Delete { v } => ("delete", [Some(v), None, None, None]),
-        Op::Set { v, key, value } => ("set", [Some(v), Some(key), Some(value), None]),
-        Op::Unset { v, key } => ("unset", [Some(v), Some(key), None, None]),
-        Op::Link { v, edge, target } => ("link", [Some(v), Some(edge), Some(target), None]),
-        Op::Unlink { v, edge } => ("unlink", [Some(v), Some(edge), None, None]),
-        Op::Tag {
-            v,
-            edge,
-            key,
-            value,
-        } => ("tag", [Some(v), Some(edge), Some(key), Some(value)]),
-        Op::Untag { v, edge, key } => ("untag", [Some(v), Some(edge), Some(key), None]),
-        Op::Get { v } => ("get", [Some(v), None, None, None]),
-    }
+// Whether two operations have the same word and the same names.
+fn are_same(op: &Op, other: &Op) -> bool {
+    op.word() == other.word() && op.fields().as_slice() == other.fields().as_slice()
 }
 
 #[test]
@@ -589,7 +574,7 @@ fn copies_of_operations(rt: HostRuntime) -> Result<(), Fail> {
     let alloc = rt.alloc();
     let ops = operations()?;
     for op in &ops {
-        assert!(rt; fields(&op.copy(alloc)?) == fields(op));
+        assert!(rt; are_same(&op.copy(alloc)?, op));
     }
     for count in 0..=ops.len() {
         let part = Part {

@@ -14,9 +14,9 @@ use Rattle.weave_account.specs.declared.account.Account.{Account}
 use Rattle.weave_account.specs.Account.{gate_log, session_log}
 use Rattle.weave_account.specs.Gatekeepers.{BeginsAs, BeginsRequest}
 use Rattle.weave_account.specs.GoesOn.{GoesOn}
+use Rattle.weave_account.proofs.GoesOn.{whole}
 use Rattle.hands_account.proofs.ByHands.{IsClosedRun, follows, gate-case, start-within}
 use Rattle.hands_account.proofs.Once.{each-once}
-use Rattle.hands_account.proofs.Places.{whole}
 
 -- an account with other sessions
 abbrev pub with_sessions_of : Account → Account → Account

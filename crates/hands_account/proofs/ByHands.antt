@@ -1,6 +1,7 @@
 -- What the proofs are given, and the entries of the closed logs: each was there at the start, or is of a hand, which
 -- has seen it.
--- Used by `closed_logs_go_on`, Account, Begins, InTurn, Once, 2 more and crates sessions_account and workers_account.
+-- Used by `closed_logs_go_on`, Account, Begins, InTurn, Once, Programs, Work and crates sessions_account and
+-- workers_account.
 use Rattle.std.proofs.Common.{◌≡◌, ℕ, ◌<◌, ◌≤◌, Bool, List, ◌∷◌, ◌++◌, length, drop, Contains, AllPairs, IsTrue, ◌⊎◌, inl, inr, refl, sym, ap, subst, ◌∙◌, arith}
 use Rattle.std.specs.List.{filter, flat_map}
 use Rattle.std.proofs.lemmas.List.{length-append}
@@ -14,11 +15,13 @@ use Rattle.weave_entries.specs.declared.store_log.StoreEntry.{StoreEntry}
 use Rattle.weave_account.specs.declared.account.Account.{Account}
 use Rattle.weave_account.specs.Account.{gate_log, shard_log}
 use Rattle.weave_account.specs.GoesOn.{IsBeginningOf}
+use Rattle.weave_account.proofs.GoesOn.{onward}
 use Rattle.seen_logs.specs.Closed.{AreOfHands, IsOfHands}
 use Rattle.seen_logs.specs.Seen.{AreLegal, IsOwn, IsWithin, without_sessions}
+use Rattle.seen_logs.proofs.Onward.{earlier-place}
 use Rattle.hands_account.specs.LowerLaws.{LawsForHands}
 use Rattle.hands_account.specs.Runs.{IsFollowedByHand, IsRunByHands}
-use Rattle.hands_account.proofs.Places.{earlier-place, filter-across, in-back, less-or, onward, since-place}
+use Rattle.hands_account.proofs.Places.{filter-across, in-back, less-or, since-place}
 
 -- what the lemmas on the closed logs of a run are given
 pub record IsClosedRun (script : Script) (hands : ℕ) (start : Account) (seen_by : ℕ → Account) (closed : Account) : Type 0 where

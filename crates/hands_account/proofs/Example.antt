@@ -1,5 +1,6 @@
 -- A worked run: from no logs on, hand 0 begins, has judged and sends the only transaction of a script, which creates v.
 -- The closed logs meet all premises of the law, so they are an account.
+-- Used by nothing: worked examples.
 use Rattle.std.proofs.Common.{◌≡◌, ◌≢◌, ℕ, zero, suc, ◌<◌, ◌≤◌, List, [], ◌∷◌, ◌++◌, length, Contains, IsTrue, AllPairs, Some, None, inr, refl, ap, subst, ◌∙◌, arith}
 use Rattle.std.specs.Prelude.{IsSomeAnd}
 use Rattle.std.proofs.lemmas.List.{length-append}
@@ -37,13 +38,14 @@ use Rattle.weave_account.specs.Store.{InTurn}
 use Rattle.seen_logs.specs.Closed.{AreOfHands, IsOfHands}
 use Rattle.seen_logs.specs.References.{GateRefersAs, StoreRefersAs}
 use Rattle.seen_logs.specs.Seen.{AreLegal, AnswersFor, IsOwn, IsSeenByHand, IsWithin, entries_since, without_sessions}
+use Rattle.seen_logs.proofs.Placed.{pairs-one}
 use Rattle.hands_account.specs.LowerLaws.{LawsForHands}
 use Rattle.hands_account.specs.Runs.{FinishesItsOwn, IsFollowedByHand, IsRunByHands, own_begun}
 use Rattle.hands_account.proofs.Account.{closed-account}
-use Rattle.hands_account.proofs.Places.{pairs-one, whole}
-use Rattle.report_rules.proofs.Examples.{script_of, transaction}
+use Rattle.report_rules.proofs.Examples.{script_of}
 use Rattle.weave_account.proofs.ExampleLists.{one, only-zero, two}
 use Rattle.weave_account.proofs.ExampleParts.{at-gate, clock, created, creates, creating, first-to, in-session, judges-creation, right-creation, two-known, change}
+use Rattle.weave_account.proofs.GoesOn.{whole}
 
 -- The script
 

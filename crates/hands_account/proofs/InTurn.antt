@@ -28,16 +28,21 @@ use Rattle.weave_entries.specs.GateReplay.{BegunRequest, begun_by, begun_in, end
 use Rattle.weave_entries.specs.SessionReplay.{begins_in, has_begun_in, session_of}
 use Rattle.weave_entries.specs.StoreReplay.{Judgement, judgements_of}
 use Rattle.weave_entries.specs.StoreRule.{stamps_judged}
+use Rattle.weave_entries.proofs.StoreLogs.{judged-author}
 use Rattle.weave_account.specs.declared.account.Account.{Account}
 use Rattle.weave_account.specs.Account.{all_begun, gate_log, session_log}
 use Rattle.weave_account.specs.Sessions.{requests_of_session}
 use Rattle.weave_account.specs.Store.{InTurn}
+use Rattle.weave_account.proofs.Replying.{place-of}
+use Rattle.weave_account.proofs.GoesOn.{has-on}
 use Rattle.seen_logs.specs.Seen.{entries_since}
 use Rattle.hands_account.proofs.ByHands.{IsClosedRun, IsStoreByHand, follows, gates-on, pair-since, pair-there, starts, store-by, store-case, store-on}
 use Rattle.hands_account.proofs.Once.{begun-on, not-both, one-begin}
-use Rattle.hands_account.proofs.Places.{Across, earlier-place, flat-pairs, has-on, in-back, less-or, pairs-by-places, pairs-one, place-of}
-use Rattle.hands_account.proofs.Work.{HasWork, judged-author, judgement, own-judged, work-all}
+use Rattle.hands_account.proofs.Places.{Across, flat-pairs, in-back, less-or, pairs-by-places}
+use Rattle.hands_account.proofs.Work.{HasWork, judgement, own-judged, work-all}
 use Rattle.seen_logs.proofs.MakesAccount.{fits-new}
+use Rattle.seen_logs.proofs.Placed.{pairs-one}
+use Rattle.seen_logs.proofs.Onward.{earlier-place}
 
 -- Requests
 

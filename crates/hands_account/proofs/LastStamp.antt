@@ -1,5 +1,5 @@
 -- The stamp that a request hears is the last one in its session's log, if the request is the next one there. The first
--- request of a session has none before it, and the one after a place has the one at that place.
+-- request of a session has none before it, and each other one has the one at the place before its own.
 -- Used by `last_stamps_are_those_of_sessions` and crate workers_account.
 use Rattle.std.proofs.Common.{◌≡◌, ◌≢◌, ℕ, zero, suc, ◌+◌, ◌<◌, ◌==◌, Bool, true, false, cond, List, [], ◌∷◌, ◌++◌, length, map, take, drop, reverse, Contains, AllPairs, IsTrue, Option, Some, None, ◌⊎◌, inl, inr, refl, sym, ap, subst, ◌∙◌, append_assoc, arith}
 use Rattle.std.specs.Prelude.{slice_get}
@@ -201,7 +201,7 @@ last-step requests state begins (Replied r) fits (same, inr some) = (
   }),
 )
 
--- the state of a session after its log
+-- after a session's log nothing was begun, or the request begun last has its place there and its stamp
 pub last-begun : (number : ℕ) (requests : List ℕ) (log : List SessionEntry) → IsSessionLog number requests log
     → IsAfter requests (session_of requests log) (begins_in log)
 last-begun number requests =

@@ -1,4 +1,5 @@
--- What a hand made follows the script if the closed logs are an account of it: so what is asked of hands is no more than
+-- What a hand made follows the script if the closed logs are an account of it: so what is asked of hands is no more
+-- than
 -- an account has, but for the programs that they finish. What a hand has seen is the beginning of the closed logs.
 -- Used by `hands_of_an_account_follow_its_script` and crate workers_account.
 use Rattle.std.proofs.Common.{◌≡◌, ◌≢◌, ℕ, zero, suc, ◌<◌, ◌≤◌, ◌==◌, List, [], ◌∷◌, ◌++◌, length, drop, get_or, Contains, AllPairs, IsTrue, Some, refl, sym, ap, subst, ◌∙◌, append_assoc, arith}
@@ -24,11 +25,14 @@ use Rattle.weave_account.specs.Gatekeepers.{BeginsAs}
 use Rattle.weave_account.specs.IsAccount.{IsAccount}
 use Rattle.weave_account.specs.Programs.{ReadsInTurn}
 use Rattle.weave_account.specs.Store.{InTurn}
+use Rattle.weave_account.proofs.GoesOn.{has-on}
+use Rattle.weave_account.proofs.RepliesClause.{pairs-right}
 use Rattle.seen_logs.specs.Closed.{AreOfHands}
 use Rattle.seen_logs.specs.Seen.{AreLegal, IsOwn, entries_since, without_sessions}
+use Rattle.seen_logs.proofs.Placed.{pairs-append}
 use Rattle.hands_account.specs.LowerLaws.{LawsForHands}
 use Rattle.hands_account.specs.Runs.{FinishesOwnPrograms, IsFollowedByHand, IsOwnProgram, own_begun, own_judgements}
-use Rattle.hands_account.proofs.Places.{has-on, pairs-append, pairs-filter, pairs-second}
+use Rattle.hands_account.proofs.Places.{pairs-filter}
 use Rattle.hands_account.proofs.Programs.{apart, reads-move}
 use Rattle.hands_account.proofs.Work.{HasWork, judgement}
 use Rattle.hands_account.proofs.Once.{begins-of}
@@ -40,7 +44,7 @@ pub list-within : {A B : Type 0} (R : B → B → Type 0) (f : List A → List B
     → (i : ℕ) → AllPairs R (f (get_or xss i []))
 list-within R f none [] pairs i = subst (AllPairs R) (sym none) (pairs_none R)
 list-within R f none (xs ∷ xss) pairs zero = pairs_front R (f xs) (flat_map f xss) pairs
-list-within R f none (xs ∷ xss) pairs (suc i) = list-within R f none xss (pairs-second R (f xs) (flat_map f xss) pairs) i
+list-within R f none (xs ∷ xss) pairs (suc i) = list-within R f none xss (pairs-right R (f xs) (flat_map f xss) pairs) i
 
 -- Hands
 
@@ -71,7 +75,7 @@ module _ (laws : LawsForHands) (script : Script) (hands : ℕ) (start : Account)
       let pairs : AllPairs R (begun_in old ++ new) = subst (AllPairs R) seen
       (pairs_front R (begun_in log) (begun_in on.0) (subst (AllPairs R) all (list-within R begun_in refl closed.gates is.gatekeepers.once home))) in
       pairs-append R (begun_in old) (filter by_it new) (pairs_front R (begun_in old) new pairs)
-      (pairs-filter R by_it new (pairs-second R (begun_in old) new pairs))
+      (pairs-filter R by_it new (pairs-right R (begun_in old) new pairs))
       (λ a b ha hb. pairs_across R (begun_in old) new a b pairs ha (filter_has by_it new b hb).0)
 
   work : (judged : Judgement) → Contains (own_judgements number start (seen_by number)) judged → HasWork script judged
@@ -95,7 +99,7 @@ module _ (laws : LawsForHands) (script : Script) (hands : ℕ) (start : Account)
       ap judgements_of (starts.1 ∙ ap (λ l. old ++ l) (sym rest)) ∙ map-append judgement old (entries_since old log) in
       let all : judgements_of closed.store ≡ judgements_of log ++ judgements_of on.0 = ap judgements_of on.1 ∙ map-append judgement log on.0 in
       pairs-filter R (λ (j : Judgement). j.author == number) (judgements_of (entries_since old log))
-      (pairs-second R (judgements_of old) (judgements_of (entries_since old log))
+      (pairs-right R (judgements_of old) (judgements_of (entries_since old log))
       (subst (AllPairs R) seen (pairs_front R (judgements_of log) (judgements_of on.0) (subst (AllPairs R) all is.store.in_turn))))
 
   programs : (r : ℕ) → IsOwnProgram number start (seen_by number) r → (request : Request) (program : Program)

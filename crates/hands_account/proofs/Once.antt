@@ -1,4 +1,5 @@
--- Each request begins once. This needs no reference to other logs: a begin is at its request's gatekeeper, so two of one
+-- Each request begins once. This needs no reference to other logs: a begin is at its request's gatekeeper, so two of
+-- one
 -- request are in one log. A session has one hand, and this begins none twice, and none of the start's.
 -- Used by Account, Begins, InTurn, Needed, Programs and crates sessions_account and workers_account.
 use Rattle.std.proofs.Common.{◌≡◌, ◌≢◌, ℕ, ◌<◌, ◌≤◌, ◌==◌, ◌&&◌, Bool, true, List, [], ◌∷◌, ◌++◌, length, get_or, Contains, AllPairs, IsTrue, Option, Some, None, inl, inr, refl, sym, ap, subst, ◌∙◌, append_assoc, arith}
@@ -20,10 +21,16 @@ use Rattle.weave_entries.specs.GateReplay.{BegunRequest, begun_by, begun_in, pro
 use Rattle.weave_account.specs.declared.account.Account.{Account}
 use Rattle.weave_account.specs.Account.{all_begun, gate_log}
 use Rattle.weave_account.specs.Gatekeepers.{BeginEachOnce, BeginsAs}
+use Rattle.weave_account.proofs.Beginning.{list-there}
+use Rattle.weave_account.proofs.Replying.{place-of}
+use Rattle.weave_account.proofs.GoesOn.{has-on}
+use Rattle.weave_account.proofs.RepliesClause.{pairs-right}
 use Rattle.seen_logs.specs.Seen.{entries_since}
+use Rattle.seen_logs.proofs.Placed.{pairs-one}
+use Rattle.seen_logs.proofs.Onward.{earlier-place}
 use Rattle.hands_account.specs.Runs.{own_begun}
 use Rattle.hands_account.proofs.ByHands.{IsGateByHand, IsClosedRun, first, follows, gate-by, gate-case, gates-on, pair-since, pair-there, starts}
-use Rattle.hands_account.proofs.Places.{Across, at-place, earlier-place, flat-pairs, has-on, less-or, list-there, pairs-by-places, pairs-one, pairs-second, place-of, since-place}
+use Rattle.hands_account.proofs.Places.{Across, at-place, flat-pairs, less-or, pairs-by-places, since-place}
 
 -- Begins
 
@@ -175,7 +182,7 @@ module _ {script : Script} {hands : ℕ} {start : Account} {seen_by : ℕ → Ac
       let pairs = (follows run d.author of_d.known).once home in
       let log = gate_log (seen_by d.author) home in
       pair-since Differ begins-of (λ (b : BegunRequest). b.author == d.author) (gate_log start home) log ((starts run d.author of_d.known).gates home)
-      (pairs-second Differ (begun_in (gate_log start home)) (own_begun d.author start (seen_by d.author) home) pairs)
+      (pairs-right Differ (begun_in (gate_log start home)) (own_begun d.author start (seen_by d.author) home) pairs)
       before mid of_d.rest e d of_d.at late x y hx hy
       (eq-eqb x.author d.author (sym (begun-author e.author e.deed x hx) ∙ authors))
       (eq-eqb y.author d.author (sym (begun-author d.author d.deed y hy))) same

@@ -17,16 +17,19 @@ use Rattle.report_rules.specs.Lookups.{request_at}
 use Rattle.weave_entries.specs.declared.gate_log.GateEntry.{GateEntry}
 use Rattle.weave_entries.specs.declared.gate_log.GateDeed.{GateDeed}
 use Rattle.weave_entries.specs.declared.gate_log.GateDeed.TheVariants.{BeganTx, BeganProgram, Sent, Nop, Heard, Raised, Finished}
-use Rattle.weave_entries.specs.GateReplay.{BegunRequest, begun_by, begun_in, ended_by, ended_in, program_by, programs_of, tx_by}
+use Rattle.weave_entries.specs.GateReplay.{BegunRequest, begun_in, ended_by, ended_in, program_by, programs_of, tx_by}
 use Rattle.weave_entries.proofs.OwnStamps.{program-begun}
 use Rattle.weave_account.specs.declared.account.Account.{Account}
 use Rattle.weave_account.specs.Account.{gate_log, is_ended, reads_of}
 use Rattle.weave_account.specs.Programs.{ReadsInTurn}
+use Rattle.weave_account.proofs.Beginning.{list-there}
+use Rattle.weave_account.proofs.Replying.{place-of}
+use Rattle.weave_account.proofs.GoesOn.{has-on}
 use Rattle.seen_logs.specs.FollowsScript.{BegunProgramsReadInTurn}
 use Rattle.seen_logs.specs.Seen.{AreLegal, entries_since, without_sessions}
 use Rattle.hands_account.proofs.ByHands.{IsGateByHand, IsClosedRun, follows, gate-by, gate-case, gates-on, starts}
 use Rattle.hands_account.proofs.Once.{begun-author, each-once, never-again, not-both}
-use Rattle.hands_account.proofs.Places.{has-on, list-there, place-of, since-place}
+use Rattle.hands_account.proofs.Places.{since-place}
 
 -- sessions play no part in the rules of the other logs
 pub apart : {gates shards : ℕ} {account : Account} → AreLegal gates shards account → AreLegal gates shards (without_sessions account)

@@ -1,7 +1,7 @@
 -- What is judged are the operations of its request. This needs no reference to other logs: it is so at the start by the
 -- account there, and later by the hand that judged.
 -- Used by Account, InTurn and Needed.
-use Rattle.std.proofs.Common.{◌≡◌, ℕ, ◌==◌, List, Contains, inl, inr, refl, sym, subst, ◌∙◌}
+use Rattle.std.proofs.Common.{◌≡◌, ℕ, ◌==◌, List, Contains, inl, inr, sym, subst, ◌∙◌}
 use Rattle.std.specs.Prelude.{IsSomeAnd}
 use Rattle.std.proofs.lemmas.Bool.{eq-eqb}
 use Rattle.weave_data.proofs.Members.{cut_at, has_cut, has_filter, has_map, map_has}
@@ -10,9 +10,8 @@ use Rattle.program_defs.specs.declared.script.Script.{Script}
 use Rattle.program_defs.specs.declared.script.Work.TheVariants.{Change}
 use Rattle.report_rules.specs.Lookups.{request_at}
 use Rattle.weave_entries.specs.declared.store_log.StoreEntry.{StoreEntry}
-use Rattle.weave_entries.specs.declared.store_log.StoreDeed.{StoreDeed}
-use Rattle.weave_entries.specs.declared.store_log.StoreDeed.TheVariants.{Judged}
 use Rattle.weave_entries.specs.StoreReplay.{Judgement, judged_by, judgements_of}
+use Rattle.weave_entries.proofs.StoreLogs.{judged-author}
 use Rattle.weave_account.specs.declared.account.Account.{Account}
 use Rattle.seen_logs.specs.Seen.{entries_since}
 use Rattle.hands_account.specs.Runs.{own_judgements}
@@ -22,10 +21,6 @@ use Rattle.hands_account.proofs.Places.{since-place}
 -- an entry of the store as a judgement
 abbrev pub judgement : StoreEntry → Judgement
 judgement entry = judged_by entry.author entry.deed
-
--- a judgement has the author of its entry
-pub judged-author : (author : ℕ) (deed : StoreDeed) → (judged_by author deed).author ≡ author
-judged-author author (Judged request stamp ops asked verdict) = refl
 
 -- a judgement has the operations of its request
 abbrev pub HasWork : Script → Judgement → Type 0

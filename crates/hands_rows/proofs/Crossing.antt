@@ -1,4 +1,5 @@
--- A worker may be sent to another thread. The toolchain finds this for its parts but not for a hand, which holds passes.
+-- A worker may be sent to another thread. The toolchain finds this for its parts but not for a hand, which holds
+-- passes.
 -- Used by `work_side_by_side`.
 use denote.Param.Send.{IsSend, sendable, recorded_send, struct_send}
 use denote.Struct.Declared.{shape}

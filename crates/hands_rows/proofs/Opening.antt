@@ -1,12 +1,10 @@
 -- New machines may be put behind locks, and the hands that come with them are workers.
 -- Used by `open`.
-use Rattle.std.proofs.Common.{◌≡◌, ◌==◌, ℕ, zero, suc, ◌<◌, List, [], ◌∷◌, ◌++◌, length, map, filter, get_or, refl, sym, ap, ◌∙◌, subst, arith, Contains}
+use Rattle.std.proofs.Common.{◌≡◌, ◌==◌, ℕ, zero, suc, ◌<◌, List, [], ◌∷◌, ◌++◌, length, map, filter, get_or, refl, sym, ap, ◌∙◌, subst, arith}
 use Rattle.std.specs.List.{flat_map}
 use Rattle.std.proofs.lemmas.List.{get_or-map, length-map}
-use Rattle.weave_data.proofs.Members.{has_none}
 use Rattle.weave_entries.specs.declared.gate_log.GateEntry.{GateEntry}
 use Rattle.weave_entries.specs.declared.shard_log.ShardEntry.{ShardEntry}
-use Rattle.weave_entries.specs.GateReplay.{BegunRequest, begun_in}
 use Rattle.weave_entries.specs.ShardReplay.{reads_in}
 use Rattle.gatekeeper.specs.Gates.{GateView}
 use Rattle.shard_node.specs.Shards.{ShardView}
@@ -20,6 +18,7 @@ use Rattle.lock_row.proofs.Lists.{one_of}
 use Rattle.hands_rows.specs.Going.{OwnRequestLaws}
 use Rattle.hands_rows.specs.Workers.{AreWorkers, IsNumbered, IsWorkerOf, worker_of}
 use Rattle.weaver_locks.proofs.Options.{nothing-there}
+use Rattle.weaver_locks.proofs.EachLog.{none-begun}
 
 -- nothing was read in the shards
 no-reads-in : (r : ℕ) (shards : List ShardView) → ((k : ℕ) (s : ShardView) → k < length shards → (get_or shards k s).log ≡ [])
@@ -55,15 +54,12 @@ module _ (laws : OwnRequestLaws) (shared : Shared) (hand : Hand) (is : IsHand sh
   new-worker : IsWorkerOf shared hand 0 (worker_of hand).last (worker_of hand).walk
   new-worker = record {
     is_hand = is;
-    fresh = λ r low home begun h. absurd (none-begun home begun h);
+    fresh = λ r low home begun h. absurd (none-begun hand made-none home begun h);
     unread = λ r low. laws.nothing_read hand r (unread r);
     heard = nothing-there _;
     running = nothing-there _;
     below = nothing-there _;
   }
-    where
-      none-begun : (home : ℕ) (begun : BegunRequest) → Contains (begun_in (gate_log (made_by hand) home)) begun → ⊥
-      none-begun home begun h = has_none begun (subst (λ (l : List GateEntry). Contains (begun_in l) begun) (made-none home) h)
 
   -- the worker of a hand that has seen no entry at gatekeepers and no read is ready, with the hand's number
   pub new-numbered : (number : ℕ) → hand_number hand ≡ number → IsNumbered shared number (worker_of hand)

@@ -3,31 +3,31 @@
 #![tactic(auto)]
 
 #[cfg(test)]
+mod answer_texts;
+#[cfg(test)]
 mod bench;
 #[cfg(test)]
 mod calls;
 #[cfg(test)]
-mod carried;
-#[cfg(test)]
-mod judged;
-#[cfg(test)]
 mod many;
 #[cfg(test)]
-mod played;
+mod messages;
+#[cfg(test)]
+mod pairs;
+#[cfg(test)]
+mod play;
+#[cfg(test)]
+mod programs;
 #[cfg(test)]
 mod replies;
 #[cfg(test)]
-mod requested;
+mod right_report;
 #[cfg(test)]
 mod rows;
-#[cfg(test)]
-mod said;
-#[cfg(test)]
-mod settled;
 #[cfg(test)]
 mod thread_rows;
 #[cfg(test)]
 mod threads;
 #[cfg(test)]
-mod walked;
+mod transactions;
 pub mod worker;

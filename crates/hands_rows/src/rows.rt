@@ -4,8 +4,8 @@ ghost use Rattle.weaver_locks.specs.Locks.{gate_count};
 ghost use Rattle.hands_rows.specs.Workers.{AreWorkers};
 
 use crate::bench::{close, open};
-use crate::judged::{answers_of, right_report, script_of};
-use crate::played::{Call, Row, play};
+use crate::play::{Call, Row, play};
+use crate::right_report::{answers_of, right_report, script_of};
 use crate::worker::Worker;
 use program_defs::Script;
 use std::alloc::Global;

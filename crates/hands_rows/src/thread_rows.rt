@@ -2,8 +2,8 @@
 ghost use Rattle.std.specs.Prelude.{◌<◌};
 
 use crate::bench::{close, open};
-use crate::judged::{answers_of, right_report, script_of};
 use crate::many::{REQUESTS, many_requests};
+use crate::right_report::{answers_of, right_report, script_of};
 use crate::threads::work_all;
 use program_defs::Script;
 use std::alloc::Global;

@@ -6,10 +6,10 @@ ghost use Rattle.weaver_locks.specs.Locks.{gate_count, shard_count};
 ghost use Rattle.hands_rows.specs.Workers.{AreWorkers, IsReadyWorker};
 
 use crate::calls::{gate_of, last_of, not_begun, shard_of};
-use crate::carried::{apply, nop, pull, say_and_hear};
-use crate::played::{ops_of, program_of, request_of};
-use crate::requested::transact;
-use crate::walked::{finish, reads_more, start, visit};
+use crate::messages::{apply, nop, pull, say_and_hear};
+use crate::play::{ops_of, program_of, request_of};
+use crate::programs::{finish, reads_more, start, visit};
+use crate::transactions::transact;
 use crate::worker::Worker;
 use program_defs::{Program, Request, Script, Work};
 use std::alloc::Global;

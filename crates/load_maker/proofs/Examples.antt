@@ -1,4 +1,5 @@
 -- Worked rows: the scripts of one request that a few words give.
+-- Used by nothing: worked examples.
 use Rattle.std.proofs.Common.{◌≡◌, ℕ, zero, suc, List, [], ◌∷◌, Some, None, refl}
 use Rattle.std.specs.Prelude.{codes}
 use Rattle.graph_ops.specs.declared.op.Op.TheVariants.{Create, Set, Tag, Unlink}

@@ -13,7 +13,7 @@ use Rattle.std.proofs.lemmas.Fmt.{decimal_injective}
 use Rattle.std.proofs.lemmas.Map.Made.{length-le_from_is_member}
 use Rattle.weave_data.specs.Names.{is_name, same_name, one_name}
 use Rattle.weave_data.specs.declared.name.Name.{Name}
-use Rattle.graph_ops.proofs.Vertices.{itself}
+use Rattle.graph_ops.proofs.Vertices.{same_name-refl}
 use Rattle.graph_ops.specs.Mentions.{is_among, with_name}
 use Rattle.weave_script.specs.Limits.{with_names}
 use Rattle.load_maker.specs.Generated.{numbered_name}
@@ -66,7 +66,7 @@ below_member : (n k : ℕ) → k < n → is_member same_name (names_below n) (nu
 unfolding names_below
 below_member zero k h = absurd (omega (arith, h))
 below_member (suc n) k h = elim (cases_eq k n) [
-  | inl e ↦ or_left _ _ (ap (λ n. same_name (numbered_name (codes "v") k) (numbered_name (codes "v") n)) (sym e) ∙ itself (numbered_name (codes "v") k))
+  | inl e ↦ or_left _ _ (ap (λ n. same_name (numbered_name (codes "v") k) (numbered_name (codes "v") n)) (sym e) ∙ same_name-refl (numbered_name (codes "v") k))
   | inr e ↦ or_right _ _ (below_member n k (omega (arith, h, e)))
 ]
 

@@ -1,5 +1,6 @@
 -- What a worker keeps stays true in its hand's next hold.
--- Used by `apply`, `arrive`, `begin_program`, `begin_tx`, `commit`, `fetch`, `finish`, `hear`, `nop`, `say` and 2 more.
+-- Used by `apply`, `arrive`, `begin_program`, `begin_tx`, `commit`, `fetch`, `finish`, `hear`, `nop`, `say`, `send`
+-- and `visit`.
 use Rattle.std.proofs.Common.{◌≡◌, ◌≢◌, ℕ, suc, ◌+◌, ◌<◌, ◌≤◌, List, [], ◌∷◌, length, Contains, inl, inr, refl, sym, ap, subst, arith}
 use Rattle.std.specs.Prelude.{None, Some, Result}
 use Rattle.weave_data.proofs.Members.{has_head, has_flat}
@@ -14,9 +15,9 @@ use Rattle.weave_entries.specs.declared.store_log.StoreEntry.{StoreEntry}
 use Rattle.weave_account.specs.declared.account.Account.{Account}
 use Rattle.weave_account.specs.Account.{gate_log}
 use Rattle.weave_account.specs.Clocks.{IsKnown}
+use Rattle.weave_account.proofs.GoesOn.{has-on, flat-on}
 use Rattle.seen_logs.specs.References.{EndsAsSeen}
 use Rattle.seen_logs.specs.Seen.{IsWithin}
-use Rattle.seen_logs.proofs.Listed.{flat-on, has-on}
 use Rattle.weaver_locks.specs.declared.hand.Hand.{Hand}
 use Rattle.weaver_locks.specs.declared.shared.Shared.{Shared}
 use Rattle.weaver_locks.specs.GateHolds.{gate_entries_of, gate_entry_by, WasAtGate}

@@ -1,9 +1,10 @@
 -- What a hand made at gatekeepers, and what it has not made.
--- Used by `apply`, `arrive`, `begin_program`, `begin_tx`, `commit`, `fetch`, `hear`, `nop`, `say`, `send` and 2 more.
-use Rattle.std.proofs.Common.{eqb, ◌≡◌, eqb, ◌≢◌, ◌⊎◌, ℕ, ◌<◌, ◌≤◌, zero, suc, List, [], ◌∷◌, ◌++◌, get_or, set, Contains, inl, inr, refl, sym, ap, ◌∙◌, subst, arith, eq-eqb}
+-- Used by `apply`, `arrive`, `begin_program`, `begin_tx`, `commit`, `fetch`, `hear`, `nop`, `say`, `send`, `visit` and
+-- Going.
+use Rattle.std.proofs.Common.{eqb, ◌≡◌, eqb, ◌≢◌, ℕ, ◌<◌, ◌≤◌, suc, List, [], ◌∷◌, get_or, Contains, inl, inr, refl, sym, ap, ◌∙◌, subst, arith, eq-eqb}
 use Rattle.std.specs.Prelude.{Result, Ok, Err}
-use Rattle.std.proofs.lemmas.List.Elements.{Contains-append_cases}
 use Rattle.weave_data.proofs.Members.{flat_has, has_filter, has_flat, has_none, only}
+use Rattle.weave_data.proofs.RowsSet.{set-has}
 use Rattle.weave_entries.specs.declared.gate_log.GateDeed.{GateDeed}
 use Rattle.weave_entries.specs.declared.gate_log.GateDeed.TheVariants.{BeganTx, BeganProgram, Sent, Nop, Heard, Finished}
 use Rattle.weave_entries.specs.declared.gate_log.GateEntry.{GateEntry}
@@ -26,19 +27,10 @@ made-gate shared hand is home entry there author_is =
     (has_filter (λ (e : GateEntry). eqb e.author (hand_number hand)) (gate_log (seen_by hand) home) entry there
     (eq-eqb entry.author (hand_number hand) author_is))
 
--- what is in a changed list at a place was there, or was put there
-set-more : {A : Type 0} (xss : List (List A)) (place k : ℕ) (ys : List A) (x : A)
-    → Contains (get_or (set xss place (get_or xss place [] ++ ys)) k []) x → Contains (get_or xss k []) x ⊎ Contains ys x
-set-more [] place k ys x h = inl h
-set-more (xs ∷ xss) zero zero ys x h = Contains-append_cases xs ys x h
-set-more (xs ∷ xss) zero (suc k) ys x h = inl h
-set-more (xs ∷ xss) (suc place) zero ys x h = inl h
-set-more (xs ∷ xss) (suc place) (suc k) ys x h = set-more xss place k ys x h
-
 -- if a hand made what it had made and some entries at one gatekeeper, it made no other entry at gatekeepers
 pub made-there : (old new : Hand) (gate : ℕ) (added : List GateEntry) → made_by new ≡ with_gate_entries gate added (made_by old) → MadeBut old new added
 made-there old new gate added made home entry h =
-    set-more (made_by old).gates gate home added entry (subst (λ (a : Account). Contains (gate_log a home) entry) made h)
+    set-has (made_by old).gates gate home added entry (subst (λ (a : Account). Contains (gate_log a home) entry) made h)
 
 -- if what a hand made at gatekeepers is what it had made, it made no entry there
 pub made-elsewhere : (old new : Hand) → (made_by new).gates ≡ (made_by old).gates → MadeBut old new []

@@ -4,14 +4,13 @@ use Rattle.std.proofs.Common.{eqb, filter, ◌≡◌, eqb, filter, ℕ, ◌<◌,
 use Rattle.std.proofs.lemmas.List.{get_or-map, length-map}
 use Rattle.weave_data.proofs.Members.{has_none}
 use Rattle.weave_entries.specs.declared.gate_log.GateEntry.{GateEntry}
-use Rattle.weave_entries.specs.GateReplay.{BegunRequest, begun_in}
 use Rattle.weave_account.specs.declared.account.Account.{Account}
 use Rattle.weave_account.specs.Account.{gate_log}
 use Rattle.lock_row.proofs.Lists.{one_of}
 use Rattle.weaver_locks.specs.declared.hand.Hand.{Hand}
 use Rattle.weaver_locks.specs.declared.shared.Shared.{Shared}
 use Rattle.weaver_locks.specs.Hands.{hand_number, made_by, seen_by, IsHand}
-use Rattle.weaver_locks.proofs.EachLog.{own-gate}
+use Rattle.weaver_locks.proofs.EachLog.{own-gate, none-begun}
 use Rattle.weaver_locks.proofs.Options.{nothing-there}
 use Rattle.locks_rows.specs.Workers.{ArePlayers, IsNumberedPlayer, IsWorker, player_of}
 
@@ -28,16 +27,13 @@ module _ (shared : Shared) (hand : Hand) (is : IsHand shared hand)
   new-worker : IsWorker shared (player_of hand).worker
   new-worker = record {
     hand = is;
-    begun = λ r low home begun h. absurd (none-begun home begun h);
+    begun = λ r low home begun h. absurd (none-begun hand made-none home begun h);
     finished = λ r low home entry h. absurd (nothing-made home entry h);
     last = nothing-there _;
     said = nothing-there _;
     walk = nothing-there _;
     ended = nothing-there _;
   }
-    where
-      none-begun : (home : ℕ) (begun : BegunRequest) → Contains (begun_in (gate_log (made_by hand) home)) begun → ⊥
-      none-begun home begun h = has_none begun (subst (λ (l : List GateEntry). Contains (begun_in l) begun) (made-none home) h)
 
   -- the player of a hand that has seen no entry at gatekeepers is ready, with the hand's number
   pub new-player : (number : ℕ) → hand_number hand ≡ number → IsNumberedPlayer shared number (player_of hand)

@@ -27,7 +27,8 @@ use Rattle.chronicle.specs.Passes.{seen_by_note}
 use Rattle.shard_node.specs.Shards.{ShardView}
 use Rattle.shard_lock.specs.declared.notes.ShardNotes.{ShardNotes}
 use Rattle.shard_lock.specs.Notes.{ShardIsKept, at_place, seen_of_shard}
-use Rattle.locks_rows.specs.Dropping.{IsSentToShard, begin_entry, deleted_message, empty, empty_entry, judge_entry, judged_log, logs_noted, made_message, part_of, dropping_run, send_entry, sent_log, stamp_of_count, verdict_of, vertex}
+use Rattle.oracle_lock.specs.Seen.{gates_noted}
+use Rattle.locks_rows.specs.Dropping.{IsSentToShard, begin_entry, deleted_message, empty, empty_entry, judge_entry, judged_log, made_message, part_of, dropping_run, send_entry, sent_log, stamp_of_count, verdict_of, vertex}
 
 -- what a shard without entries has seen
 abbrev new : Account
@@ -78,7 +79,7 @@ refers = each_none _
 
 -- a shard without entries keeps these notes
 pub keeps-notes : (shard : ShardView) (notes : ShardNotes) → shard ≡ record { number = 0; gates = 1; log = [] }
-    → logs_noted notes.gates.items ≡ sent_log ∷ [] → seen_by_note notes.store ≡ store_pairs judged_log → seen_by_note notes.oracle ≡ []
+    → gates_noted notes.gates.items ≡ sent_log ∷ [] → seen_by_note notes.store ≡ store_pairs judged_log → seen_by_note notes.oracle ≡ []
     → length notes.gates.items ≡ 1 → ShardIsKept shard 1 notes
 unfolding at_place
 keeps-notes shard notes is gates store oracle one =

@@ -1,14 +1,13 @@
 -- What a shard's notes have seen before it drops old versions: a vertex was made and then deleted at the one
 -- gatekeeper, which sent both to the one shard, and an empty message after them.
 -- For tests: no public contract cites this.
-use Rattle.std.specs.Prelude.{◌≡◌, ◌≤◌, ℕ, List, [], ◌∷◌, None, Some, map, codes}
+use Rattle.std.specs.Prelude.{◌≡◌, ◌≤◌, ℕ, List, [], ◌∷◌, None, Some, codes}
 use Rattle.weave_data.specs.declared.name.Name.{Name}
 use Rattle.graph_ops.specs.declared.op.Op.{Op}
 use Rattle.graph_ops.specs.declared.op.Op.TheVariants.{Create, Delete}
 use Rattle.graph_ops.specs.declared.part.Part.{Part}
 use Rattle.vector_stamp.specs.declared.clock.Clock.{Clock}
 use Rattle.vector_stamp.specs.declared.clock.Stamp.{Stamp}
-use Rattle.weave_entries.specs.declared.gate_log.GateDeed.{GateDeed}
 use Rattle.weave_entries.specs.declared.gate_log.GateEntry.{GateEntry}
 use Rattle.weave_entries.specs.declared.gate_log.GateDeed.TheVariants.{BeganTx, Sent, Nop}
 use Rattle.weave_entries.specs.declared.message.Message.{Message}
@@ -18,10 +17,10 @@ use Rattle.weave_entries.specs.declared.verdict.Verdict.{Verdict}
 use Rattle.weave_entries.specs.declared.verdict.Verdict.TheVariants.{Committed}
 use Rattle.weave_entries.specs.ShardRules.{IsTakable}
 use Rattle.weave_account.specs.declared.account.Account.{Account}
-use Rattle.seen_logs.specs.Entries.{gate_entries, store_entries}
+use Rattle.seen_logs.specs.Entries.{store_entries}
 use Rattle.seen_logs.specs.References.{ArrivesAsSeen}
-use Rattle.chronicle.specs.declared.note.Note.{Note}
 use Rattle.chronicle.specs.Passes.{seen_by_note}
+use Rattle.oracle_lock.specs.Seen.{gates_noted}
 use Rattle.shard_lock.specs.Notes.{NotedShardView}
 
 -- the vertex
@@ -98,14 +97,10 @@ pub record IsSentToShard (number : ℕ) (message : Message) : Type 0 where
   pub takable : IsTakable message
   pub seen : ArrivesAsSeen dropping_run 1 0 0 number message
 
--- what notes of gatekeepers' locks have seen
-abbrev pub logs_noted : List (Note GateDeed) → List (List GateEntry)
-logs_noted notes = map (λ (note : Note GateDeed). gate_entries (seen_by_note note)) notes
-
 -- the notes of the shard, which is the only one, have seen these logs
 pub record HasSeenRun (noted_shard : NotedShardView) : Type 0 where
   pub number : noted_shard.shard.number ≡ 0
   pub gates : noted_shard.shard.gates ≡ 1
   pub shards : noted_shard.shards ≡ 1
-  pub gate_logs : logs_noted noted_shard.notes.gates.items ≡ sent_log ∷ []
+  pub gate_logs : gates_noted noted_shard.notes.gates.items ≡ sent_log ∷ []
   pub store_log : store_entries (seen_by_note noted_shard.notes.store) ≡ judged_log

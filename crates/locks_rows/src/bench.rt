@@ -7,7 +7,7 @@ ghost use Rattle.weaver_locks.specs.Closing.{IsNewShard};
 ghost use Rattle.weaver_locks.specs.Locks.{gate_count, hands_of, shard_count};
 ghost use Rattle.locks_rows.specs.Workers.{ArePlayers, hand_of_player, player_of};
 
-use crate::played::play;
+use crate::play::play;
 use crate::values::{Call, Row};
 use crate::worker::{Player, Step, Worker};
 use backing_store::Store;

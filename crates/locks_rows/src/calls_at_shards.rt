@@ -1,5 +1,6 @@
 //! A worker's calls at the store and at shards.
-ghost use Rattle.std.specs.Prelude.{◌≡◌, ◌<◌, ◌≤◌, ◌^◌, IfOk, length};
+ghost use Rattle.std.specs.Prelude.{◌≡◌, ◌<◌, ◌≤◌, IfOk, length};
+ghost use Rattle.weave_entries.specs.StoreRule.{ops_bound};
 ghost use Rattle.seen_logs.specs.References.{ArrivesAsSeen};
 ghost use Rattle.weaver_locks.specs.GateHolds.{MaySend};
 ghost use Rattle.weaver_locks.specs.Hands.{hand_number, seen_by};
@@ -29,7 +30,7 @@ pub fn commit<R: Wait>(
 ) -> Result<Verdict, AllocError>
     requires worker { IsWorker shared.now me.old }
     requires flight { MayHaveJudged me.old.hand flight }
-    requires few { length ops.now < 2 ^ 31 }
+    requires few { length ops.now < ops_bound }
     ensures worker { IsWorker shared.now me.new }
     ensures number { hand_number me.new.hand ≡ hand_number me.old.hand }
     ensures send { IfOk result (λ verdict.

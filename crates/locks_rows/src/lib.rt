@@ -3,6 +3,8 @@
 #![tactic(auto)]
 
 #[cfg(test)]
+mod answer_texts;
+#[cfg(test)]
 mod bench;
 #[cfg(test)]
 mod calls;
@@ -15,11 +17,9 @@ mod dropping;
 #[cfg(test)]
 mod log_texts;
 #[cfg(test)]
-mod played;
+mod play;
 #[cfg(test)]
 mod rows;
-#[cfg(test)]
-mod said;
 #[cfg(test)]
 mod texts;
 #[cfg(test)]

@@ -5,7 +5,7 @@ ghost use Rattle.weaver_locks.specs.Hands.{hand_number};
 ghost use Rattle.weaver_locks.specs.Locks.{gate_count};
 ghost use Rattle.locks_rows.specs.Workers.{ArePlayers, IsPlayer};
 
-use crate::played::play;
+use crate::play::play;
 use crate::values::{Call, Do};
 use crate::worker::Player;
 use std::alloc::Global;

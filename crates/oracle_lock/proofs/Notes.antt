@@ -1,5 +1,5 @@
 -- Notes and passes of gatekeepers' locks that have met, as logs by the numbers of gatekeepers.
--- Used by `meet_gates` and crates shard_lock and store_lock.
+-- Used by `meet_gates`.
 use Rattle.std.proofs.Common.{◌≡◌, ◌≢◌, ◌⊎◌, ℕ, ◌<◌, ◌≤◌, List, [], length, map, get_or, inl, inr, refl, sym, ap, ◌∙◌, subst, arith}
 use Rattle.std.proofs.lemmas.Bool.{cases_lt}
 use Rattle.std.proofs.lemmas.List.{get_or-map, length-map, get_or_past}

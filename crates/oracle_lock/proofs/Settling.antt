@@ -1,11 +1,12 @@
 -- What the oracle's entries speak of was begun, and stays so when it is asked.
--- Used by `known_events_are_begun`, `meet`, `pairs_tell_entries`, 1 more and crates shard_lock and store_lock.
+-- Used by `known_events_are_begun`, `meet`, `pairs_tell_entries`, `settling_keeps` and crates shard_lock, store_lock
+-- and weaver_locks.
 use Rattle.std.proofs.Common.{◌≡◌, ◌⊎◌, ℕ, ◌≤◌, List, [], ◌∷◌, ◌++◌, length, map, Contains, Option, None, Some, inl, inr, refl, sym, ap, ◌∙◌, subst}
 use Rattle.std.specs.Prelude.{slice_get}
 use Rattle.std.specs.Option.{option_map}
 use Rattle.std.proofs.lemmas.List.{length-map, map-append}
 use Rattle.std.proofs.lemmas.List.Elements.{Contains-append_cases}
-use Rattle.weave_data.proofs.Images.{get-has}
+use Rattle.weave_data.proofs.Images.{get-has, made-back}
 use Rattle.weave_data.proofs.Members.{cut_at, flat_has, has_cut, has_head, has_tail, map_has, filter_map_has}
 use Rattle.vector_stamp.specs.declared.clock.Stamp.{Stamp}
 use Rattle.vector_stamp.specs.Coherence.{AreCoherent}
@@ -113,16 +114,12 @@ module _ (no_others : (pairs : List GivenPair) (stamp : Stamp) → Contains (end
 -- The log goes on
 
 module _ (back : (entry : OracleEntry) → oracle_entry_of (settled_entry entry) ≡ entry) where
-  entries-back : (log : List OracleEntry) → map oracle_entry_of (map settled_entry log) ≡ log
-  entries-back [] = refl
-  entries-back (entry ∷ log) = λ i. back entry i ∷ entries-back log i
-
   -- what a judge's log says of the oracle's
   pub log-is : (before after : List OracleEntry) (entries : List SettledEntry)
       → map settled_entry after ≡ map settled_entry before ++ entries → after ≡ before ++ map oracle_entry_of entries
-  log-is before after entries e = sym (entries-back after) ∙ (ap (λ (l : List SettledEntry). map oracle_entry_of l) e
+  log-is before after entries e = sym (made-back oracle_entry_of settled_entry back after) ∙ (ap (λ (l : List SettledEntry). map oracle_entry_of l) e
       ∙ (map-append oracle_entry_of (map settled_entry before) entries
-      ∙ ap (λ (l : List OracleEntry). l ++ map oracle_entry_of entries) (entries-back before)))
+      ∙ ap (λ (l : List OracleEntry). l ++ map oracle_entry_of entries) (made-back oracle_entry_of settled_entry back before)))
 
   -- all that the oracle's log refers to is seen with new entries too, if it is right and their events were begun
   pub log-keeps : (shards : ℕ) (gates : List (List GateEntry)) (before after : List OracleEntry) (entries : List SettledEntry)

@@ -53,11 +53,12 @@ impl Machine for NotedOracle {
 }
 
 impl NotedOracle {
-    ghost use Rattle.std.specs.Prelude.{◌≡◌, ◌≢◌, ◌<◌, ◌≤◌, ◌^◌, [], ◌∷◌, ◌++◌, false, length, map, All, Contains, IfOk, OnErr};
+    ghost use Rattle.std.specs.Prelude.{◌≡◌, ◌≢◌, ◌<◌, ◌≤◌, [], ◌∷◌, ◌++◌, false, length, map, All, Contains, IfOk, OnErr};
     ghost use Rattle.vector_stamp.specs.declared.clock.Stamp.{Stamp};
     ghost use Rattle.vector_stamp.specs.Order.{id_of};
     ghost use Rattle.weave_entries.specs.OracleReplay.{oracle_entry_of, pairs_of_log};
     ghost use Rattle.weave_entries.specs.StoreReplay.{commits_of};
+    ghost use Rattle.weave_entries.specs.StoreRule.{ops_bound};
     ghost use Rattle.backing_store.specs.Commits.{stamps_judged, stamps_kept, asked_at, is_judge_asked, verdict_at, judged_entry, pairs_added, entries_added};
     ghost use Rattle.weave_account.specs.Account.{IsBegunStamp};
     ghost use Rattle.seen_logs.specs.Seen.{GatesGoOn};
@@ -158,7 +159,7 @@ impl NotedOracle {
         stamp: Stamp,
         ops: &[Op],
     ) -> Result<Verdict, AllocError>
-        requires few { length ops.now < 2 ^ 31 }
+        requires few { length ops.now < ops_bound }
         requires gates { length self.old.gates ≤ most_gates }
         requires new { All (λ (judged : Stamp). id_of judged ≢ id_of stamp) (stamps_judged store.old) }
         requires begun { (event : Stamp) → Contains (stamp ∷ stamps_kept (commits_of store.old)) event

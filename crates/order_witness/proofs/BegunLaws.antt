@@ -5,6 +5,7 @@ use Rattle.std.specs.Prelude.{slice_get, is_some}
 use Rattle.std.specs.List.{filter_map, cons_option}
 use Rattle.std.specs.Option.{option_and_then}
 use Rattle.std.proofs.lemmas.Bool.{and_parts, and_from, or_cases, or_left, or_right, eqb-true, eq-eqb}
+use Rattle.std.proofs.lemmas.Option.{same_Some}
 use Rattle.vector_stamp.specs.declared.clock.Stamp.{Stamp}
 use Rattle.vector_stamp.specs.Order.{stamp_before}
 use Rattle.vector_stamp.specs.Precedence.{GivenPair, IsClosed, precedes}
@@ -42,9 +43,6 @@ both_there test (Some x) (Some y) h = record { x = x; y = y; first_is = refl; se
 -- and if both are there and pass it, the test holds of them
 pub there_both : (test : Stamp → Stamp → Bool) (a b : Option Stamp) (x y : Stamp) → a ≡ Some x → b ≡ Some y → IsTrue (test x y) → IsTrue (are_both test a b)
 there_both test a b x y is_a is_b h = ap (λ s. are_both test s b) is_a ∙ ap (λ s. are_both test (Some x) s) is_b ∙ h
-
-one_stamp : (x y : Stamp) → Some x ≡ Some y → x ≡ y
-one_stamp x y e = cc
 
 -- The order of stamps, as the code asks it
 
@@ -149,7 +147,7 @@ module _ (report : Report) where
   trans all_closed a b c g h =
       let ab = both_there (precedes (given_pairs report)) (stamp_at report a) (stamp_at report b) g in
       let bc = both_there (precedes (given_pairs report)) (stamp_at report b) (stamp_at report c) h in
-      let same : bc.x ≡ ab.y = one_stamp bc.x ab.y (sym bc.first_is ∙ ab.second_is) in
+      let same : bc.x ≡ ab.y = same_Some bc.x ab.y (sym bc.first_is ∙ ab.second_is) in
       there_both (precedes (given_pairs report)) (stamp_at report a) (stamp_at report c) ab.x bc.y ab.first_is bc.second_is
       ((all_closed (given_pairs report)).transitive ab.x ab.y bc.y ab.passes (subst (λ s. IsTrue (precedes (given_pairs report) s bc.y)) same bc.passes))
 

@@ -5,6 +5,7 @@ use Rattle.std.proofs.Common.{◌≡◌, ℕ, ◌+◌, ◌<◌, not, ◌||◌, I
 use Rattle.std.specs.List.{AllByRecursion}
 use Rattle.std.proofs.lemmas.Bool.{both_ways, cases_eq}
 use Rattle.std.proofs.lemmas.List.{get_or-set_same, get_or-set_other, take_more}
+use Rattle.std.proofs.lemmas.Option.{same_Some}
 use Rattle.vector_stamp.specs.declared.clock.Stamp.{Stamp}
 use Rattle.vector_stamp.specs.Order.{stamp_before}
 use Rattle.program_defs.specs.declared.script.Script.{Script}
@@ -19,7 +20,7 @@ use Rattle.order_witness.specs.Latest.{latest_request, is_after_last, precedes_o
 use Rattle.order_witness.proofs.BegunLaws.{AreClosed, there_both, trans}
 use Rattle.order_witness.proofs.InTurn.{session_so}
 use Rattle.order_witness.proofs.Leading.{before_prec}
-use Rattle.order_witness.proofs.Placing.{IsStrict, before_trans, one_stamp, some_passes}
+use Rattle.order_witness.proofs.Placing.{IsStrict, before_trans, some_passes}
 use Rattle.order_witness.proofs.Testing.{tested}
 
 module _ (strict : IsStrict) (report : Report) (r : ℕ) (latest next : List (Option ℕ)) (put : IsPutLatest report r latest next) where
@@ -81,7 +82,7 @@ module _ (strict : IsStrict) (report : Report) (r : ℕ) (latest next : List (Op
   -- it is not listed before
   is_other : (e : ℕ) → IsCovered report latest e → r ≡ e → ⊥
   is_other e old same =
-      let one : old.stamp ≡ put.stamp = one_stamp old.stamp put.stamp (sym old.stamp_is ∙ ap (stamp_at report) (sym same) ∙ put.stamp_is) in
+      let one : old.stamp ≡ put.stamp = same_Some old.stamp put.stamp (sym old.stamp_is ∙ ap (stamp_at report) (sym same) ∙ put.stamp_is) in
       not_before_itself (subst (λ n. IsTrue (is_request_before report n r)) (sym same) (of_its_home e old (ap (λ (s : Stamp). s.home) one)))
 
   module _ (decided : IsDecided) (all_closed : AreClosed) (script : Script) (holds : AllHold (replies_clause script report)) where

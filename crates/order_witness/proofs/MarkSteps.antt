@@ -4,6 +4,7 @@ use Rattle.std.proofs.Common.{◌≡◌, ℕ, zero, suc, ◌+◌, ◌-◌, ◌<�
 use Rattle.std.specs.Prelude.{slice_get, MatchBool}
 use Rattle.std.specs.Option.{option_and_then}
 use Rattle.std.proofs.lemmas.Bool.{cases_eq, cases_lt, eq-eqb, ne_eqb}
+use Rattle.std.proofs.lemmas.Option.{same_Some}
 use Rattle.graph_ops.specs.PlainGraph.{PlainGraph}
 use Rattle.program_defs.specs.declared.script.Script.{Script}
 use Rattle.program_defs.specs.declared.script.Request.{Request}
@@ -14,10 +15,6 @@ use Rattle.report_rules.specs.declared.report.ReplyState.TheVariants.{Unbegun, B
 use Rattle.report_rules.specs.Lookups.{request_at}
 use Rattle.report_rules.specs.Replay.{graph_of_commits, graph_after_commit, the_only, requests_numbered}
 use Rattle.order_witness.specs.Refusals.{IsRefusedOn, IsRefusedSo, Marks, IsMarkedOn, AreMarkedOn, refused_after, AreMarkedUpTo}
-
--- if the number that is there is a and is b, these are equal
-pub one_number : (a b : ℕ) → Some a ≡ Some b → a ≡ b
-one_number a b e = cc
 
 -- a number that is there isn't missing
 pub nothing : (n : ℕ) → None ≡ Some n → ⊥
@@ -30,7 +27,7 @@ module _ (script : Script) (graph : PlainGraph) (after r : ℕ) (old new : Bool)
   marked_here Begun h e = absurd (nothing after e)
   marked_here (Committed number answers) h e = absurd (nothing after e)
   marked_here (Conflict v newer) h e = absurd (nothing after e)
-  marked_here (Refused op reason at) h e = subst (λ b. MatchBool b (Marks new (IsRefusedOn (Some graph) (request_at script r) op reason)) (new ≡ old)) (eq-eqb at after (one_number at after e)) h
+  marked_here (Refused op reason at) h e = subst (λ b. MatchBool b (Marks new (IsRefusedOn (Some graph) (request_at script r) op reason)) (new ≡ old)) (eq-eqb at after (same_Some at after e)) h
   marked_here (Finished answer) h e = absurd (nothing after e)
 
   -- the mark of a reply that isn't refused after this number of commits stays
@@ -70,7 +67,7 @@ refused_or_not after Unbegun = inr (nothing after)
 refused_or_not after Begun = inr (nothing after)
 refused_or_not after (Committed number answers) = inr (nothing after)
 refused_or_not after (Conflict v newer) = inr (nothing after)
-refused_or_not after (Refused op reason at) = elim (cases_eq at after) [ inl same ↦ inl (ap Some same) | inr other ↦ inr (λ e. other (one_number at after e)) ]
+refused_or_not after (Refused op reason at) = elim (cases_eq at after) [ inl same ↦ inl (ap Some same) | inr other ↦ inr (λ e. other (same_Some at after e)) ]
 refused_or_not after (Finished answer) = inr (nothing after)
 
 -- without a graph nothing is refused so
@@ -123,11 +120,11 @@ module _ (script : Script) (report : Report) where
               (marked_here script graph (done + 1) reply.request (get_or old place false) (get_or new place false) reply.state this (is ∙ ap Some same)))
           | inr other ↦
               subst (λ b. Marks b (IsRefusedSo script (graph_of_commits script report at) reply.request reply.state))
-              (sym (kept_mark script graph (done + 1) reply.request (get_or old place false) (get_or new place false) reply.state this (λ e. other (one_number at (done + 1) (sym is ∙ e)))))
+              (sym (kept_mark script graph (done + 1) reply.request (get_or old place false) (get_or new place false) reply.state this (λ e. other (same_Some at (done + 1) (sym is ∙ e)))))
               (so_far.marked place at reply here is (omega (arith, le, other)))
         ];
     ahead = λ place at reply here is lt.
-        kept_mark script graph (done + 1) reply.request (get_or old place false) (get_or new place false) reply.state (marked place reply here) (λ e. absurd (omega (arith, lt, one_number at (done + 1) (sym is ∙ e))))
+        kept_mark script graph (done + 1) reply.request (get_or old place false) (get_or new place false) reply.state (marked place reply here) (λ e. absurd (omega (arith, lt, same_Some at (done + 1) (sym is ∙ e))))
         ∙ so_far.ahead place at reply here is (omega (arith, lt));
   }
 
@@ -140,7 +137,7 @@ module _ (script : Script) (report : Report) where
         (subst (λ g. Marks (get_or new place false) (IsRefusedSo script g reply.request reply.state)) (sym there)
         (marked_here script graph 0 reply.request (get_or old place false) (get_or new place false) reply.state (marked place reply here) (is ∙ ap Some same)));
     ahead = λ place at reply here is lt.
-        kept_mark script graph 0 reply.request (get_or old place false) (get_or new place false) reply.state (marked place reply here) (λ e. absurd (omega (arith, lt, one_number at 0 (sym is ∙ e)))) ∙ none place;
+        kept_mark script graph 0 reply.request (get_or old place false) (get_or new place false) reply.state (marked place reply here) (λ e. absurd (omega (arith, lt, same_Some at 0 (sym is ∙ e)))) ∙ none place;
   }
 
   -- the graph after one commit more

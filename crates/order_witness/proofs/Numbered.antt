@@ -1,5 +1,6 @@
--- Tables of lists, one for each number.
--- Used by `begun_by_stamps`, `commits_by_number`, `do_numbers_take_turns`, `empty_lists`, `first_fault` and 5 more.
+-- A table with a list for each number, as `empty_lists`, `commits_by_number` and `refusals_by_number` fill it in loops.
+-- Used by `begun_by_stamps`, `commits_by_number`, `do_numbers_take_turns`, `empty_lists`, `first_fault`, `marks_of`,
+-- `pairs_by_later`, `refusals_by_number`, `the_only` and InPlace.
 use Rattle.std.proofs.Common.{◌≡◌, ℕ, suc, ◌+◌, ◌<◌, ◌≤◌, cond, List, [], ◌∷◌, ◌++◌, length, take, get_or, map, Option, Some, None, eqb, inl, inr, refl, sym, ap, ◌∙◌, subst, arith, Contains}
 use Rattle.std.specs.Prelude.{slice_get}
 use Rattle.std.specs.List.{filter, cons_option}
@@ -8,7 +9,7 @@ use Rattle.std.proofs.lemmas.List.{take_more, get_or_past, get_or_append_left, l
 use Rattle.std.proofs.lemmas.List.Elements.{filter-append, Contains-append_left, Contains-append_right}
 use Rattle.std.proofs.Math.Seq.{get_or-append_seam}
 use Rattle.std.specs.Option.{unwrap_or}
-use Rattle.std.proofs.lemmas.Option.{unwrap_or-slice_get}
+use Rattle.std.proofs.lemmas.Option.{unwrap_or-slice_get, same_Some}
 use Rattle.weave_data.proofs.Members.{has_head}
 use Rattle.report_rules.specs.declared.report.Reply.{Reply}
 use Rattle.report_rules.specs.declared.report.ReplyState.{ReplyState}
@@ -18,9 +19,9 @@ use Rattle.report_rules.specs.Replay.{the_only}
 use Rattle.order_witness.specs.Begun.{numbers_in}
 use Rattle.order_witness.specs.ByNumber.{list_at, place_if_refused}
 use Rattle.order_witness.specs.Refusals.{numbered_in, refused_after}
-use Rattle.order_witness.proofs.MarkSteps.{one_number, nothing}
+use Rattle.order_witness.proofs.MarkSteps.{nothing}
 
--- the reply at a place is the one that the loop is at
+-- what is at a loop's place of a list is the item that the loop has read there
 pub the_item : {A : Type 0} (xs : List A) (i : ℕ) (item x : A) → item ≡ get_or xs i item → slice_get xs i ≡ Some x → x ≡ item
 the_item xs i item x is here = sym (ap (λ o. unwrap_or o item) here) ∙ unwrap_or-slice_get xs i item ∙ sym is
 
@@ -81,10 +82,10 @@ place_there n place Unbegun e = absurd (nothing n e)
 place_there n place Begun e = absurd (nothing n e)
 place_there n place (Committed number answers) e = absurd (nothing n e)
 place_there n place (Conflict v newer) e = absurd (nothing n e)
-place_there n place (Refused op reason at) e = ap (λ b. cond b (place ∷ []) []) (eq-eqb at n (one_number at n e))
+place_there n place (Refused op reason at) e = ap (λ b. cond b (place ∷ []) []) (eq-eqb at n (same_Some at n e))
 place_there n place (Finished answer) e = absurd (nothing n e)
 
--- the lists have the places of the first replies that are refused
+-- of the first replies, those refused after n commits have their places in list n
 abbrev pub HaveRefusedTo : ℕ → List Reply → List (List ℕ) → Type 0
 HaveRefusedTo count replies lists =
     (n place : ℕ) (reply : Reply) → n < length lists → place < count → slice_get replies place ≡ Some reply → refused_after reply.state ≡ Some n → Contains (list_at lists n) place

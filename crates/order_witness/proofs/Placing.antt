@@ -4,12 +4,14 @@ use Rattle.std.proofs.Common.{◌≡◌, ℕ, zero, suc, ◌+◌, ◌<◌, Bool,
 use Rattle.std.specs.List.{list_any}
 use Rattle.std.proofs.lemmas.Bool.{and_parts, both_ways, cases_eq, cases_lt, eqb-true, not-true, or_left, or_right}
 use Rattle.std.proofs.lemmas.List.{get_or-set_same, get_or-set_other}
+use Rattle.std.proofs.lemmas.Option.{same_Some}
 use Rattle.vector_stamp.specs.declared.clock.Stamp.{Stamp}
 use Rattle.vector_stamp.specs.Order.{stamp_before}
 use Rattle.report_rules.specs.declared.report.Report.{Report}
 use Rattle.report_rules.specs.Lookups.{are_both, is_some_and, is_none_or, stamp_at}
 use Rattle.order_witness.specs.Begun.{is_request_before}
-use Rattle.order_witness.specs.Places.{place_in, latest_at, is_before_one, IsPutNext, IsAtOrBefore, ArePlaced}
+use Rattle.order_graph.specs.Frontiers.{latest_of}
+use Rattle.order_witness.specs.Places.{place_in, is_before_one, IsPutNext, IsAtOrBefore, ArePlaced}
 
 -- the order of stamps is a strict one
 pub record IsStrict : Type 0 where
@@ -38,10 +40,6 @@ before_trans strict report a b c g h = of_options (stamp_at report a) (stamp_at 
     of_options (Some s) (Some t) None g h = cc
     of_options (Some s) (Some t) (Some u) g h = strict.transitive s t u g h
 
--- if the stamp that is there is s and is t, these are equal
-pub one_stamp : (s t : Stamp) → Some s ≡ Some t → s ≡ t
-one_stamp s t e = cc
-
 none_some : {A : Type 0} (x : A) → None ≡ Some x → ⊥
 none_some x e = cc
 
@@ -52,7 +50,7 @@ some_passes test (one ∷ others) zero x is h = or_left (is_some_and test one) _
 some_passes test (one ∷ others) (suc place) x is h = or_right (is_some_and test one) _ (some_passes test others place x is h)
 
 -- a stamp before one of them is so
-before_some : (s : Stamp) (latest : List (Option Stamp)) (gate : ℕ) (t : Stamp) → latest_at latest gate ≡ Some t → IsTrue (stamp_before s t) → IsTrue (is_before_one s latest)
+before_some : (s : Stamp) (latest : List (Option Stamp)) (gate : ℕ) (t : Stamp) → latest_of latest gate ≡ Some t → IsTrue (stamp_before s t) → IsTrue (is_before_one s latest)
 before_some s latest gate t is h = some_passes (stamp_before s) latest gate t is h
 
 -- at first no request has a place
@@ -82,7 +80,7 @@ module _ (strict : IsStrict) (report : Report) (count r : ℕ) (places next : Li
   is_new = place_in places r == 0
 
   abbrev is_after : Bool
-  is_after = is_none_or (λ t. stamp_before t s) (latest_at latest s.home)
+  is_after = is_none_or (λ t. stamp_before t s) (latest_of latest s.home)
 
   both : IsTrue (is_new && is_after) × IsTrue (not (is_before_one s latest))
   both = and_parts (is_new && is_after) (not (is_before_one s latest)) put.may
@@ -96,7 +94,7 @@ module _ (strict : IsStrict) (report : Report) (count r : ℕ) (places next : Li
   none_first : is_before_one s latest ≡ false
   none_first = not-true (is_before_one s latest) both.1
 
-  after : (t : Stamp) → latest_at latest s.home ≡ Some t → IsTrue (stamp_before t s)
+  after : (t : Stamp) → latest_of latest s.home ≡ Some t → IsTrue (stamp_before t s)
   after t is = subst (λ o. IsTrue (is_none_or (λ u. stamp_before u s) o)) is first.1
 
   new_at : place_in next r ≡ count + 1
@@ -105,11 +103,11 @@ module _ (strict : IsStrict) (report : Report) (count r : ℕ) (places next : Li
   old_at : (x : ℕ) → (x ≡ r → ⊥) → place_in next x ≡ place_in places x
   old_at x other = ap (λ (ps : List ℕ). place_in ps x) put.places_are ∙ get_or-set_other places r x (count + 1) 0 other
 
-  latest_new : latest_at then_latest s.home ≡ Some s
-  latest_new = ap (λ (ls : List (Option Stamp)). latest_at ls s.home) put.latest_are ∙ get_or-set_same latest s.home (Some s) None put.home
+  latest_new : latest_of then_latest s.home ≡ Some s
+  latest_new = ap (λ (ls : List (Option Stamp)). latest_of ls s.home) put.latest_are ∙ get_or-set_same latest s.home (Some s) None put.home
 
-  latest_old : (gate : ℕ) → (gate ≡ s.home → ⊥) → latest_at then_latest gate ≡ latest_at latest gate
-  latest_old gate other = ap (λ (ls : List (Option Stamp)). latest_at ls gate) put.latest_are ∙ get_or-set_other latest s.home gate (Some s) None other
+  latest_old : (gate : ℕ) → (gate ≡ s.home → ⊥) → latest_of then_latest gate ≡ latest_of latest gate
+  latest_old gate other = ap (λ (ls : List (Option Stamp)). latest_of ls gate) put.latest_are ∙ get_or-set_other latest s.home gate (Some s) None other
 
   -- it is before none that has its place
   before_none : (x : ℕ) (t : Stamp) → 0 < place_in places x → stamp_at report x ≡ Some t → ¬ IsTrue (stamp_before s t)
@@ -122,7 +120,7 @@ module _ (strict : IsStrict) (report : Report) (count r : ℕ) (places next : Li
   still x other some = omega (arith, old_at x other, some)
 
   same_stamp : (x : ℕ) (t : Stamp) → x ≡ r → stamp_at report x ≡ Some t → s ≡ t
-  same_stamp x t same is = one_stamp s t (sym put.stamp_is ∙ ap (stamp_at report) (sym same) ∙ is)
+  same_stamp x t same is = same_Some s t (sym put.stamp_is ∙ ap (stamp_at report) (sym same) ∙ is)
 
   place_of_new : (x : ℕ) → x ≡ r → place_in next x ≡ count + 1
   place_of_new x same = ap (place_in next) same ∙ new_at
@@ -143,18 +141,18 @@ module _ (strict : IsStrict) (report : Report) (count r : ℕ) (places next : Li
             ]
       ]
 
-  at_most_next : (x : ℕ) (t : Stamp) → 0 < place_in next x → stamp_at report x ≡ Some t → (u : Stamp) × (latest_at then_latest t.home ≡ Some u) × IsAtOrBefore t u
+  at_most_next : (x : ℕ) (t : Stamp) → 0 < place_in next x → stamp_at report x ≡ Some t → (u : Stamp) × (latest_of then_latest t.home ≡ Some u) × IsAtOrBefore t u
   at_most_next x t some is =
       elim (cases_eq x r) [
         | inl same ↦
             let one = same_stamp x t same is in
-            (s, subst (λ (u : Stamp). latest_at then_latest u.home ≡ Some s) one latest_new, inl (sym one))
+            (s, subst (λ (u : Stamp). latest_of then_latest u.home ≡ Some s) one latest_new, inl (sym one))
         | inr other ↦
             let top = placed.at_most x t (still x other some) is in
             elim (cases_eq t.home s.home) [
               | inl home ↦
-                  let last : IsTrue (stamp_before top.0 s) = after top.0 (ap (latest_at latest) (sym home) ∙ top.1) in
-                  (s, ap (latest_at then_latest) home ∙ latest_new, inr (at_before strict t top.0 s top.2 last))
+                  let last : IsTrue (stamp_before top.0 s) = after top.0 (ap (latest_of latest) (sym home) ∙ top.1) in
+                  (s, ap (latest_of then_latest) home ∙ latest_new, inr (at_before strict t top.0 s top.2 last))
               | inr elsewhere ↦ (top.0, latest_old t.home elsewhere ∙ top.1, top.2)
             ]
       ]

@@ -1,10 +1,12 @@
 -- What the clause on replies gives: reply i is of request i, and begun requests have stamps apart.
--- Used by `first_fault`, `judged_precedence`, BegunCoherent, InPlace, InTurn, Leading, Printing, Taking and 2 more.
+-- Used by `first_fault`, `judged_precedence`, BegunCoherent, InPlace, InTurn, Leading, Printing, Taking, TurnSteps and
+-- Visiting.
 use Rattle.std.proofs.Common.{◌≡◌, ℕ, zero, suc, ◌<◌, false, ◌||◌, ◌&&◌, IsTrue, List, [], ◌∷◌, ◌++◌, length, take, Option, Some, None, eqb, ltb, inl, inr, refl, sym, ap, ◌∙◌, subst, arith, append-nil}
 use Rattle.std.specs.Prelude.{slice_get}
 use Rattle.std.specs.List.{list_all}
 use Rattle.std.specs.Option.{option_and_then}
 use Rattle.std.proofs.lemmas.Bool.{and_parts, both_ways, cases_order, eqb-true, eq-eqb, le-ltb, or_from, and_left, and_right, not_from_true}
+use Rattle.std.proofs.lemmas.Option.{same_Some}
 use Rattle.vector_stamp.specs.declared.clock.Stamp.{Stamp}
 use Rattle.vector_stamp.specs.Order.{are_apart, own_count, stamp_before}
 use Rattle.program_defs.specs.declared.script.Script.{Script}
@@ -22,14 +24,11 @@ pub hold_front : (facts more : Facts) → AllHold (facts ++ more) → AllHold fa
 hold_front [] more h = tt
 hold_front (Fact ∷ facts) more h = (h.0, hold_front facts more h.1)
 
-one_value : {A : Type 0} (x y : A) → Some x ≡ Some y → x ≡ y
-one_value x y e = cc
-
 module _ {A : Type 0} (F : List A → A → Type 0) where
   -- the fact at a place
   pub fact_of : (before xs : List A) (i : ℕ) (x : A) → AllHold (facts_after before F xs) → slice_get xs i ≡ Some x → F (before ++ take i xs) x
   fact_of before [] i x h at = cc
-  fact_of before (y ∷ xs) zero x h at = subst (F (before ++ [])) (one_value y x at) (subst (λ b. F b y) (sym (append-nil before)) h.0)
+  fact_of before (y ∷ xs) zero x h at = subst (F (before ++ [])) (same_Some y x at) (subst (λ b. F b y) (sym (append-nil before)) h.0)
   fact_of before (y ∷ xs) (suc i) x h at = subst (λ b. F b x) (sym (append-step before y (take i xs))) (fact_of (before ++ y ∷ []) xs i x h.1 at)
 
 -- the front of a list, as far as a place in it

@@ -1,5 +1,6 @@
 -- What tests of neighbours say of all, if they are transitive.
--- Used by `are_stamps_apart`, `begun_by_stamps`, `do_sessions_take_turns`, `places_by_stamps` and 4 more.
+-- Used by `are_stamps_apart`, `begun_by_stamps`, `do_sessions_take_turns`, `places_by_stamps`, `requests_by_session`,
+-- `sessions_rise`, `stamps_rise` and BegunCoherent.
 use Rattle.std.proofs.Common.{◌≡◌, ◌≢◌, ℕ, zero, suc, ◌+◌, ◌-◌, ◌<◌, Bool, not, ◌||◌, ◌&&◌, ◌==◌, IsTrue, AllPairs, Contains, List, [], ◌∷◌, ◌++◌, length, map, get_or, Option, Some, None, eqb, ltb, ◌⊎◌, inl, inr, refl, sym, ◌∙◌, subst, arith}
 use Rattle.std.specs.Prelude.{slice_get, slice_index, nat_lt}
 use Rattle.std.specs.List.Sorted.{IsPermutation}

@@ -1,5 +1,6 @@
 -- What the code tests, and what the clauses say.
--- Used by `commit`, `first_fault`, `first_out_of_place`, `is_refused`, `replay`, Covering, Leading and 4 more.
+-- Used by `commit`, `first_fault`, `first_out_of_place`, `is_refused`, `replay`, Covering, Leading, Printing,
+-- Replying, Taking and Visiting.
 use Rattle.std.proofs.Common.{◌≡◌, ℕ, zero, suc, ◌<◌, Bool, true, false, get_or, length, ap, arith, not, ◌||◌, ◌&&◌, IsTrue, List, [], ◌∷◌, Option, Some, None, refl, sym, ◌∙◌, subst}
 use Rattle.std.specs.Prelude.{slice_get, nat_lt}
 use Rattle.std.specs.List.{list_all, AllByRecursion}

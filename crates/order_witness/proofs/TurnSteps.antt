@@ -5,7 +5,7 @@ use Rattle.std.specs.Prelude.{slice_get, slice_index, nat_lt, nat_le}
 use Rattle.std.specs.List.{AllByRecursion}
 use Rattle.std.proofs.lemmas.Bool.{cases_Bool, cases_lt, cases_eq, cases_order, ltb-true, leb-true, lt-ltb, le-leb, le-ltb, or_left, or_right, not_from_false}
 use Rattle.std.proofs.lemmas.List.{get_or-set_same, get_or-set_other}
-use Rattle.std.proofs.lemmas.Option.{slice_get_within}
+use Rattle.std.proofs.lemmas.Option.{slice_get_within, same_Some}
 use Rattle.weave_data.proofs.Lists.{list_all-from}
 use Rattle.program_defs.specs.declared.script.Script.{Script}
 use Rattle.program_defs.specs.declared.script.Request.{Request}
@@ -18,7 +18,7 @@ use Rattle.report_rules.specs.Lookups.{is_none_or, committed_number, request_at,
 use Rattle.report_rules.specs.RightReport.{keeps_number, replies_clause}
 use Rattle.order_witness.specs.Refusals.{refused_after}
 use Rattle.order_witness.specs.Turns.{top_number, top_after, fits_after, IsTurnTaken, DoNumbersTakeTurns, AreAllKept}
-use Rattle.order_witness.proofs.MarkSteps.{one_number, nothing}
+use Rattle.order_witness.proofs.MarkSteps.{nothing}
 use Rattle.order_witness.proofs.InPlace.{of_one}
 use Rattle.order_witness.proofs.Replying.{is_numbered}
 
@@ -27,7 +27,7 @@ use Rattle.order_witness.proofs.Replying.{is_numbered}
 number_top : (state : ReplyState) (n : ℕ) → committed_number state ≡ Some n → top_number state ≡ n
 number_top Unbegun n e = absurd (nothing n e)
 number_top Begun n e = absurd (nothing n e)
-number_top (Committed number answers) n e = one_number number n e
+number_top (Committed number answers) n e = same_Some number n e
 number_top (Conflict v newer) n e = absurd (nothing n e)
 number_top (Refused op reason at) n e = absurd (nothing n e)
 number_top (Finished answer) n e = absurd (nothing n e)
@@ -37,13 +37,13 @@ after_top Unbegun n e = absurd (nothing n e)
 after_top Begun n e = absurd (nothing n e)
 after_top (Committed number answers) n e = absurd (nothing n e)
 after_top (Conflict v newer) n e = absurd (nothing n e)
-after_top (Refused op reason at) n e = one_number at n e
+after_top (Refused op reason at) n e = same_Some at n e
 after_top (Finished answer) n e = absurd (nothing n e)
 
 number_fits : (number after : ℕ) (state : ReplyState) (n : ℕ) → IsTrue (fits_after number after state) → committed_number state ≡ Some n → after < n
 number_fits number after Unbegun n h e = absurd (nothing n e)
 number_fits number after Begun n h e = absurd (nothing n e)
-number_fits number after (Committed m answers) n h e = omega (arith, ltb-true after m h, one_number m n e)
+number_fits number after (Committed m answers) n h e = omega (arith, ltb-true after m h, same_Some m n e)
 number_fits number after (Conflict v newer) n h e = absurd (nothing n e)
 number_fits number after (Refused op reason at) n h e = absurd (nothing n e)
 number_fits number after (Finished answer) n h e = absurd (nothing n e)
@@ -53,7 +53,7 @@ after_fits number after Unbegun n h e = absurd (nothing n e)
 after_fits number after Begun n h e = absurd (nothing n e)
 after_fits number after (Committed m answers) n h e = absurd (nothing n e)
 after_fits number after (Conflict v newer) n h e = absurd (nothing n e)
-after_fits number after (Refused op reason at) n h e = omega (arith, leb-true number at h, one_number at n e)
+after_fits number after (Refused op reason at) n h e = omega (arith, leb-true number at h, same_Some at n e)
 after_fits number after (Finished answer) n h e = absurd (nothing n e)
 
 -- a refused one has no commit number

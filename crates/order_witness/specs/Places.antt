@@ -1,8 +1,9 @@
 -- The places of requests in the order, by one walk: which request may come next. No public contract cites it.
-use Rattle.std.specs.Prelude.{◌≡◌, ℕ, ◌<◌, ◌≤◌, ◌+◌, Bool, ◌&&◌, not, nat_lt, ◌==◌, IsTrue, List, length, Option, Some, None, slice_index_or, slice_set, ◌⊎◌}
+use Rattle.std.specs.Prelude.{◌≡◌, ℕ, ◌<◌, ◌≤◌, ◌+◌, Bool, ◌&&◌, not, nat_lt, ◌==◌, IsTrue, List, length, Option, Some, slice_index_or, slice_set, ◌⊎◌}
 use Rattle.std.specs.List.{list_any, list_all}
 use Rattle.vector_stamp.specs.declared.clock.Stamp.{Stamp}
 use Rattle.vector_stamp.specs.Order.{stamp_before}
+use Rattle.order_graph.specs.Frontiers.{latest_of}
 use Rattle.report_rules.specs.declared.report.Report.{Report}
 use Rattle.report_rules.specs.declared.report.Pair.{Pair}
 use Rattle.report_rules.specs.Lookups.{is_some_and, is_none_or, stamp_at}
@@ -10,10 +11,6 @@ use Rattle.report_rules.specs.Lookups.{is_some_and, is_none_or, stamp_at}
 -- the place of a request in the order, counted from 1; 0 if it isn't listed
 abbrev pub place_in : List ℕ → ℕ → ℕ
 place_in places r = slice_index_or places r 0
-
--- the latest listed stamp of a gatekeeper
-abbrev pub latest_at : List (Option Stamp) → ℕ → Option Stamp
-latest_at latest gate = slice_index_or latest gate None
 
 -- the stamp is before one of these
 abbrev pub is_before_one : Stamp → List (Option Stamp) → Bool
@@ -32,7 +29,7 @@ pub record IsPutNext (report : Report) (r place : ℕ) (places next : List ℕ)
   pub stamp_is : stamp_at report r ≡ Some stamp
   pub home : stamp.home < length latest
   pub there : r < length places
-  pub may : IsTrue (may_come (place_in places r) (latest_at latest stamp.home) stamp latest)
+  pub may : IsTrue (may_come (place_in places r) (latest_of latest stamp.home) stamp latest)
   pub places_are : next ≡ slice_set places r place
   pub latest_are : then_latest ≡ slice_set latest stamp.home (Some stamp)
 
@@ -48,7 +45,7 @@ pub record ArePlaced (report : Report) (count : ℕ) (places : List ℕ) (latest
   pub rise : (a b : ℕ) (s t : Stamp) → 0 < place_in places a → 0 < place_in places b → stamp_at report a ≡ Some s
       → stamp_at report b ≡ Some t → IsTrue (stamp_before s t) → place_in places a < place_in places b
   pub at_most : (r : ℕ) (s : Stamp) → 0 < place_in places r → stamp_at report r ≡ Some s
-      → (t : Stamp) × (latest_at latest s.home ≡ Some t) × IsAtOrBefore s t
+      → (t : Stamp) × (latest_of latest s.home ≡ Some t) × IsAtOrBefore s t
 
 -- the pair is of listed requests in their order, if both are begun
 abbrev pub is_pair_in_turn : Report → List ℕ → Pair → Bool

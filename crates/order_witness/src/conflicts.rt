@@ -5,14 +5,14 @@ ghost use Rattle.std.specs.List.{list_all};
 ghost use Rattle.report_rules.specs.declared.report.Reply.{Reply};
 ghost use Rattle.weave_data.specs.Facts.{AllHold};
 ghost use Rattle.report_rules.specs.RightReport as right;
-ghost use Rattle.report_rules.specs.Lookups as told;
+ghost use Rattle.report_rules.specs.Lookups as lookups;
 ghost use Rattle.order_witness.specs.PairPrecedence.{IsPrecedenceOf};
 ghost use Rattle.order_witness.specs.Begun.{request_precedes, is_conflict_in_place, is_request_before};
 ghost use Rattle.order_witness.specs.Judgement.{IsFirstFault};
 
+use crate::lookups::{is_request_before, names_vertex, same_session};
 use crate::pair_precedence::{Precedence, judged_precedence, leads};
 use crate::pairs::is_committed_and_names;
-use crate::words::{is_request_before, names_vertex, same_session};
 use program_defs::Script;
 use report_rules::{ReplyState, Report};
 use std::alloc::{AllocError, Global};
@@ -65,7 +65,8 @@ fn is_in_place_by_stamps(script: &Script, report: &Report, request: u32, state: 
 // Whether the newer request is a committed transaction of another session, and both name the vertex.
 fn may_be_newer(script: &Script, report: &Report, request: u32, vertex: Name, newer: u32) -> bool
     ensures { result ≡ (right.is_committed_and_names script.now report.now vertex newer
-        && not (told.same_session script.now request newer) && told.request_names_vertex script.now request vertex) }
+        && not (lookups.same_session script.now request newer)
+        && lookups.request_names_vertex script.now request vertex) }
 {
     is_committed_and_names(script, report, vertex, newer)
         && !same_session(script, request, newer)

@@ -8,7 +8,7 @@ ghost use Rattle.std.specs.Prelude.{◌≡◌, ◌<◌, ◌≤◌, ◌&&◌, ℕ
 ghost use Rattle.std.specs.List.{filter, list_any};
 ghost use Rattle.report_rules.specs.declared.report.Reply.{Reply};
 ghost use Rattle.report_rules.specs.RightReport.{replies_clause};
-ghost use Rattle.report_rules.specs.Lookups as told;
+ghost use Rattle.report_rules.specs.Lookups as lookups;
 ghost use Rattle.program_defs.specs.declared.script.Script.{Script};
 ghost use Rattle.weave_data.specs.Facts.{AllHold};
 ghost use Rattle.order_witness.specs.Begun.{is_request_before};
@@ -16,8 +16,8 @@ ghost use Rattle.order_witness.specs.Choices.{IsBest, home_at, is_better, is_fre
 ghost use Rattle.order_witness.specs.Heads as heads;
 
 use crate::by_number::ByNumber;
+use crate::lookups::{is_request_before, stamp_of};
 use crate::precedence::is_begun;
-use crate::words::{is_request_before, stamp_of};
 use program_defs::Script;
 use report_rules::{Pair, Reply, Report};
 use std::alloc::{AllocError, Global};
@@ -166,7 +166,7 @@ fn heads_of(alloc: Global, line: &[usize], runs: &[Run]) -> Result<Vec<usize>, A
 fn see(befores: &ByNumber, requests: &[usize], done: &[bool], seen: &mut [usize])
     ensures size { length seen.new ≡ length seen.old }
     ensures seen { heads.AreSeenDone befores.now done.now seen.old → heads.AreSeenDone befores.now done.now seen.new }
-    ensures is_left { (r : ℕ) → IsTrue (told.is_in r requests.now) → r < length seen.old
+    ensures is_left { (r : ℕ) → IsTrue (lookups.is_in r requests.now) → r < length seen.old
         → heads.IsAtLeft befores.now done.now seen.new r }
 {
     for request in requests {

@@ -3,13 +3,13 @@
 ghost use Rattle.std.specs.Prelude.{◌≡◌, IsTrue, IfOk};
 ghost use Rattle.weave_data.specs.Facts.{AllHold};
 ghost use Rattle.report_rules.specs.RightReport as right;
-ghost use Rattle.report_rules.specs.Lookups as told;
+ghost use Rattle.report_rules.specs.Lookups as lookups;
 ghost use Rattle.order_witness.specs.Begun.{request_precedes};
 ghost use Rattle.order_witness.specs.Latest.{IsPutLatest, is_after_last, precedes_one};
 ghost use Rattle.order_witness.specs.PairPrecedence.{HoldsPairs};
 
+use crate::lookups::{is_request_before, stamp_at};
 use crate::pair_precedence::{graph_of, leads_by_pairs};
-use crate::words::{is_request_before, stamp_at};
 use order_graph::OrderGraph;
 use program_defs::Script;
 use report_rules::Report;
@@ -108,7 +108,7 @@ fn precedes_one(graph: &OrderGraph, report: &Report, request: u32, latest: &[Opt
 
 fn precedes(graph: &OrderGraph, report: &Report, request: u32, one: &Option<u32>) -> bool
     requires { HoldsPairs report.now graph.now }
-    ensures { result ≡ told.is_some_and (request_precedes report.now request) one.now }
+    ensures { result ≡ lookups.is_some_and (request_precedes report.now request) one.now }
 {
     match one {
         Some(one) => leads_by_pairs(graph, report, request, *one),

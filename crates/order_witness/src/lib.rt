@@ -16,6 +16,7 @@
 //! had their turns.
 #![tactic(auto)]
 
+mod answers;
 mod bits;
 mod by_number;
 mod conflicts;
@@ -23,15 +24,15 @@ mod heads;
 mod judge;
 mod latest;
 mod listing;
-mod marks;
+mod lookups;
 mod numbers;
 mod order;
 mod pair_precedence;
 mod pairs;
 mod places;
 mod precedence;
-mod printed;
-mod records;
+mod printed_order;
+mod refusal_marks;
 mod refusals;
 mod relation;
 mod replay;
@@ -39,8 +40,7 @@ mod replies;
 mod rising;
 mod trial;
 mod turns;
-mod words;
 
 pub use judge::{Judged, has_numbered_operations, judge_report};
-pub use printed::{has_order, order_of};
+pub use printed_order::{has_order, order_of};
 pub use report_rules::Clause;

@@ -4,13 +4,13 @@ ghost use Rattle.std.specs.List.{list_all};
 ghost use Rattle.report_rules.specs.declared.report.Reply.{Reply};
 ghost use Rattle.weave_data.specs.Facts.{facts_in_turn};
 ghost use Rattle.report_rules.specs.RightReport as right;
-ghost use Rattle.report_rules.specs.Lookups as told;
+ghost use Rattle.report_rules.specs.Lookups as lookups;
 ghost use Rattle.order_witness.specs.Bits.{has_bit};
 ghost use Rattle.order_witness.specs.Judgement.{IsFirstFault};
 ghost use Rattle.order_witness.specs.Seen.{AreSeen};
 
 use crate::bits::Row;
-use crate::words::{is_committed_or_finished, may_be_listed};
+use crate::lookups::{is_committed_or_finished, may_be_listed};
 use report_rules::Report;
 use std::alloc::{AllocError, Global};
 
@@ -34,7 +34,7 @@ fn first_out_of_place(report: &Report, order: &[u32], seen: &mut Row) -> Option<
     requires none { (n : ℕ) → has_bit seen.old n ≡ false }
     requires room { length report.now.replies / 64 < length seen.old }
     ensures fault { IsFirstFault (facts_in_turn
-        (λ before r. IsTrue (not (told.is_in r before) && told.may_be_listed report.now r)) order.now) result }
+        (λ before r. IsTrue (not (lookups.is_in r before) && lookups.may_be_listed report.now r)) order.now) result }
     ensures seen { result ≡ None → AreSeen order.now seen.new }
 {
     for (place, request) in order.iter().enumerate() {
@@ -50,7 +50,7 @@ fn first_out_of_place(report: &Report, order: &[u32], seen: &mut Row) -> Option<
 fn see(report: &Report, seen: &mut Row, request: u32) -> bool
     requires { length report.now.replies / 64 < length seen.old }
     ensures size { length seen.new ≡ length seen.old }
-    ensures holds { result ≡ (not (has_bit seen.old request) && told.may_be_listed report.now request) }
+    ensures holds { result ≡ (not (has_bit seen.old request) && lookups.may_be_listed report.now request) }
     ensures after { IsTrue result → (n : ℕ) → has_bit seen.new n ≡ (has_bit seen.old n || n == request) }
 {
     let holds = is_in_place(report, seen, request);
@@ -61,13 +61,13 @@ fn see(report: &Report, seen: &mut Row, request: u32) -> bool
 }
 
 fn is_in_place(report: &Report, seen: &Row, request: u32) -> bool
-    ensures { result ≡ (not (has_bit seen.now request) && told.may_be_listed report.now request) }
+    ensures { result ≡ (not (has_bit seen.now request) && lookups.may_be_listed report.now request) }
 {
     !seen.has(request as usize) && may_be_listed(report, request)
 }
 
 fn all_are_seen(report: &Report, seen: &Row) -> bool
-    ensures { result ≡ list_all (λ (reply : Reply). not (told.is_committed_or_finished reply.state)
+    ensures { result ≡ list_all (λ (reply : Reply). not (lookups.is_committed_or_finished reply.state)
         || has_bit seen.now reply.request) report.now.replies }
 {
     report.replies.as_slice().iter().all(|reply| !is_committed_or_finished(&reply.state)

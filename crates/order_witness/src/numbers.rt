@@ -3,13 +3,13 @@ ghost use Rattle.std.specs.Prelude.{◌≡◌, ℕ, ◌<◌, ◌/◌, ◌==◌, 
 ghost use Rattle.report_rules.specs.declared.report.Reply.{Reply};
 ghost use Rattle.weave_data.specs.Facts.{facts_in_turn};
 ghost use Rattle.report_rules.specs.RightReport as right;
-ghost use Rattle.report_rules.specs.Lookups as told;
+ghost use Rattle.report_rules.specs.Lookups as lookups;
 ghost use Rattle.order_witness.specs.Bits.{has_bit};
 ghost use Rattle.order_witness.specs.Judgement.{IsFirstFault};
 ghost use Rattle.order_witness.specs.Seen.{is_number_new};
 
 use crate::bits::Row;
-use crate::words::{commits, number_of};
+use crate::lookups::{commits, number_of};
 use report_rules::{Reply, Report};
 use std::alloc::{AllocError, Global};
 
@@ -25,7 +25,8 @@ fn first_out_of_place(replies: &[Reply], count: usize, seen: &mut Row) -> Option
     requires none { (n : ℕ) → has_bit seen.old n ≡ false }
     requires room { count / 64 < length seen.old }
     ensures { IsFirstFault (facts_in_turn
-        (λ before (reply : Reply). IsTrue (right.is_number_in_place count before (told.committed_number reply.state)))
+        (λ before (reply : Reply). IsTrue (
+        right.is_number_in_place count before (lookups.committed_number reply.state)))
         replies.now) result }
 {
     for (place, reply) in replies.iter().enumerate() {
@@ -43,7 +44,7 @@ fn see(seen: &mut Row, number: Option<u64>, count: usize) -> bool
     ensures size { length seen.new ≡ length seen.old }
     ensures holds { result ≡ is_number_new count seen.old number }
     ensures after { IsTrue result → (n : ℕ) → has_bit seen.new n
-        ≡ (has_bit seen.old n || told.is_some_and (λ m. n == m) number) }
+        ≡ (has_bit seen.old n || lookups.is_some_and (λ m. n == m) number) }
 {
     match number {
         Some(number) => see_number(seen, number, count),

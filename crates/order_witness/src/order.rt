@@ -4,16 +4,16 @@ ghost use Rattle.std.specs.Prelude.{◌≡◌, ◌||◌, ℕ, not, nat_lt, IfOk}
 ghost use Rattle.std.specs.List.{list_all};
 ghost use Rattle.weave_data.specs.Facts.{AllHold};
 ghost use Rattle.report_rules.specs.RightReport as right;
-ghost use Rattle.report_rules.specs.Lookups as told;
+ghost use Rattle.report_rules.specs.Lookups as lookups;
 ghost use Rattle.order_witness.specs.Bits.{rows_lead};
 ghost use Rattle.order_witness.specs.Begun.{request_precedes, is_listed_in_order};
 ghost use Rattle.order_witness.specs.Judgement.{IsFirstFault};
 
 use crate::latest::is_kept_by_pairs;
+use crate::lookups::same_session;
 use crate::places::is_in_turn;
 use crate::precedence::precedence_of;
 use crate::relation::Relation;
-use crate::words::same_session;
 use program_defs::Script;
 use report_rules::Report;
 use std::alloc::{AllocError, Global};
@@ -74,7 +74,7 @@ fn precedes_none(precedence: &Relation, before: &[u32], request: u32) -> bool
 }
 
 fn stands_in_session(script: &Script, before: &[u32], request: u32) -> bool
-    ensures { result ≡ list_all (λ earlier. not (told.same_session script.now earlier request)
+    ensures { result ≡ list_all (λ earlier. not (lookups.same_session script.now earlier request)
         || nat_lt earlier request)
         before.now }
 {

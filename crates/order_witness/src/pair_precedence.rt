@@ -12,9 +12,9 @@ ghost use Rattle.report_rules.specs.RightReport.{replies_clause};
 ghost use Rattle.order_witness.specs.Begun.{request_precedes};
 ghost use Rattle.order_witness.specs.PairPrecedence.{HoldsPairs, IsPrecedenceOf, stamps_of_replies, given_at, is_at_eight_homes};
 
+use crate::lookups::stamp_at;
 use crate::precedence::precedence_of;
 use crate::relation::Relation;
-use crate::words::stamp_at;
 use order_graph::OrderGraph;
 use order_graph::laws::ends_are_of_pairs;
 use program_defs::Script;

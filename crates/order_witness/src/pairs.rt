@@ -3,13 +3,13 @@
 ghost use Rattle.std.specs.Prelude.{◌≡◌, ◌&&◌, false, slice_index_or};
 ghost use Rattle.vector_stamp.specs.Order as stamps;
 ghost use Rattle.report_rules.specs.RightReport as right;
-ghost use Rattle.report_rules.specs.Lookups as told;
+ghost use Rattle.report_rules.specs.Lookups as lookups;
 ghost use Rattle.order_witness.specs.Judgement.{IsFirstFault};
 ghost use Rattle.order_witness.specs.Visited.{AreVisitsMarked, is_pair_in_place, may_be_later};
 ghost use Rattle.program_defs.specs.declared.script.Request.{Request};
 ghost use Rattle.report_rules.specs.declared.report.Reply.{Reply};
 
-use crate::words::{is_committed, names_vertex, reply_at, request_at, stamp_at};
+use crate::lookups::{is_committed, names_vertex, reply_at, request_at, stamp_at};
 use program_defs::{Script, Work};
 use report_rules::{Pair, ReplyState, Report};
 use weave_data::Name;
@@ -47,9 +47,9 @@ fn is_in_place(script: &Script, report: &Report, pair: &Pair, mark: bool) -> boo
 }
 
 fn is_later_in_place(script: &Script, report: &Report, v: Name, r: u32, mark: bool) -> bool
-    ensures { result ≡ told.are_both
+    ensures { result ≡ lookups.are_both
         (λ (request : Request) (reply : Reply). may_be_later script.now report.now v r mark request.work reply.state)
-        (told.request_at script.now r) (told.reply_at report.now r) }
+        (lookups.request_at script.now r) (lookups.reply_at report.now r) }
 {
     let Some(request) = request_at(script, r) else {
         return false;
@@ -78,7 +78,8 @@ fn may_be_later(
 }
 
 fn are_unordered(report: &Report, a: u32, b: u32) -> bool
-    ensures { result ≡ told.are_both stamps.unordered (told.stamp_at report.now a) (told.stamp_at report.now b) }
+    ensures { result
+        ≡ lookups.are_both stamps.unordered (lookups.stamp_at report.now a) (lookups.stamp_at report.now b) }
 {
     match (stamp_at(report, a), stamp_at(report, b)) {
         (Some(a), Some(b)) => a.is_unordered(&b),

@@ -2,10 +2,10 @@
 ghost use Rattle.std.specs.Prelude.{◌≡◌, ℕ, ◌+◌, ◌<◌, ◌&&◌, nat_lt, IsTrue, IfOk, None, length, replicate};
 ghost use Rattle.std.specs.List.{list_all};
 ghost use Rattle.vector_stamp.specs.Order as stamps;
-ghost use Rattle.report_rules.specs.Lookups as told;
+ghost use Rattle.report_rules.specs.Lookups as lookups;
 ghost use Rattle.order_witness.specs.Places.{IsOrderInTurn, IsPutNext, is_before_one, is_pair_in_turn, may_come, place_in};
 
-use crate::words::stamp_at;
+use crate::lookups::stamp_at;
 use report_rules::{Pair, Report};
 use std::alloc::{AllocError, Global};
 use vector_stamp::laws::stamps_are_ordered;
@@ -82,7 +82,7 @@ fn may_come(place: u64, last: &Option<Stamp>, stamp: &Stamp, latest: &[Option<St
 }
 
 fn is_after(latest: &Option<Stamp>, stamp: &Stamp) -> bool
-    ensures { result ≡ told.is_none_or (λ t. stamps.stamp_before t stamp.now) latest.now }
+    ensures { result ≡ lookups.is_none_or (λ t. stamps.stamp_before t stamp.now) latest.now }
 {
     match latest {
         Some(latest) => latest.is_before(stamp),
@@ -97,7 +97,7 @@ fn is_before_one(stamp: &Stamp, latest: &[Option<Stamp>]) -> bool
 }
 
 fn is_before(stamp: &Stamp, one: &Option<Stamp>) -> bool
-    ensures { result ≡ told.is_some_and (stamps.stamp_before stamp.now) one.now }
+    ensures { result ≡ lookups.is_some_and (stamps.stamp_before stamp.now) one.now }
 {
     match one {
         Some(one) => stamp.is_before(one),

@@ -6,13 +6,13 @@ ghost use Rattle.report_rules.specs.declared.report.Reply.{Reply};
 ghost use Rattle.weave_data.specs.Facts.{AllHold};
 ghost use Rattle.order_witness.specs.Turns.{AreAllKept, AreNumbersKept};
 ghost use Rattle.report_rules.specs.RightReport as right;
-ghost use Rattle.report_rules.specs.Lookups as told;
+ghost use Rattle.report_rules.specs.Lookups as lookups;
 ghost use Rattle.order_witness.specs.Judgement.{IsFirstFault, has_numbered_operations};
 ghost use Rattle.order_witness.specs.Refusals.{AreMarked, is_refusal_in_place, refused_after};
 
-use crate::marks::marks_of;
+use crate::lookups::{commits, number_of, same_session};
+use crate::refusal_marks::marks_of;
 use crate::turns::do_numbers_take_turns;
-use crate::words::{commits, number_of, same_session};
 use program_defs::Script;
 use report_rules::{Reply, ReplyState, Report};
 use std::alloc::{AllocError, Global};
@@ -77,7 +77,7 @@ fn is_in_place(
 ) -> bool
     requires kept { IsTrue in_turn → (at : ℕ) → refused_after reply.now.state ≡ Some at
         → AreNumbersKept script.now report.now.replies reply.now.request at }
-    requires count { count ≡ told.commits report.now }
+    requires count { count ≡ lookups.commits report.now }
     ensures { result ≡ is_refusal_in_place script.now report.now reply.now.request reply.now.state mark }
 {
     match &reply.state {
@@ -97,7 +97,7 @@ fn stands_among_commits(
     count: usize,
 ) -> bool
     requires kept { IsTrue in_turn → AreNumbersKept script.now report.now.replies r at }
-    requires count { count ≡ told.commits report.now }
+    requires count { count ≡ lookups.commits report.now }
     ensures { result ≡ right.stands_among_commits script.now report.now r at }
 {
     at <= count as u64 && are_numbers_kept(script, report.replies.as_slice(), r, at, in_turn)
@@ -105,7 +105,7 @@ fn stands_among_commits(
 
 fn are_numbers_kept(script: &Script, replies: &[Reply], r: u32, at: u64, in_turn: bool) -> bool
     requires { IsTrue in_turn → AreNumbersKept script.now replies.now r at }
-    ensures { result ≡ list_all (λ (other : Reply). not (told.same_session script.now other.request r)
+    ensures { result ≡ list_all (λ (other : Reply). not (lookups.same_session script.now other.request r)
         || right.keeps_number at r other) replies.now }
 {
     if in_turn {
@@ -115,7 +115,7 @@ fn are_numbers_kept(script: &Script, replies: &[Reply], r: u32, at: u64, in_turn
 }
 
 fn keeps_numbers(script: &Script, replies: &[Reply], r: u32, at: u64) -> bool
-    ensures { result ≡ list_all (λ (other : Reply). not (told.same_session script.now other.request r)
+    ensures { result ≡ list_all (λ (other : Reply). not (lookups.same_session script.now other.request r)
         || right.keeps_number at r other) replies.now }
 {
     replies.iter().all(|other| !same_session(script, other.request, r)

@@ -9,15 +9,15 @@ ghost use Rattle.program_defs.specs.Searching.{has_name};
 ghost use Rattle.report_rules.specs.declared.report.Pair.{Pair};
 ghost use Rattle.report_rules.specs.RightReport as right;
 ghost use Rattle.report_rules.specs.Replay.{AnswerMatchesReply, MatchesReply, OutcomeMatchesReply, graph_after, graph_after_work};
-ghost use Rattle.report_rules.specs.Lookups as told;
+ghost use Rattle.report_rules.specs.Lookups as lookups;
 ghost use Rattle.order_witness.specs.ByNumber.{list_at};
 ghost use Rattle.order_witness.specs.Judgement.{IsFirstFault, has_numbered_operations, is_numbered_work};
 ghost use Rattle.order_witness.specs.Visited.{AreMarkedAt, AreMarkedBy, AreOtherMarksKept, AreVisitsMarked};
 ghost use Rattle.order_witness.specs.Replay.{MatchesItsReply, GivesAnswers, TellsOf};
 
+use crate::answers::{same_answers, same_outcome};
 use crate::by_number::ByNumber;
-use crate::records::{same_answers, same_outcome};
-use crate::words::{reply_at, request_at};
+use crate::lookups::{reply_at, request_at};
 use graph_ops::{Got, Graph, Op, TxFault};
 use program_defs::laws::plain_answer_is_one;
 use program_defs::{Program, Script, Visits, Work, ask_with_visits};
@@ -80,9 +80,9 @@ fn replay(
     ensures size { length marks.new.items ≡ length marks.old.items }
     ensures others { AreOtherMarksKept places.now marks.old.items marks.new.items }
     ensures replayed { IfOk result (TellsOf (MatchesItsReply (plain_of graph.old) script.now report.now request)
-        (plain_of graph.new) (graph_after (plain_of graph.old) (told.request_at script.now request))) }
+        (plain_of graph.new) (graph_after (plain_of graph.old) (lookups.request_at script.now request))) }
     ensures marked { OnOk result (AreMarkedAt report.now.pairs (plain_of graph.old)
-        (told.request_at script.now request) (told.reply_at report.now request) places.now marks.new.items) }
+        (lookups.request_at script.now request) (lookups.reply_at report.now request) places.now marks.new.items) }
 {
     let Some(reply) = reply_at(report, request) else {
         return Ok(false);

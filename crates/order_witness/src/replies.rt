@@ -9,8 +9,8 @@ ghost use Rattle.report_rules.specs.Lookups.{is_none_or, request_at};
 ghost use Rattle.order_witness.specs.Judgement.{IsFirstFault};
 ghost use Rattle.order_witness.specs.Rising.{AreAtPlaces, is_at_place};
 
+use crate::lookups::{request_at, same_session};
 use crate::rising::{are_begun_in_turn, are_stamps_apart, do_sessions_take_turns};
-use crate::words::{request_at, same_session};
 use program_defs::Script;
 use report_rules::{Reply, Report};
 use std::alloc::{AllocError, Global};

@@ -6,7 +6,7 @@ ghost use Rattle.report_rules.specs.RightReport as right;
 ghost use Rattle.order_witness.specs.Begun.{stamp_in};
 ghost use Rattle.order_witness.specs.Rising.{HasBegunPlaces, HasRequestPlaces, AreInTurnTo, AreStampsApart, DoSessionsTakeTurns, comes_before, request_comes_before, session_comes_before, session_entry, stamp_entry};
 
-use crate::words::request_in;
+use crate::lookups::request_in;
 use program_defs::{Request, Script};
 use report_rules::Reply;
 use std::alloc::{AllocError, Global};

@@ -2,7 +2,7 @@
 ghost use Rattle.std.specs.Prelude.{◌≡◌, ℕ, max, IsTrue, IfOk, length, replicate};
 ghost use Rattle.order_witness.specs.Turns.{DoNumbersTakeTurns, IsTurnTaken, fits_after, top_after, top_number};
 
-use crate::words::request_in;
+use crate::lookups::request_in;
 use program_defs::Script;
 use report_rules::{Reply, ReplyState};
 use std::alloc::{AllocError, Global};

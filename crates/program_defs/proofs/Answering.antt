@@ -10,7 +10,7 @@ use Rattle.weave_data.specs.declared.name.Name.{Name}
 use Rattle.graph_ops.specs.Mentions.{is_among}
 use Rattle.graph_ops.specs.Operations.{State}
 use Rattle.graph_ops.specs.PlainGraph.{PlainGraph}
-use Rattle.graph_ops.proofs.Vertices.{itself}
+use Rattle.graph_ops.proofs.Vertices.{same_name-refl}
 use Rattle.program_defs.specs.declared.program.Filter.{Filter}
 use Rattle.program_defs.specs.declared.program.Program.{Program}
 use Rattle.program_defs.specs.declared.program.Program.TheVariants.{Reach, Around}
@@ -35,7 +35,7 @@ use Rattle.program_defs.proofs.VisitsAgree.{up-to-only}
 -- none is left if all are read
 find-none : (keys visits : List Name) → ((v : Name) → IsTrue (is_among visits v) → IsTrue (is_among keys v)) → find (λ v. not (is_among keys v)) visits ≡ None
 find-none keys [] all = refl
-find-none keys (v ∷ visits) all = rw (all v (or_left _ _ (itself v))) (find-none keys visits (λ w k. all w (or_right (same_name v w) _ k)))
+find-none keys (v ∷ visits) all = rw (all v (or_left _ _ (same_name-refl v))) (find-none keys visits (λ w k. all w (or_right (same_name v w) _ k)))
 
 first-of-cut : (target : Option Name) (x : Name) (xs : List Name) → Some x ≡ first_of (cut target (x ∷ xs))
 first-of-cut None x xs = refl

@@ -7,7 +7,7 @@ use Rattle.weave_data.specs.Names.{same_name, one_name}
 use Rattle.weave_data.specs.declared.name.Name.{Name}
 use Rattle.graph_ops.specs.Mentions.{is_among}
 use Rattle.graph_ops.specs.PlainGraph.{PlainGraph}
-use Rattle.graph_ops.proofs.Vertices.{itself}
+use Rattle.graph_ops.proofs.Vertices.{same_name-refl}
 use Rattle.program_defs.specs.declared.program.Filter.{Filter}
 use Rattle.program_defs.specs.declared.program.Program.{Program}
 use Rattle.program_defs.specs.declared.program.Program.TheVariants.{Show, Reach, Around, Path}
@@ -28,10 +28,10 @@ use Rattle.program_defs.proofs.VisitsAgree.{target-there, up-to-only, same-level
 -- a walk in the first graph is one in the second, if these agree on its vertices
 walk-same : (g h : PlainGraph) (pass : Option Filter) (walk : List Name) (from to : Name) → Agree g h walk → IsTrue (is_walk g pass from to walk) → IsTrue (is_walk h pass from to walk)
 walk-same g h pass [] from to a w = w
-walk-same g h pass (v ∷ []) from to a w = subst (λ s. IsTrue (same_name from v && is_some s && same_name v to)) (a v (or_left _ _ (itself v))) w
+walk-same g h pass (v ∷ []) from to a w = subst (λ s. IsTrue (same_name from v && is_some s && same_name v to)) (a v (or_left _ _ (same_name-refl v))) w
 walk-same g h pass (v ∷ u ∷ rest) from to a w =
     let all = and_parts (same_name from v && is_some (g v) && is_among (targets pass (g v)) u) _ w in
-    and_from _ _ (subst (λ s. IsTrue (same_name from v && is_some s && is_among (targets pass s) u)) (a v (or_left _ _ (itself v))) all.0)
+    and_from _ _ (subst (λ s. IsTrue (same_name from v && is_some s && is_among (targets pass s) u)) (a v (or_left _ _ (same_name-refl v))) all.0)
     (walk-same g h pass (u ∷ rest) u to (λ x k. a x (or_right (same_name v x) _ k)) all.1)
 
 -- a vertex on a walk is its end, or the end of a shorter one
@@ -50,7 +50,7 @@ on-the-way g pass (x ∷ y ∷ rest) from to v w k =
     elim (or_cases (same_name x v) _ k) [
       | inl same ↦ inr (record {
         walk = x ∷ [];
-        is = subst (λ f. IsTrue (is_walk g pass f v (x ∷ []))) (sym step.start) (subst (λ e. IsTrue (is_walk g pass x e (x ∷ []))) (one_name x v same) (and_from _ _ (and_from _ _ (itself x) step.there) (itself x)));
+        is = subst (λ f. IsTrue (is_walk g pass f v (x ∷ []))) (sym step.start) (subst (λ e. IsTrue (is_walk g pass x e (x ∷ []))) (one_name x v same) (and_from _ _ (and_from _ _ (same_name-refl x) step.there) (same_name-refl x)));
         shorter = omega arith;
       })
       | inr more ↦ elim (on-the-way g pass (y ∷ rest) y to v step.onward more) [
@@ -65,7 +65,7 @@ on-the-way g pass (x ∷ y ∷ rest) from to v w k =
         let head : y ≡ z = head-is zs is in
         record {
           walk = x ∷ z ∷ zs;
-          is = and_from _ _ (and_from _ _ (and_from _ _ (subst (λ f. IsTrue (same_name f x)) (sym start) (itself x)) there) (subst (λ u. IsTrue (is_among (targets pass (g x)) u)) head edge)) (subst (λ u. IsTrue (is_walk g pass u v (z ∷ zs))) head is);
+          is = and_from _ _ (and_from _ _ (and_from _ _ (subst (λ f. IsTrue (same_name f x)) (sym start) (same_name-refl x)) there) (subst (λ u. IsTrue (is_among (targets pass (g x)) u)) head edge)) (subst (λ u. IsTrue (is_walk g pass u v (z ∷ zs))) head is);
           shorter = omega (arith, lt);
         }
       where
@@ -150,7 +150,7 @@ least-same g h pass from to bound a b walk least =
 
 -- if each agrees with the other on what its own program visits, through each level
 same-at : (g h : PlainGraph) (program : Program) → ((n : ℕ) → Agree g h (visits_to n g program)) → ((n : ℕ) → Agree h g (visits_to n h program)) → (answer : Answer) → IsPlainAnswer g program answer → IsPlainAnswer h program answer
-same-at g h (Show v) a b (Shown state) is = is ∙ a 0 v (or_left _ _ (itself v))
+same-at g h (Show v) a b (Shown state) is = is ∙ a 0 v (or_left _ _ (same_name-refl v))
 same-at g h (Reach from to pass) a b (Reached reached) is = (
   λ yes'. let w = is.0 yes' in let other = walk-over g h pass from to (walk_length w.0) (visits-same g h (Reach from to pass) (walk_length w.0) (a (walk_length w.0))) (a (walk_length w.0)) w.0 w.1 (omega arith) in (other.0, other.1),
   λ w. is.1 (let other = walk-over h g pass from to (walk_length w.0) (visits-same h g (Reach from to pass) (walk_length w.0) (b (walk_length w.0))) (b (walk_length w.0)) w.0 w.1 (omega arith) in (other.0, other.1)),

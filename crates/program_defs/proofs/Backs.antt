@@ -7,7 +7,7 @@ use Rattle.weave_data.specs.Names.{same_name, one_name}
 use Rattle.weave_data.specs.declared.name.Name.{Name}
 use Rattle.graph_ops.specs.Mentions.{is_among}
 use Rattle.graph_ops.specs.PlainGraph.{PlainGraph}
-use Rattle.graph_ops.proofs.Vertices.{itself}
+use Rattle.graph_ops.proofs.Vertices.{same_name-refl}
 use Rattle.program_defs.specs.declared.program.Filter.{Filter}
 use Rattle.program_defs.specs.Ranks.{IsRankedAt, trace}
 use Rattle.program_defs.specs.Visits.{levels_to, through_level}
@@ -28,7 +28,7 @@ module _ (graph : PlainGraph) (pass : Option Filter) (from : Name) (parent : Nam
   back-goes-on ranked v back count other way = at way.level way.left way.there way.is
     where
       at : (k : ℕ) → k + count ≡ d → IsTrue (is_among (levels_to k graph pass from).level v) → trace parent d to ≡ trace parent k v ++ reverse back → IsOnTheWayBack (parent v) (back ++ v ∷ []) (count + 1)
-      at zero sum h is = absurd (both_ways _ other (subst (λ u. IsTrue (same_name v u)) (start-only graph pass from v h) (itself v)))
+      at zero sum h is = absurd (both_ways _ other (subst (λ u. IsTrue (same_name v u)) (start-only graph pass from v h) (same_name-refl v)))
       at (suc k) sum h is = record {
         level = k;
         left = omega (arith, sum);
@@ -60,7 +60,7 @@ module _ (graph : PlainGraph) (pass : Option Filter) (from : Name) (parent : Nam
     where
       none : (k : ℕ) → IsTrue (is_among (levels_to k graph pass from).level v) → k ≡ 0
       none k h =
-          let first : IsTrue (is_among (through_level 0 graph pass from) v) = subst (λ u. IsTrue (is_among (from ∷ []) u)) (sym (one_name v from same)) (or_left _ _ (itself from)) in
+          let first : IsTrue (is_among (through_level 0 graph pass from) v) = subst (λ u. IsTrue (is_among (from ∷ []) u)) (sym (one_name v from same)) (or_left _ _ (same_name-refl from)) in
           let less = no-nearer graph pass from k v h 0 first in
           omega (arith, less)
 

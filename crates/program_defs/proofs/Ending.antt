@@ -11,7 +11,7 @@ use Rattle.graph_ops.specs.Graphs.{Vertices, plain_of}
 use Rattle.graph_ops.specs.Mentions.{is_among}
 use Rattle.graph_ops.specs.Operations.{State}
 use Rattle.graph_ops.specs.declared.record.Record.{Record}
-use Rattle.graph_ops.proofs.Vertices.{itself}
+use Rattle.graph_ops.proofs.Vertices.{same_name-refl}
 use Rattle.program_defs.specs.declared.aim.Aim.{Aim}
 use Rattle.program_defs.specs.declared.program.Filter.{Filter}
 use Rattle.program_defs.specs.declared.program.Program.{Program}
@@ -34,7 +34,7 @@ find-there p [] v e = cc
 find-there p (x ∷ xs) v e = at (p x) e (find-there p xs v)
   where
     at : (b : Bool) → cond b (Some x) (find p xs) ≡ Some v → (find p xs ≡ Some v → IsTrue (is_among xs v)) → IsTrue (is_among (x ∷ xs) v)
-    at true f rest = let same : x ≡ v = cc in or_left _ _ (subst (λ y. IsTrue (same_name y v)) (sym same) (itself v))
+    at true f rest = let same : x ≡ v = cc in or_left _ _ (subst (λ y. IsTrue (same_name y v)) (sym same) (same_name-refl v))
     at false f rest = or_right (same_name x v) _ (rest f)
 
 find-passes : (p : Name → Bool) (xs : List Name) (v : Name) → find p xs ≡ Some v → IsTrue (p v)
@@ -91,7 +91,7 @@ fewer-left program graph aim search reads names after v is searched agree noted 
     let visit : next_visit reads program ≡ Some v = sym (next-is-next program search reads searched) ∙ next in
     let new : has_name names v ≡ false = noted v ∙ not-true _ (find-passes (λ w. not (is_among (keys_of reads) w)) (visits_to (length reads) (graph_read reads) program) v visit) in
     count-more (λ w. not (has_name after w)) (λ w. not (has_name names w)) wider (names_asked graph aim) v (next-named graph aim reads agree program v is visit)
-    (ap not (put v ∙ ap (λ b. b || has_name names v) (itself v))) (ap not new)
+    (ap not (put v ∙ ap (λ b. b || has_name names v) (same_name-refl v))) (ap not new)
   where
     wider : (w : Name) → IsTrue (not (has_name after w)) → IsTrue (not (has_name names w))
     wider w k = at (same_name v w) (has_name names w) (sym (ap not (put w)) ∙ k)

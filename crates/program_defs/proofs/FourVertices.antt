@@ -1,4 +1,5 @@
 -- A worked graph: vertices a, b, c, d; edges a e1 c, a e2 b, a e3 b, b e1 d, c e1 d.
+-- Used by nothing: worked examples.
 use Rattle.std.proofs.Common.{◌≡◌, ◌≤◌, ◌∙◌, arith, true, false, List, [], ◌∷◌, IsTrue, refl, sym, subst, Some, None, inl, inr}
 use Rattle.std.specs.Prelude.{codes}
 use Rattle.std.specs.Cmp.Lexicographic.{slice_cmp}

@@ -12,7 +12,7 @@ use Rattle.weave_data.specs.Names.{name_cmp, same_name, one_name}
 use Rattle.weave_data.specs.declared.name.Name.{Name}
 use Rattle.graph_ops.specs.Mentions.{is_among}
 use Rattle.graph_ops.specs.PlainGraph.{PlainGraph}
-use Rattle.graph_ops.proofs.Vertices.{itself}
+use Rattle.graph_ops.proofs.Vertices.{same_name-refl}
 use Rattle.program_defs.specs.declared.program.Filter.{Filter}
 use Rattle.program_defs.specs.Ranks.{IsRankedAt, trace}
 use Rattle.program_defs.specs.Visits.{levels_to, through_level}
@@ -94,7 +94,7 @@ module _ (graph : PlainGraph) (pass : Option Filter) (from : Name) where
   lead-long (suc n) v lead l = ap length l.2 ∙ long-snoc l.1 v ∙ ap suc (lead-long n l.0 l.1 l.3)
 
   lead-level : (n : ℕ) (v : Name) (lead : List Name) → IsLead n graph pass from v lead → IsTrue (is_among (through_level n graph pass from) v)
-  lead-level zero v lead l = subst (λ u. IsTrue (is_among (from ∷ []) u)) (sym l.0) (or_left _ _ (itself from))
+  lead-level zero v lead l = subst (λ u. IsTrue (is_among (from ∷ []) u)) (sym l.0) (or_left _ _ (same_name-refl from))
   lead-level (suc n) v lead l = targets-through graph pass from n l.0 v (lead-level n l.0 l.1 l.3) l.4
 
   -- the source of a vertex in level n + 1 is in level n
@@ -125,7 +125,7 @@ module _ (graph : PlainGraph) (pass : Option Filter) (from : Name) where
 
   walk-of-lead : (n : ℕ) (v : Name) (lead : List Name) → IsLead n graph pass from v lead → IsTrue (is_some (graph v)) → IsTrue (is_walk graph pass from v lead) × (walk_length lead ≡ n)
   walk-of-lead zero v lead l there =
-      let one : IsTrue (is_walk graph pass from v (v ∷ [])) = and_from _ _ (and_from _ _ (subst (λ u. IsTrue (same_name u v)) l.0 (itself v)) there) (itself v) in
+      let one : IsTrue (is_walk graph pass from v (v ∷ [])) = and_from _ _ (and_from _ _ (subst (λ u. IsTrue (same_name u v)) l.0 (same_name-refl v)) there) (same_name-refl v) in
       (subst (λ w. IsTrue (is_walk graph pass from v w)) (sym l.1) one, ap walk_length l.1)
   walk-of-lead (suc n) v lead l there =
       let w = walk-of-lead n l.0 l.1 l.3 (target-of pass (graph l.0) v l.4) in (

@@ -1,5 +1,6 @@
 -- An existing vertex is in the levels 0 to n exactly if a walk of at most n edges leads to it.
--- Used by `levels_are_distances`, Answering, AnswersAgree, Ending, FourVertices, Leads, NextVisit, Once and 3 more.
+-- Used by `levels_are_distances`, Answering, AnswersAgree, Ending, FourVertices, Leads, NextVisit, Once, OneList,
+-- Rereading and Walked.
 use Rattle.std.proofs.Common.{◌≡◌, ℕ, zero, suc, ◌+◌, ◌≤◌, Bool, true, false, not, List, [], ◌∷◌, ◌++◌, IsTrue, length, refl, sym, ap, subst, ◌∙◌, Option, inl, inr, arith}
 use Rattle.std.specs.Prelude.{is_some, ◌↔◌}
 use Rattle.std.proofs.lemmas.Bool.{and_parts, and_from, not-true, leb-true, le-leb, or_cases, or_left}
@@ -7,7 +8,7 @@ use Rattle.weave_data.specs.Names.{same_name}
 use Rattle.weave_data.specs.declared.name.Name.{Name}
 use Rattle.graph_ops.specs.Mentions.{is_among}
 use Rattle.graph_ops.specs.PlainGraph.{PlainGraph}
-use Rattle.graph_ops.proofs.Vertices.{itself}
+use Rattle.graph_ops.proofs.Vertices.{same_name-refl}
 use Rattle.program_defs.specs.declared.program.Filter.{Filter}
 use Rattle.program_defs.specs.declared.program.Program.TheVariants.{Around}
 use Rattle.program_defs.specs.Walks.{targets, is_walk, walk_length, is_walk_within}
@@ -61,7 +62,7 @@ pub around_visits : (graph : PlainGraph) (pass : Option Filter) (from to : Name)
 around_visits graph pass from to bound walk h =
     let parts = and_parts (is_walk graph pass from to walk) _ h in
     let le = leb-true (walk_length walk) bound parts.1 in
-    let start : IsTrue (is_among (through_level 0 graph pass from) from) = or_left _ _ (itself from) in
+    let start : IsTrue (is_among (through_level 0 graph pass from) from) = or_left _ _ (same_name-refl from) in
     let e : bound + 0 ≡ bound = omega arith in
     subst (λ m. IsTrue (is_among (through_level m graph pass from) to)) e (walk-through graph pass from walk 0 bound from to start le parts.0)
 
@@ -73,12 +74,12 @@ pub walk-and-edge : (graph : PlainGraph) (pass : Option Filter) (from u v : Name
 walk-and-edge graph pass from u v [] walks edge there = cc
 walk-and-edge graph pass from u v (x ∷ []) walks edge there =
     let one = one_vertex graph pass from u x walks in
-    let start : IsTrue (same_name from x) = subst (λ y. IsTrue (same_name from y)) one.start (itself from) in
+    let start : IsTrue (same_name from x) = subst (λ y. IsTrue (same_name from y)) one.start (same_name-refl from) in
     let edge' = subst (λ y. IsTrue (is_among (targets pass (graph y)) v)) (sym one.end) edge in
-    and_from _ _ (and_from _ _ (and_from _ _ start one.there) edge') (and_from _ _ (and_from _ _ (itself v) there) (itself v))
+    and_from _ _ (and_from _ _ (and_from _ _ start one.there) edge') (and_from _ _ (and_from _ _ (same_name-refl v) there) (same_name-refl v))
 walk-and-edge graph pass from u v (x ∷ w ∷ rest) walks edge there =
     let step = first_step graph pass from u x w rest walks in
-    let start : IsTrue (same_name from x) = subst (λ y. IsTrue (same_name from y)) step.start (itself from) in
+    let start : IsTrue (same_name from x) = subst (λ y. IsTrue (same_name from y)) step.start (same_name-refl from) in
     and_from _ _ (and_from _ _ (and_from _ _ start step.there) step.edge) (walk-and-edge graph pass w u v (w ∷ rest) step.onward edge there)
 
 -- a walk with one vertex more is longer by one edge
@@ -109,7 +110,7 @@ module _ (graph : PlainGraph) (pass : Option Filter) (from : Name) where
   pub walk-within : (n : ℕ) (v : Name) → IsTrue (is_some (graph v)) → IsTrue (is_among (through_level n graph pass from) v) → (walk : List Name) × IsTrue (is_walk_within n graph pass from v walk)
   walk-within zero v there h =
       elim (or_cases (same_name from v) _ h) [
-        | inl same ↦ (v ∷ [], and_from _ _ (and_from _ _ (and_from _ _ same there) (itself v)) refl)
+        | inl same ↦ (v ∷ [], and_from _ _ (and_from _ _ (and_from _ _ same there) (same_name-refl v)) refl)
         | inr none ↦ cc
       ]
   walk-within (suc n) v there h =
@@ -142,4 +143,4 @@ module _ (graph : PlainGraph) (pass : Option Filter) (from : Name) where
 -- a list that no name is among is empty
 pub no-member : (xs : List Name) → ((v : Name) → ¬ IsTrue (is_among xs v)) → xs ≡ []
 no-member [] none = refl
-no-member (x ∷ xs) none = absurd (none x (or_left _ _ (itself x)))
+no-member (x ∷ xs) none = absurd (none x (or_left _ _ (same_name-refl x)))

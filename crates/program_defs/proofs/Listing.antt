@@ -8,10 +8,10 @@ use Rattle.weave_data.specs.declared.name.Name.{Name}
 use Rattle.graph_ops.specs.Graphs.{Vertices, plain_of}
 use Rattle.graph_ops.specs.Operations.{State}
 use Rattle.graph_ops.specs.declared.record.Record.{Record}
+use Rattle.graph_ops.proofs.States.{same_name-sym}
 use Rattle.program_defs.specs.declared.program.Program.{Program}
 use Rattle.program_defs.specs.Visits.{IsListOfVisits, graph_read, visits_to}
 use Rattle.program_defs.proofs.NextVisit.{visits-of-reads}
-use Rattle.program_defs.proofs.OneList.{same-turned}
 use Rattle.program_defs.proofs.VisitsAgree.{list-same}
 
 -- each vertex that is there, with its state
@@ -22,7 +22,7 @@ reads-of (entry ∷ entries) = (entry.0, Some entry.1) ∷ reads-of entries
 -- the graph that has these states is that of the map
 state-there : (entries : List (Name × Record)) (v : Name) → graph_read (reads-of entries) v ≡ map.find name_cmp v entries
 state-there [] v = refl
-state-there (entry ∷ entries) v = at (same_name entry.0 v) (same_name v entry.0) (same-turned entry.0 v) (state-there entries v)
+state-there (entry ∷ entries) v = at (same_name entry.0 v) (same_name v entry.0) (same_name-sym entry.0 v) (state-there entries v)
   where
     at : (a b : Bool) → a ≡ b → graph_read (reads-of entries) v ≡ map.find name_cmp v entries → (if a then Some entry.1 else graph_read (reads-of entries) v) ≡ cond b (Some entry.1) (map.find name_cmp v entries)
     at true true same rest = refl

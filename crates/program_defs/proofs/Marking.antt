@@ -7,7 +7,7 @@ use Rattle.std.proofs.lemmas.Bool.{both_ways}
 use Rattle.std.proofs.lemmas.Cmp.{nat_list_cmp_total, tied_itself}
 use Rattle.weave_data.specs.Names.{name_cmp, same_name, one_name}
 use Rattle.weave_data.specs.declared.name.Name.{Name}
-use Rattle.graph_ops.proofs.Vertices.{itself}
+use Rattle.graph_ops.proofs.Vertices.{same_name-refl}
 use Rattle.program_defs.specs.declared.path_search.Hop.{Hop}
 use Rattle.program_defs.specs.declared.path_search.Mark.{Mark}
 use Rattle.program_defs.specs.Ranks.{ComesNoLater}
@@ -89,7 +89,7 @@ marked-has (first ∷ rest) marks count hop k = at (λ ms n i. marked-has rest m
     at more true e (inl same) =
         let has : is_some (marks hop.target) ≡ true = ap (λ (h : Hop). is_some (marks h.target)) (sym same) ∙ e in
         ap is_some (marked-stays (first ∷ rest) marks count hop.target has) ∙ has
-    at more false e (inl same) = ap is_some (at-new-target marks count first rest hop.target e (ap (λ (h : Hop). same_name first.target h.target) (sym same) ∙ itself first.target))
+    at more false e (inl same) = ap is_some (at-new-target marks count first rest hop.target e (ap (λ (h : Hop). same_name first.target h.target) (sym same) ∙ same_name-refl first.target))
 
 -- a new mark is that of a hop
 pub record IsOrigin (hops : List Hop) (count : ℕ) (v : Name) (mark : Mark) : Type 0 where
@@ -136,7 +136,7 @@ module _ (rank : Name → ℕ) where
       -- the first hop leads elsewhere
       elsewhere : same_name hop.target v ≡ false → ¬ (hop ≡ other)
       elsewhere f same =
-          let here : same_name hop.target v ≡ true = ap (same_name hop.target) (sym t ∙ ap (λ (h : Hop). h.target) (sym same)) ∙ itself hop.target in
+          let here : same_name hop.target v ≡ true = ap (same_name hop.target) (sym t ∙ ap (λ (h : Hop). h.target) (sym same)) ∙ same_name-refl hop.target in
           both_ways _ f here
 
       old : ((ms : Marks) (n : ℕ) → is_some (ms v) ≡ false → marks_after ms n rest v ≡ Some mark → IsIn rest other → rank mark.parent ≤ other.rank) → is_some (marks hop.target) ≡ true → IsIn (hop ∷ rest) other → rank mark.parent ≤ other.rank

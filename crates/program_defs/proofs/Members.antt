@@ -1,5 +1,6 @@
 -- Members of the lists that levels are made of.
--- Used by Answering, AnswersAgree, Ending, GoingOn, Leads, Levels, NextVisit, Once, OneAnswer, OneList and 9 more.
+-- Used by Answering, AnswersAgree, Ending, GoingOn, Leads, Levels, NextVisit, Once, OneAnswer, OneList, Onward,
+-- Pathing, Rereading, Searched, Seeing, Sets, Sorting, VisitsAgree and Walked.
 use Rattle.std.proofs.Common.{◌≡◌, ◌&&◌, Bool, true, false, cond, List, [], ◌∷◌, ◌++◌, IsTrue, refl, sym, ap, subst, Option, Some, None, ◌⊎◌, inl, inr}
 use Rattle.std.specs.Prelude.{is_some}
 use Rattle.std.specs.BTreeSet.{insert_key}
@@ -15,7 +16,7 @@ use Rattle.weave_data.specs.declared.name.Name.{Name}
 use Rattle.graph_ops.specs.Mentions.{is_among}
 use Rattle.graph_ops.specs.Operations.{State}
 use Rattle.graph_ops.specs.PlainGraph.{PlainGraph}
-use Rattle.graph_ops.proofs.Vertices.{itself}
+use Rattle.graph_ops.proofs.Vertices.{same_name-refl}
 use Rattle.program_defs.specs.declared.program.Filter.{Filter}
 use Rattle.program_defs.specs.Walks.{targets}
 use Rattle.program_defs.specs.Visits.{as_set, targets_of_all}
@@ -152,7 +153,7 @@ pub all-targets-only : (graph : PlainGraph) (pass : Option Filter) (vs : List Na
 all-targets-only graph pass [] w h = cc
 all-targets-only graph pass (x ∷ xs) w h =
     elim (among-cases (targets pass (graph x)) (targets_of_all graph pass xs) w h) [
-      | inl here ↦ (x, record { among = or_left _ _ (itself x); edge = here })
+      | inl here ↦ (x, record { among = or_left _ _ (same_name-refl x); edge = here })
       | inr later ↦
           let source = all-targets-only graph pass xs w later in
           (source.0, record { among = or_right _ _ source.1.among; edge = source.1.edge })

@@ -9,16 +9,16 @@ use Rattle.weave_data.specs.Names.{same_name, one_name}
 use Rattle.weave_data.specs.declared.name.Name.{Name}
 use Rattle.graph_ops.specs.Mentions.{is_among}
 use Rattle.graph_ops.specs.declared.record.Edge.{Edge}
-use Rattle.graph_ops.proofs.Vertices.{itself}
+use Rattle.graph_ops.proofs.Vertices.{same_name-refl}
+use Rattle.graph_ops.proofs.States.{same_name-sym}
 use Rattle.program_defs.specs.declared.program.Filter.{Filter}
 use Rattle.program_defs.specs.Searching.{has_name, new_names, IsOnce}
 use Rattle.program_defs.specs.Walks.{passes_filter}
-use Rattle.program_defs.proofs.OneList.{same-turned}
 
 -- a table has the names among its own
 pub has-among : (names : List Name) (v : Name) → has_name names v ≡ is_among names v
 has-among [] v = refl
-has-among (x ∷ xs) v = ap (λ b. b || has_name xs v) (same-turned v x) ∙ ap (λ b. same_name x v || b) (has-among xs v)
+has-among (x ∷ xs) v = ap (λ b. b || has_name xs v) (same_name-sym v x) ∙ ap (λ b. same_name x v || b) (has-among xs v)
 
 -- a name that is known stays so
 pub known-same : (names : List Name) (name v : Name) → has_name names name ≡ true → has_name names v ≡ same_name name v || has_name names v
@@ -104,7 +104,7 @@ new-once (x ∷ xs) known = at (known x) (new-once xs (λ w. same_name x w || kn
   where
     at : (k : Bool) → IsOnce (new_names (λ w. same_name x w || known w) xs) → IsOnce ((if k then [] else x ∷ []) ++ new_names (λ w. same_name x w || known w) xs)
     at true rest = rest
-    at false rest = (new-among xs (λ w. same_name x w || known w) x ∙ rw (itself x) (none (is_among xs x)), rest)
+    at false rest = (new-among xs (λ w. same_name x w || known w) x ∙ rw (same_name-refl x) (none (is_among xs x)), rest)
       where
         none : (b : Bool) → b && false ≡ false
         none true = refl

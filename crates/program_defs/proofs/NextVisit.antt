@@ -1,5 +1,6 @@
 -- The list of visits of what was read is complete after as many levels as there are reads.
--- Used by `next_visit_misses_none`, Answering, Asking, Cutting, Ending, GoingOn, Listing, Onward, Pathing and 2 more.
+-- Used by `next_visit_misses_none`, Answering, Asking, Cutting, Ending, GoingOn, Listing, Onward, Pathing, ReadOrder
+-- and Searched.
 use Rattle.std.proofs.Common.{append-nil, ◌≡◌, ℕ, zero, suc, ◌+◌, ◌-◌, ◌<◌, ◌≤◌, Bool, true, false, cond, List, [], ◌∷◌, ◌++◌, IsTrue, length, refl, sym, ap, subst, ◌∙◌, Option, inl, inr, arith}
 use Rattle.std.specs.Prelude.{is_some, if◌then◌else◌}
 use Rattle.std.specs.List.{filter}

@@ -7,7 +7,7 @@ use Rattle.weave_data.specs.Names.{same_name, one_name}
 use Rattle.weave_data.specs.declared.name.Name.{Name}
 use Rattle.graph_ops.specs.Mentions.{is_among}
 use Rattle.graph_ops.specs.PlainGraph.{PlainGraph}
-use Rattle.graph_ops.proofs.Vertices.{itself}
+use Rattle.graph_ops.proofs.Vertices.{same_name-refl}
 use Rattle.program_defs.specs.declared.program.Filter.{Filter}
 use Rattle.program_defs.specs.declared.program.Program.{Program}
 use Rattle.program_defs.specs.declared.program.Program.TheVariants.{Show, Reach, Around, Path}
@@ -30,7 +30,7 @@ lacks-append xs ys v h g = false_from_ne_true _ (λ k. elim (among-cases xs ys v
 pub once-append : (xs ys : List Name) → IsOnce xs → IsOnce ys → ((v : Name) → IsTrue (is_among ys v) → is_among xs v ≡ false) → IsOnce (xs ++ ys)
 once-append [] ys a b apart = b
 once-append (x ∷ xs) ys a b apart = (
-  lacks-append xs ys x a.0 (false_from_ne_true _ (λ k. both_ways _ ((or_parts (same_name x x) _ (apart x k)).0) (itself x))),
+  lacks-append xs ys x a.0 (false_from_ne_true _ (λ k. both_ways _ ((or_parts (same_name x x) _ (apart x k)).0) (same_name-refl x))),
   once-append xs ys a.1 b (λ v k. (or_parts (same_name x v) _ (apart v k)).1),
 )
 

@@ -1,15 +1,15 @@
 -- A program has one list of visits at most.
--- Used by `list_of_visits_is_one`, AnswersAgree, Cutting, GoingOn, Listing, NewNames, Onward, ReadOrder and 3 more.
+-- Used by `list_of_visits_is_one`, AnswersAgree, Cutting, GoingOn, Onward, ReadOrder, Searched and VisitsAgree.
 use Rattle.std.proofs.Common.{append-nil, ◌||◌, ◌≡◌, ℕ, zero, suc, ◌+◌, ◌-◌, ◌≤◌, Bool, true, false, List, [], ◌∷◌, ◌++◌, IsTrue, refl, sym, ap, subst, ◌∙◌, Option, inl, inr, arith}
 use Rattle.std.specs.Prelude.{if◌then◌else◌}
 use Rattle.std.proofs.lemmas.Bool.{cases_lt, both_ways, or_left, or_parts}
 use Rattle.std.proofs.lemmas.List.{append_assoc}
-use Rattle.std.proofs.lemmas.Cmp.{eq_by_cmp_equiv, nat_list_cmp_total}
 use Rattle.weave_data.specs.Names.{same_name}
 use Rattle.weave_data.specs.declared.name.Name.{Name}
 use Rattle.graph_ops.specs.Mentions.{is_among}
 use Rattle.graph_ops.specs.PlainGraph.{PlainGraph}
-use Rattle.graph_ops.proofs.Vertices.{itself}
+use Rattle.graph_ops.proofs.Vertices.{same_name-refl}
+use Rattle.graph_ops.proofs.States.{same_name-sym}
 use Rattle.program_defs.specs.declared.program.Filter.{Filter}
 use Rattle.program_defs.specs.declared.program.Program.{Program}
 use Rattle.program_defs.specs.declared.program.Program.TheVariants.{Show, Reach, Around, Path}
@@ -19,14 +19,10 @@ use Rattle.program_defs.proofs.Levels.{new-in-level}
 
 -- Names up to a target
 
--- sameness of names can be turned
-pub same-turned : (v w : Name) → same_name v w ≡ same_name w v
-same-turned = (eq_by_cmp_equiv nat_list_cmp_total).symm
-
 -- what comes after the target is left out
 pub cut-there : (target : Name) (xs more : List Name) → IsTrue (is_among xs target) → up_to target (xs ++ more) ≡ up_to target xs
 cut-there target [] more h = cc
-cut-there target (x ∷ xs) more h = here (same_name target x) (subst (λ b. IsTrue (b || is_among xs target)) (same-turned x target) h) (cut-there target xs more)
+cut-there target (x ∷ xs) more h = here (same_name target x) (subst (λ b. IsTrue (b || is_among xs target)) (same_name-sym x target) h) (cut-there target xs more)
   where
     here : (b : Bool) → IsTrue (b || is_among xs target) → (IsTrue (is_among xs target) → up_to target (xs ++ more) ≡ up_to target xs)
         → (if b then x ∷ [] else x ∷ up_to target (xs ++ more)) ≡ (if b then x ∷ [] else x ∷ up_to target xs)
@@ -38,7 +34,7 @@ pub not-there : (target : Name) (xs more : List Name) → is_among xs target ≡
 not-there target [] more h = refl
 not-there target (x ∷ xs) more h =
     let parts = or_parts (same_name x target) _ h in
-    here (same_name target x) (same-turned target x ∙ parts.0) (not-there target xs more parts.1)
+    here (same_name target x) (same_name-sym target x ∙ parts.0) (not-there target xs more parts.1)
   where
     here : (b : Bool) → b ≡ false → up_to target (xs ++ more) ≡ xs ++ up_to target more → (if b then x ∷ [] else x ∷ up_to target (xs ++ more)) ≡ x ∷ xs ++ up_to target more
     here true g rest = cc
@@ -49,8 +45,8 @@ pub first-there : (target x : Name) (xs : List Name) → IsTrue (is_among (up_to
 first-there target x xs = here (same_name target x)
   where
     here : (b : Bool) → IsTrue (is_among (if b then x ∷ [] else x ∷ up_to target xs) x)
-    here true = or_left _ _ (itself x)
-    here false = or_left _ _ (itself x)
+    here true = or_left _ _ (same_name-refl x)
+    here false = or_left _ _ (same_name-refl x)
 
 module _ (graph : PlainGraph) (pass : Option Filter) (from : Name) where
   -- after an empty level each is empty
@@ -101,7 +97,7 @@ module _ (graph : PlainGraph) (pass : Option Filter) (from : Name) where
               let uncut : up_to to (through_level n graph pass from) ≡ through_level n graph pass from =
               ap (up_to to) (sym (append-nil (through_level n graph pass from))) ∙ not-there to (through_level n graph pass from) [] is ∙ append-nil (through_level n graph pass from) in
               let old : IsTrue (is_among (through_level n graph pass from) x) = subst (λ ys. IsTrue (is_among ys x)) uncut (whole x (suc n, first)) in
-              let new = new-in-level graph pass from (suc n) x (subst (λ level. IsTrue (is_among level x)) (sym e) (or_left _ _ (itself x))) in
+              let new = new-in-level graph pass from (suc n) x (subst (λ level. IsTrue (is_among level x)) (sym e) (or_left _ _ (same_name-refl x))) in
               absurd (both_ways _ new old)
 
 -- the list gone through to one level, if it is whole, is the one gone through to another

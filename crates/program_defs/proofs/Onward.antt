@@ -9,7 +9,8 @@ use Rattle.weave_data.specs.Names.{same_name, one_name}
 use Rattle.weave_data.specs.declared.name.Name.{Name}
 use Rattle.graph_ops.specs.Mentions.{is_among}
 use Rattle.graph_ops.specs.PlainGraph.{PlainGraph}
-use Rattle.graph_ops.proofs.Vertices.{itself}
+use Rattle.graph_ops.proofs.Vertices.{same_name-refl}
+use Rattle.graph_ops.proofs.States.{same_name-sym}
 use Rattle.program_defs.specs.declared.program.Filter.{Filter}
 use Rattle.program_defs.specs.declared.program.Program.{Program}
 use Rattle.program_defs.specs.declared.program.Program.TheVariants.{Show, Reach, Around, Path}
@@ -19,7 +20,7 @@ use Rattle.program_defs.proofs.Members.{among-left}
 use Rattle.program_defs.proofs.NextVisit.{visits-of-reads}
 use Rattle.program_defs.proofs.Once.{visits-once, new-after}
 use Rattle.program_defs.specs.Searching.{IsOnce}
-use Rattle.program_defs.proofs.OneList.{same-turned, not-there, visits-whole}
+use Rattle.program_defs.proofs.OneList.{not-there, visits-whole}
 use Rattle.program_defs.proofs.VisitsAgree.{next-levels, same-up-to}
 
 -- Two splits of a list
@@ -98,7 +99,7 @@ uncut to (y ∷ ys) (d ∷ done) x rest e = at (same_name to y) refl e (uncut to
         let head : y ≡ d = cc in
         let tail : up_to to ys ≡ done ++ x ∷ rest = cc in
         let u = later tail in
-        let lacks : same_name d to ≡ false = same-turned d to ∙ ap (same_name to) (sym head) ∙ is in
+        let lacks : same_name d to ≡ false = same_name-sym d to ∙ ap (same_name to) (sym head) ∙ is in
         record { more = u.more; is = ap (λ z. z ∷ ys) head ∙ ap (λ zs. d ∷ zs) u.is; free = rw lacks u.free }
 
 -- the first name of a list is the first of its names up to a target
@@ -156,7 +157,7 @@ states-agree graph (x ∷ xs) v k = at (same_name x v) refl (states-agree graph 
 pub find-next : (keys done rest : List Name) → ((v : Name) → IsTrue (is_among done v) → IsTrue (is_among keys v)) → ((x : Name) → first_of rest ≡ Some x → is_among keys x ≡ false) → find (λ v. not (is_among keys v)) (done ++ rest) ≡ first_of rest
 find-next keys [] [] all new = refl
 find-next keys [] (x ∷ rest) all new = rw (new x refl) refl
-find-next keys (d ∷ done) rest all new = rw (all d (or_left _ _ (itself d))) (find-next keys done rest (λ v k. all v (or_right (same_name d v) _ k)) new)
+find-next keys (d ∷ done) rest all new = rw (all d (or_left _ _ (same_name-refl d))) (find-next keys done rest (λ v k. all v (or_right (same_name d v) _ k)) new)
 
 -- when the first visits on a graph are read, the next visit is the first of the rest, if there is one
 pub next-of-visits : (graph : PlainGraph) (program : Program) (visits done rest : List Name) → IsListOfVisits graph program visits → visits ≡ done ++ rest → next_visit (states_at graph done) program ≡ first_of rest

@@ -7,7 +7,7 @@ use Rattle.weave_data.specs.declared.name.Name.{Name}
 use Rattle.graph_ops.specs.Mentions.{is_among}
 use Rattle.graph_ops.specs.Operations.{State}
 use Rattle.graph_ops.specs.PlainGraph.{PlainGraph}
-use Rattle.graph_ops.proofs.Vertices.{itself}
+use Rattle.graph_ops.proofs.Vertices.{same_name-refl}
 use Rattle.program_defs.specs.declared.path_search.Hop.{Hop}
 use Rattle.program_defs.specs.declared.path_search.Mark.{Mark}
 use Rattle.program_defs.specs.declared.program.Filter.{Filter}
@@ -62,7 +62,7 @@ hop-at v rank t = record { rank = rank; target = t; parent = v }
 
 hop-of : (v : Name) (rank : ℕ) (names : List Name) (hop : Hop) → IsIn (hops_from v rank names) hop → (t : Name) × IsTrue (is_among names t) × (record { rank = rank; target = t; parent = v } ≡ hop)
 hop-of v rank [] hop i = absurd i
-hop-of v rank (t ∷ names) hop (inl same) = (t, or_left _ _ (itself t), same)
+hop-of v rank (t ∷ names) hop (inl same) = (t, or_left _ _ (same_name-refl t), same)
 hop-of v rank (t ∷ names) hop (inr i) = let found = hop-of v rank names hop i in (found.0, or_right (same_name t found.0) _ found.1, found.2)
 
 hop-to : (v : Name) (rank : ℕ) (names : List Name) (t : Name) → IsTrue (is_among names t) → IsIn (hops_from v rank names) (record { rank = rank; target = t; parent = v })
@@ -84,7 +84,7 @@ module _ (search : SearchState) (reads : List (Name × State)) (n : ℕ) (done :
   agrees w k = read-agrees search reads n done within v more rest state w (within.read w ∙ k)
 
   here : now v ≡ state
-  here = rw (itself v) refl
+  here = rw (same_name-refl v) refl
 
   -- when the next vertex of level n is read, the levels 0 to n stay as they were
   pub levels-kept : (k : ℕ) → k ≤ n → levels_to k was search.aim.pass search.aim.from ≡ levels_to k now search.aim.pass search.aim.from
@@ -103,7 +103,7 @@ module _ (search : SearchState) (reads : List (Name × State)) (n : ℕ) (done :
   hops-more marks hops h = record {
     parent = λ hop i. elim (in-cases hops added hop i) [
       | inl old ↦ among-left done (v ∷ []) hop.parent (h.parent hop old)
-      | inr fresh ↦ among-right done (v ∷ []) hop.parent (subst (λ u. IsTrue (is_among (v ∷ []) u)) (ap (λ (x : Hop). x.parent) (hop-of v (ranks marks v) names hop fresh).2) (or_left _ _ (itself v)))
+      | inr fresh ↦ among-right done (v ∷ []) hop.parent (subst (λ u. IsTrue (is_among (v ∷ []) u)) (ap (λ (x : Hop). x.parent) (hop-of v (ranks marks v) names hop fresh).2) (or_left _ _ (same_name-refl v)))
     ];
     edge = λ hop i. elim (in-cases hops added hop i) [
       | inl old ↦ subst (λ s. IsTrue (is_among (targets search.aim.pass s) hop.target)) (agrees hop.parent (among-right (levels_read reads search.aim n).before done hop.parent (h.parent hop old))) (h.edge hop old)

@@ -10,6 +10,7 @@ use Rattle.weave_data.specs.declared.name.Name.{Name}
 use Rattle.graph_ops.specs.Mentions.{is_among}
 use Rattle.graph_ops.specs.Operations.{State}
 use Rattle.graph_ops.specs.PlainGraph.{PlainGraph}
+use Rattle.graph_ops.proofs.States.{same_name-sym}
 use Rattle.program_defs.specs.declared.program.Program.{Program}
 use Rattle.program_defs.specs.Searching.{SearchState, AddsState, IsWithinLevel, IsTargetNotIn, IsOnce, IsLeft, HasFound, HasSearched, AllRead, aim_of, next_of, levels_read, turned_search, onto_next_level, gone_on}
 use Rattle.program_defs.specs.Visits.{as_set, not_among, targets_of_all, through_level, visits_to, graph_read, first_of}
@@ -18,7 +19,7 @@ use Rattle.program_defs.proofs.Cutting.{cut, cut-free, cut-only, cut-first, cut-
 use Rattle.program_defs.proofs.Members.{among-left, among-right, among-cases, filter-has, filter-only, as_set-has, as_set-only}
 use Rattle.program_defs.proofs.NextVisit.{read-there}
 use Rattle.program_defs.proofs.Once.{once-append, level-set}
-use Rattle.program_defs.proofs.OneList.{nothing-more, same-turned}
+use Rattle.program_defs.proofs.OneList.{nothing-more}
 use Rattle.program_defs.proofs.Seeing.{among-append, new-read, same-levels-read, within-next}
 use Rattle.program_defs.proofs.Sets.{same-sets, as_set-set}
 use Rattle.program_defs.proofs.Turning.{next-first}
@@ -213,7 +214,7 @@ over-now program search reads aim found all = record {
 pub free-more : (target : Option Name) (xs : List Name) (v : Name) → IsTargetNotIn target xs → is_value target v ≡ false → IsTargetNotIn target (xs ++ v ∷ [])
 free-more None xs v free other = free
 free-more (Some to) xs v free other =
-    among-append xs (v ∷ []) to ∙ rw (free, same-turned v to, other) refl
+    among-append xs (v ∷ []) to ∙ rw (free, same_name-sym v to, other) refl
 
 -- what was read before a vertex of a level: the levels before, and what precedes it in its own
 abbrev pub read-earlier : SearchState → List (Name × State) → ℕ → List Name → List Name

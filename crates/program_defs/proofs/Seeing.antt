@@ -9,7 +9,7 @@ use Rattle.weave_data.specs.declared.name.Name.{Name}
 use Rattle.graph_ops.specs.Mentions.{is_among}
 use Rattle.graph_ops.specs.Operations.{State}
 use Rattle.graph_ops.specs.PlainGraph.{PlainGraph}
-use Rattle.graph_ops.proofs.Vertices.{itself}
+use Rattle.graph_ops.proofs.Vertices.{same_name-refl}
 use Rattle.program_defs.specs.declared.program.Filter.{Filter}
 use Rattle.program_defs.specs.Agreement.{Agree}
 use Rattle.program_defs.specs.Searching.{SearchState, AddsState, IsWithinLevel, IsOnce, has_name, new_names, levels_read}
@@ -81,7 +81,7 @@ module _ (search : SearchState) (reads : List (Name × State)) (n : ℕ) (done :
       ∙ ap (λ s. targets_of_all was search.aim.pass done ++ targets search.aim.pass s) here
     where
       here : now v ≡ state
-      here = rw (itself v) refl
+      here = rw (same_name-refl v) refl
 
   module _ (next : SearchState) (adds : AddsState v state search next) where
     abbrev tg : Name → Bool

@@ -15,7 +15,7 @@ use Rattle.std.specs.Cmp.{both_ways as same_test}
 use Rattle.weave_data.specs.Names.{name_cmp, same_name, one_name}
 use Rattle.weave_data.specs.declared.name.Name.{Name}
 use Rattle.graph_ops.specs.Mentions.{is_among}
-use Rattle.graph_ops.proofs.Vertices.{itself}
+use Rattle.graph_ops.proofs.Vertices.{same_name-refl}
 use Rattle.program_defs.specs.PlainAnswer.{is_rising}
 use Rattle.program_defs.specs.Visits.{as_set}
 use Rattle.program_defs.proofs.Members.{insert-only}
@@ -42,7 +42,7 @@ not-both x y less more = let turned : name_cmp x y ≡ ordering_reverse (name_cm
 
 -- the first name of a list is among the list
 pub head-in : (x : Name) (xs : List Name) → IsTrue (is_among (x ∷ xs) x)
-head-in x xs = or_left _ _ (itself x)
+head-in x xs = or_left _ _ (same_name-refl x)
 
 -- what is among the rest of a list is among the list
 pub tail-in : (x : Name) (xs : List Name) (v : Name) → IsTrue (is_among xs v) → IsTrue (is_among (x ∷ xs) v)

@@ -10,15 +10,15 @@ use Rattle.std.proofs.lemmas.Map.Keys.{IsDistinct-cons, IsDistinct-IsPermutation
 use Rattle.weave_data.specs.Names.{name_cmp, same_name}
 use Rattle.weave_data.specs.declared.name.Name.{Name}
 use Rattle.graph_ops.specs.Mentions.{is_among}
+use Rattle.graph_ops.proofs.States.{same_name-sym}
 use Rattle.program_defs.specs.Searching.{IsOnce}
 use Rattle.program_defs.specs.Visits.{as_set}
 use Rattle.program_defs.proofs.Members.{as_set-has, as_set-only}
-use Rattle.program_defs.proofs.OneList.{same-turned}
 use Rattle.program_defs.proofs.Sets.{same-sets, sorted-set, as_set-set}
 
 differs-all : (v : Name) (xs : List Name) → is_among xs v ≡ false → AllByRecursion (λ y. same_name v y ≡ false) xs
 differs-all v [] none = tt
-differs-all v (x ∷ xs) none = let parts = or_parts (same_name x v) _ none in (same-turned v x ∙ parts.0, differs-all v xs parts.1)
+differs-all v (x ∷ xs) none = let parts = or_parts (same_name x v) _ none in (same_name-sym v x ∙ parts.0, differs-all v xs parts.1)
 
 once-distinct : (xs : List Name) → IsOnce xs → IsDistinct same_name xs
 unfolding IsDistinct
@@ -28,5 +28,5 @@ once-distinct (x ∷ xs) once = IsDistinct-cons same_name x xs (differs-all x xs
 -- a list in which no name comes twice is, when it is sorted, the set of its names
 pub sorted-is-set : (xs ys : List Name) → IsPermutation xs ys → IsSorted name_cmp ys → IsOnce xs → ys ≡ as_set xs
 sorted-is-set xs ys moved sorted once =
-    same-sets ys (as_set xs) (sorted-set ys sorted (IsDistinct-IsPermutation same_name same-turned xs ys moved (once-distinct xs once))) (as_set-set xs)
+    same-sets ys (as_set xs) (sorted-set ys sorted (IsDistinct-IsPermutation same_name same_name-sym xs ys moved (once-distinct xs once))) (as_set-set xs)
     (λ v. sym (list_any-IsPermutation (λ other. same_name other v) xs ys moved) ∙ same_test _ _ (as_set-has xs v) (as_set-only xs v))

@@ -1,5 +1,6 @@
 -- Graphs that agree on the vertices that a program visits have the same list of visits.
--- Used by `only_visits_matter`, Answering, AnswersAgree, Asking, Cutting, Feeding, Listing, Once, Onward and 2 more.
+-- Used by `only_visits_matter`, Answering, AnswersAgree, Asking, Cutting, Feeding, Listing, Once, Onward, Pathing and
+-- Seeing.
 use Rattle.std.proofs.Common.{◌≡◌, ℕ, zero, suc, Bool, true, false, List, [], ◌∷◌, ◌++◌, IsTrue, refl, sym, ap, subst, ◌∙◌, Option, ◌⊎◌, inl, inr}
 use Rattle.std.specs.Prelude.{if◌then◌else◌}
 use Rattle.std.proofs.lemmas.Bool.{cases_Bool, both_ways, or_cases, or_left, or_right}
@@ -7,7 +8,8 @@ use Rattle.weave_data.specs.Names.{same_name}
 use Rattle.weave_data.specs.declared.name.Name.{Name}
 use Rattle.graph_ops.specs.Mentions.{is_among}
 use Rattle.graph_ops.specs.PlainGraph.{PlainGraph}
-use Rattle.graph_ops.proofs.Vertices.{itself}
+use Rattle.graph_ops.proofs.Vertices.{same_name-refl}
+use Rattle.graph_ops.proofs.States.{same_name-sym}
 use Rattle.program_defs.specs.declared.program.Filter.{Filter}
 use Rattle.program_defs.specs.declared.program.Program.{Program}
 use Rattle.program_defs.specs.declared.program.Program.TheVariants.{Show, Reach, Around, Path}
@@ -15,7 +17,7 @@ use Rattle.program_defs.specs.Visits.{Levels, names_through, next_level, as_set,
 use Rattle.program_defs.specs.Walks.{targets}
 use Rattle.program_defs.specs.Agreement.{Agree, AgreeOnVisits}
 use Rattle.program_defs.proofs.Members.{among-left, among-right}
-use Rattle.program_defs.proofs.OneList.{same-turned, cut-there, not-there}
+use Rattle.program_defs.proofs.OneList.{cut-there, not-there}
 
 -- Names up to a target
 
@@ -25,8 +27,8 @@ target-there target [] h = cc
 target-there target (x ∷ xs) h = here (same_name target x) refl (or_cases (same_name x target) _ h) (target-there target xs)
   where
     here : (b : Bool) → same_name target x ≡ b → IsTrue (same_name x target) ⊎ IsTrue (is_among xs target) → (IsTrue (is_among xs target) → IsTrue (is_among (up_to target xs) target)) → IsTrue (is_among (if b then x ∷ [] else x ∷ up_to target xs) target)
-    here true e g rest = or_left _ _ (same-turned x target ∙ e)
-    here false e (inl same) rest = absurd (both_ways _ e (same-turned target x ∙ same))
+    here true e g rest = or_left _ _ (same_name-sym x target ∙ e)
+    here false e (inl same) rest = absurd (both_ways _ e (same_name-sym target x ∙ same))
     here false e (inr more) rest = or_right (same_name x target) _ (rest more)
 
 -- each of the names up to a target is among all the names
@@ -45,7 +47,7 @@ module _ (g h : PlainGraph) (pass : Option Filter) where
   pub targets-same : (vs : List Name) → Agree g h vs → targets_of_all g pass vs ≡ targets_of_all h pass vs
   targets-same [] a = refl
   targets-same (v ∷ vs) a =
-      ap (λ s. targets pass s ++ targets_of_all g pass vs) (a v (or_left _ _ (itself v)))
+      ap (λ s. targets pass s ++ targets_of_all g pass vs) (a v (or_left _ _ (same_name-refl v)))
       ∙ ap (λ rest. targets pass (h v) ++ rest) (targets-same vs (λ w k. a w (or_right (same_name v w) _ k)))
 
   next-same : (levels : Levels) → Agree g h levels.level → next_level g pass levels ≡ next_level h pass levels

@@ -1,4 +1,4 @@
--- The members of lists of hops, the ranks by other marks, and the marks of one more level.
+-- In a search by levels: once the sorted hops of a level are marked, the next level is marked and ranked too.
 -- Used by Pathing and Rereading.
 use Rattle.std.proofs.Common.{◌≡◌, ℕ, suc, ◌+◌, ◌-◌, ◌<◌, ◌≤◌, Bool, true, false, List, [], ◌∷◌, ◌++◌, IsTrue, refl, sym, ap, subst, ◌∙◌, Option, Some, None, ◌⊎◌, inl, inr, arith}
 use Rattle.std.specs.Prelude.{is_some}

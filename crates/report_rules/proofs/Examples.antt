@@ -1,5 +1,5 @@
 -- Words for worked examples.
--- Used by NoText, OneSession, 3 more and crates hands_account, seen_logs, weave_account and weave_report.
+-- Used by NoText, OneSession, OneThingWrong, ThreeGatekeepers, TwoSessions, WithPrograms and 5 crates above.
 use Rattle.std.proofs.Common.{ℕ, List, [], ◌++◌, Some, None}
 use Rattle.std.specs.Prelude.{codes, replicate, ◌-◌, length}
 use Rattle.vector_stamp.specs.declared.clock.Stamp.{Stamp}

@@ -1,5 +1,6 @@
 -- Values of the types of reports, some that a text can give and some that no text gives, for a script of one gatekeeper
 -- with a transaction and a program.
+-- Used by nothing: worked examples.
 use Rattle.std.proofs.Common.{ℕ, true, [], ◌∷◌, refl, Option, Some, None}
 use Rattle.std.specs.Prelude.{codes}
 use Rattle.vector_stamp.specs.declared.clock.Stamp.{Stamp}

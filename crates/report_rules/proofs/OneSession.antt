@@ -1,4 +1,6 @@
--- Two transactions of one session: one creates a vertex with a property, and the other reads it. And a script without a request.
+-- Two transactions of one session: one creates a vertex with a property, and the other reads it. And a script without
+-- a request.
+-- Used by nothing: worked examples.
 use Rattle.std.proofs.Common.{◌≡◌, ℕ, Bool, true, false, List, [], ◌∷◌, refl, ap, Option, Some, None}
 use Rattle.std.specs.Prelude.{codes, is_some}
 use Rattle.graph_ops.specs.declared.op.Op.TheVariants.{Create, Set, Get}

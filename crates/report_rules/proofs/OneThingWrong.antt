@@ -1,5 +1,6 @@
 -- Reports with one thing wrong: a commit numbered 0, a pair of ordered stamps, a conflict at a vertex that the aborted
 -- request doesn't name. And the printed order of two requests that nothing orders.
+-- Used by nothing: worked examples.
 use Rattle.std.proofs.Common.{[], ◌∷◌, refl, arith}
 use Rattle.vector_stamp.specs.declared.clock.Stamp.{Stamp}
 use Rattle.graph_ops.specs.declared.op.Op.TheVariants.{Create, Set}

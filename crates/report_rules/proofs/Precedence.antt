@@ -1,5 +1,6 @@
 -- A stamp precedes another exactly if the test passes, by a law of stamps.
--- Used by OneSession, ThreeGatekeepers, TwoSessions, WithPrograms and crate order_witness.
+-- Used by OneSession, OneThingWrong, ThreeGatekeepers, TwoSessions, WithPrograms and crates order_witness and
+-- report_rows.
 use Rattle.std.proofs.Common.{◌≡◌, false, IsTrue, List}
 use Rattle.std.specs.Prelude.{◌↔◌}
 use Rattle.std.proofs.lemmas.Bool.{both_ways}

@@ -1,4 +1,5 @@
 -- Three gatekeepers: a conflict through a path, a pair that isn't kept, and no real time between sessions.
+-- Used by nothing: worked examples.
 use Rattle.std.proofs.Common.{[], ◌∷◌, refl, Some}
 use Rattle.std.specs.Prelude.{codes}
 use Rattle.graph_ops.specs.declared.op.Op.TheVariants.{Create, Get}

@@ -1,4 +1,5 @@
 -- One script of two sessions, run three ways: one transaction creates a vertex, and the other sets a property of it.
+-- Used by nothing: worked examples.
 use Rattle.std.proofs.Common.{◌≡◌, ℕ, Bool, true, false, List, [], ◌∷◌, refl, ap, Ok, Err}
 use Rattle.vector_stamp.specs.declared.clock.Stamp.{Stamp}
 use Rattle.vector_stamp.specs.Precedence.{ByStamps}

@@ -1,4 +1,5 @@
 -- Programs among transactions, and raised epochs.
+-- Used by nothing: worked examples.
 use Rattle.std.proofs.Common.{ℕ, ◌&&◌, true, false, List, [], ◌∷◌, IsTrue, refl, subst, Option, Some, None}
 use Rattle.std.specs.Prelude.{codes, is_some}
 use Rattle.std.proofs.lemmas.Bool.{and_parts}

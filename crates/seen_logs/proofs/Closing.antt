@@ -1,4 +1,5 @@
--- At the end all entries refer to what is in the logs, and no two visits asked for one pair, since it is so of what each
+-- At the end all entries refer to what is in the logs, and no two visits asked for one pair, since it is so of what
+-- each
 -- of the hands has seen.
 -- Used by `closed_logs_refer_within`, `programs_read_what_was_seen`, ExampleRun and Reading.
 use Rattle.std.proofs.Common.{◌≡◌, ◌≢◌, ℕ, ◌<◌, ◌≤◌, List, ◌∷◌, ◌++◌, length, Contains, IsTrue, inl, inr, refl, sym, ap, subst, arith}
@@ -16,13 +17,13 @@ use Rattle.weave_entries.specs.ShardRules.{IsShardLog}
 use Rattle.weave_account.specs.declared.account.Account.{Account}
 use Rattle.weave_account.specs.Account.{all_begun, gate_log, shard_log}
 use Rattle.weave_account.specs.Oracle.{seen_last}
+use Rattle.weave_account.proofs.GoesOn.{has-on, longer, flat-on}
 use Rattle.seen_logs.specs.LowerLaws.{LawsForSeenLogs}
 use Rattle.seen_logs.specs.References.{GateRefersAs, IsAskedAsSeen, OracleRefersAs, ShardRefersAs, StoreRefersAs}
 use Rattle.seen_logs.specs.Closed.{AreOfHands, IsOfHands}
 use Rattle.seen_logs.specs.Seen.{AnswersFor, AreLegal, HasAsked, IsOwn, IsSeenByHand, entries_since, visit_entry}
 use Rattle.seen_logs.proofs.Asking.{program-begun}
 use Rattle.seen_logs.proofs.Going.{asked-stays, gate-stays, oracle-stays, shard-stays, store-stays}
-use Rattle.seen_logs.proofs.Listed.{flat-on, has-on, longer}
 use Rattle.seen_logs.proofs.Onward.{earlier-place}
 use Rattle.seen_logs.proofs.Within.{itself}
 

@@ -2,6 +2,7 @@
 -- creates v at gatekeeper 0 and is sent to shard 0. A program begins at gatekeeper 1, and empty messages of both
 -- gatekeepers make the shard ready for it. It reads v, for which the oracle puts the transaction before it, and is
 -- finished. The logs follow a script of these two requests, so they are an account.
+-- Used by nothing: worked examples.
 use Rattle.std.proofs.Common.{◌≡◌, ◌≢◌, ℕ, zero, suc, ◌<◌, true, List, [], ◌∷◌, ◌++◌, length, Contains, IsTrue, Some, None, inl, inr, refl, sym, ap, subst, ◌∙◌, arith}
 use Rattle.std.specs.Prelude.{codes, IsSomeAnd}
 use Rattle.std.proofs.lemmas.List.{length-append}
@@ -57,7 +58,7 @@ use Rattle.seen_logs.proofs.MakesAccount.{made}
 use Rattle.seen_logs.proofs.Placed.{pairs-one}
 use Rattle.seen_logs.proofs.Within.{itself}
 use Rattle.seen_logs.proofs.ExampleParts.{creation-refers}
-use Rattle.report_rules.proofs.Examples.{script_of, transaction, v}
+use Rattle.report_rules.proofs.Examples.{script_of, v}
 use Rattle.weave_account.proofs.ExampleLists.{five, four, one, only-zero, three, two}
 use Rattle.weave_account.proofs.ExampleParts.{at-gate, at-shard, clock, created, creates, creating, creation, empty-message, first-to, in-session, judges-creation, one-settled, right-creation, settles, two-known, change}
 

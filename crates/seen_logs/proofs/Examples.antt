@@ -1,7 +1,9 @@
 -- Logs that the hand has seen whole that made them: a transaction creates v at gatekeeper 0 and is sent to shard 0. A
--- program begins at gatekeeper 1, reads v, for which the oracle puts the transaction before it, and is finished. All that
+-- program begins at gatekeeper 1, reads v, for which the oracle puts the transaction before it, and is finished. All
+-- that
 -- the entries refer to was seen. The shard isn't ready for the visit: a run of machines is in `ExampleRun`. Then each
 -- kind of entry once with a reference that was not seen.
+-- Used by nothing: worked examples.
 use Rattle.std.proofs.Common.{◌≡◌, ℕ, zero, suc, Bool, true, false, Option, List, [], ◌∷◌, ◌++◌, length, Contains, IsTrue, Some, None, inl, inr, refl, sym, ap, subst, ◌∙◌, arith}
 use Rattle.std.specs.Prelude.{codes, cond, not}
 use Rattle.std.specs.Map.{keys_of}

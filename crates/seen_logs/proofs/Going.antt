@@ -44,11 +44,11 @@ use Rattle.weave_account.specs.Store.{IsRightVerdict}
 use Rattle.seen_logs.specs.LowerLaws.{LawsForSeenLogs}
 use Rattle.seen_logs.specs.References.{GateRefersAs, IsAskedAsSeen, OracleRefersAs, ShardRefersAs, StoreRefersAs, VisitsAsSeen}
 use Rattle.seen_logs.specs.Seen.{GatesGoOn, ShardsGoOn}
-use Rattle.seen_logs.proofs.Listed.{flat-on, has-on}
 use Rattle.seen_logs.proofs.Updates.{last-stays, reads-stay, shard-before, within}
 use Rattle.weave_account.proofs.Beginning.{list-there}
 use Rattle.weave_account.proofs.Replying.{place-of}
 use Rattle.weave_account.proofs.VisitsStay.{read-in}
+use Rattle.weave_account.proofs.GoesOn.{has-on, flat-on}
 
 -- an empty script, for laws that ask for one although what they say doesn't depend on it
 nothing : Script

@@ -1,4 +1,3 @@
-pub mod Listed
 pub mod Updates
 pub mod Going
 pub mod Within

@@ -34,12 +34,12 @@ use Rattle.weave_account.specs.Programs.{ProgramsClause, ReadsInTurn}
 use Rattle.seen_logs.specs.FollowsScript.{BegunProgramsReadInTurn}
 use Rattle.seen_logs.specs.LowerLaws.{LawsForSeenLogs}
 use Rattle.seen_logs.specs.Seen.{ShardRefersWithin, visit_entry}
-use Rattle.seen_logs.proofs.Listed.{flat-on, has-on}
 use Rattle.seen_logs.proofs.MakesAccount.{visit-is}
 use Rattle.seen_logs.proofs.OfAccount.{there-and}
 use Rattle.weave_account.proofs.VisitsStay.{flat-alike, read-in}
 use Rattle.weave_account.proofs.Beginning.{list-there}
 use Rattle.weave_account.proofs.Replying.{place-of}
+use Rattle.weave_account.proofs.GoesOn.{has-on, flat-on}
 
 -- no gatekeeper began the request as a program
 abbrev NotBegun : Account → ℕ → Type 0

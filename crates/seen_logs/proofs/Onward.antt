@@ -1,5 +1,5 @@
 -- What a hand has seen goes on: what it made earlier refers to what was seen then, and so to what is seen now.
--- Used by `asked_pairs_precede`, `hands_see_more`, `own_visits_stay`, 3 more and crates weaver_hands and weaver_locks.
+-- Used by `asked_pairs_precede`, `hands_see_more`, `own_visits_stay`, Closing, Noting, Reading and 5 crates above.
 use Rattle.std.proofs.Common.{◌≡◌, ℕ, ◌<◌, ◌≤◌, List, [], ◌∷◌, ◌++◌, length, drop, Contains, ◌⊎◌, inl, inr, refl, sym, ap, subst, ◌∙◌, arith}
 use Rattle.std.proofs.lemmas.Bool.{cases_Bool, cases_lt}
 use Rattle.std.proofs.lemmas.List.{drop-append-le, length-append}
@@ -23,11 +23,11 @@ use Rattle.weave_account.specs.declared.account.Account.{Account}
 use Rattle.weave_account.specs.Account.{Precedence, gate_log, shard_log}
 use Rattle.weave_account.specs.GoesOn.{IsBeginningOf}
 use Rattle.weave_account.specs.Oracle.{seen_last}
+use Rattle.weave_account.proofs.GoesOn.{has-on, longer, flat-on}
 use Rattle.seen_logs.specs.LowerLaws.{LawsForSeenLogs}
 use Rattle.seen_logs.specs.References.{GateRefersAs, IsAskedAsSeen, OracleRefersAs, ShardRefersAs, StoreRefersAs}
 use Rattle.seen_logs.specs.Seen.{AddsAsSeen, AnswersFor, HasAsked, IsOwn, IsSeenByHand, IsWithin, VisitsItsOwn, VisitsOwnPrograms, entries_since, visit_entry}
 use Rattle.seen_logs.proofs.Going.{asked-stays, gate-stays, oracle-stays, shard-stays, store-stays}
-use Rattle.seen_logs.proofs.Listed.{flat-on, has-on, longer}
 use Rattle.seen_logs.proofs.Placed.{in-front}
 use Rattle.seen_logs.proofs.Within.{all-later}
 

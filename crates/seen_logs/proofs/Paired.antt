@@ -1,13 +1,8 @@
 -- Logs as pairs and as records, and accounts of what was seen of the logs of locks.
--- Used by `accounts_have_logs_of_locks` and `entries_come_back`.
+-- Used by `accounts_have_logs_of_locks` and crate weaver_locks.
 use Rattle.std.proofs.Common.{◌≡◌, ℕ, zero, suc, List, [], ◌∷◌, map, get_or, refl, sym, ap, ◌∙◌}
 use Rattle.std.proofs.lemmas.List.{map-append}
 use Rattle.weave_account.specs.GoesOn.{IsBeginningOf}
-
--- what was made of each element, made back
-pub made-back : {A B : Type 0} (f : A → B) (g : B → A) → ((x : B) → f (g x) ≡ x) → (xs : List B) → map f (map g xs) ≡ xs
-made-back f g same [] = refl
-made-back f g same (x ∷ xs) = ap (λ y. y ∷ map f (map g xs)) (same x) ∙ ap (λ ys. x ∷ ys) (made-back f g same xs)
 
 -- the list of what was made of lists has at each place what was made of the list there
 pub list-at : {A B : Type 0} (f : List A → List B) → f [] ≡ [] → (xss : List (List A)) (i : ℕ) → get_or (map f xss) i [] ≡ f (get_or xss i [])

@@ -1,4 +1,5 @@
--- At the end a program has read what the hand that began it has seen, or what was there at the start.
+-- At the end what a hand's program has read, and whether it has ended, is as its hand has seen; a program of the start
+-- has read what it had read then.
 -- Used by `programs_read_what_was_seen`.
 use Rattle.std.proofs.Common.{◌≡◌, ◌≢◌, ℕ, ◌<◌, ◌≤◌, ◌==◌, Bool, true, false, List, [], ◌∷◌, ◌++◌, length, map, Contains, IsTrue, AllPairs, inl, inr, refl, sym, ap, subst, ◌∙◌, append_assoc, arith}
 use Rattle.std.specs.List.{filter, flat_map}
@@ -27,7 +28,6 @@ use Rattle.seen_logs.specs.LowerLaws.{LawsForSeenLogs}
 use Rattle.seen_logs.specs.Seen.{GatesGoOn, ShardsGoOn, entries_since, visit_entry}
 use Rattle.seen_logs.proofs.Asking.{program-begun}
 use Rattle.seen_logs.proofs.Closing.{IsEnd, begun-since, since-begun, since-start}
-use Rattle.seen_logs.proofs.Listed.{flat-on, has-on, longer}
 use Rattle.seen_logs.proofs.MakesAccount.{one-begin, tx-begun, visit-is}
 use Rattle.seen_logs.proofs.Onward.{earlier-place, since-on}
 use Rattle.seen_logs.proofs.Placed.{list-within, lists-across}
@@ -36,6 +36,7 @@ use Rattle.seen_logs.proofs.Within.{all-later}
 use Rattle.weave_account.proofs.VisitsStay.{flat-alike, read-in, map-alike}
 use Rattle.weave_account.proofs.Beginning.{list-there}
 use Rattle.weave_account.proofs.Replying.{place-of}
+use Rattle.weave_account.proofs.GoesOn.{has-on, longer, flat-on}
 
 -- Lists
 
@@ -166,7 +167,7 @@ module _ {gates shards hands : ℕ} {start : Account} {seen_by : ℕ → Account
         in-has (flat_map ended_in other.gates) begun.request
         (has_flat ended_in other.gates (gate_log other place.0) begun.request (list-there other.gates place.0 entry.0 entry.1) now)
 
-    -- and it has ended if its hand has seen that
+    -- and it has ended exactly if its hand has seen that
     pub own-end : is_ended closed begun.request ≡ is_ended (seen_by number) begun.request
     own-end =
         same-test (is_ended closed begun.request) (is_ended (seen_by number) begun.request)

@@ -18,8 +18,8 @@ use Rattle.weave_entries.specs.ShardRules.{FitsShard, IsShardLog}
 use Rattle.weave_account.specs.GoesOn.{IsBeginningOf}
 use Rattle.weave_account.specs.Oracle.{seen_last}
 use Rattle.seen_logs.specs.LowerLaws.{LawsForSeenLogs}
-use Rattle.seen_logs.proofs.Listed.{flat-on, has-on, longer}
 use Rattle.weave_account.proofs.VisitsStay.{seen-front, with-state, read-in}
+use Rattle.weave_account.proofs.GoesOn.{has-on, longer, flat-on}
 
 -- what holds at each entry of a shard's log
 abbrev Rule : ℕ → List ShardEntry → ShardEntry → Type 0

@@ -1,21 +1,14 @@
 -- When more was seen, and what beginnings of logs keep.
--- Used by `beginnings_are_legal`, 7 more and crates sessions_account, weaver_workers and workers_account.
-use Rattle.std.proofs.Common.{ℕ, List, [], ◌++◌, sym, ap, subst, ◌∙◌, append_assoc}
-use Rattle.std.proofs.lemmas.List.{append-nil}
+-- Used by `beginnings_are_legal`, `more_is_seen`, Asking, Closing, ExampleRun, MakesAccount, Onward, Reading and
+-- crates sessions_account, weaver_workers and workers_account.
+use Rattle.std.proofs.Common.{ℕ, List, ◌++◌, subst}
 use Rattle.weave_data.proofs.Entries.{each_before}
 use Rattle.weave_entries.specs.declared.gate_log.GateEntry.{GateEntry}
 use Rattle.weave_entries.specs.GateRules.{HearsAs, HearsNoMore}
 use Rattle.weave_account.specs.declared.account.Account.{Account}
 use Rattle.weave_account.specs.GoesOn.{GoesOn, IsBeginningOf}
+use Rattle.weave_account.proofs.GoesOn.{whole, onward}
 use Rattle.seen_logs.specs.Seen.{IsWithin, without_sessions}
-
--- each list is a beginning of itself
-pub whole : {A : Type 0} (xs : List A) → IsBeginningOf xs xs
-whole xs = ([], sym (append-nil xs))
-
--- the beginning of a beginning is one
-pub onward : {A : Type 0} (xs ys zs : List A) → IsBeginningOf xs ys → IsBeginningOf ys zs → IsBeginningOf xs zs
-onward xs ys zs first second = (first.0 ++ second.0, second.1 ∙ ap (λ l. l ++ second.0) first.1 ∙ append_assoc xs first.0 second.0)
 
 -- what was seen is within itself
 pub itself : (seen : Account) → IsWithin seen seen

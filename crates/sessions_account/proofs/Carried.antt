@@ -4,7 +4,7 @@
 use Rattle.std.proofs.Common.{◌≡◌, ◌≢◌, inl, ℕ, ◌==◌, Bool, List, [], ◌∷◌, ◌++◌, length, AllPairs, Contains, refl, sym, ap, ◌∙◌, subst, arith}
 use Rattle.std.specs.List.{filter}
 use Rattle.std.proofs.lemmas.List.{append-nil, length-append}
-use Rattle.weave_data.proofs.Members.{has_flat, has_head, has_none}
+use Rattle.weave_data.proofs.Members.{has_flat, has_none, no-members}
 use Rattle.weave_data.proofs.Ordered.{pairs_none}
 use Rattle.seen_logs.proofs.Within.{itself}
 use Rattle.weave_data.specs.declared.name.Name.{Name}
@@ -34,11 +34,6 @@ use Rattle.sessions_account.specs.SessionsLaws.{SessionsLaws}
 use Rattle.sessions_account.proofs.Gains.{AreLogged, HasGained, KeepsClients}
 use Rattle.sessions_account.proofs.Others.{keeps-on}
 
--- a list without elements is the empty one
-nothing-in : {A : Type 0} (xs : List A) → ((x : A) → Contains xs x → ⊥) → xs ≡ []
-nothing-in [] none = refl
-nothing-in (x ∷ xs) none = absurd (none x (has_head x xs))
-
 -- a hand that began and ended nothing, and judged nothing, is in step with logs that gained nothing
 nothing-logged : (script : Script) (hand_of : ℕ → ℕ) (number : ℕ) (gates : ℕ → List GateEntry)
     → ((home : ℕ) (begun : BegunRequest) → Contains (begun_in (gates home)) begun → ⊥)
@@ -49,7 +44,7 @@ nothing-logged script hand_of number gates unbegun unended = record {
   ended = λ home r h. absurd (unended home r h);
   replied = λ s r h. absurd (has_none r h);
   judged = λ judged h. absurd (has_none judged h);
-  once = λ home. subst (AllPairs (λ (a b : BegunRequest). a.request ≢ b.request)) (sym (nothing-in (begun_in (gates home)) (unbegun home)))
+  once = λ home. subst (AllPairs (λ (a b : BegunRequest). a.request ≢ b.request)) (sym (no-members (begun_in (gates home)) (unbegun home)))
       (pairs_none (λ (a b : BegunRequest). a.request ≢ b.request));
   in_turn = pairs_none (λ (a b : Judgement). InTurn script a.request b.request);
 }
@@ -111,7 +106,7 @@ module _ (laws : SessionsLaws) (shared : Shared) (script : Script) (hand_of : �
 
   -- an entry that the hand made begins nothing
   begins-none : (home : ℕ) (entry : GateEntry) → Contains (gates home) entry → begun_by entry.author entry.deed ≡ []
-  begins-none home entry there = nothing-in (begun_by entry.author entry.deed)
+  begins-none home entry there = no-members (begun_by entry.author entry.deed)
       (λ begun h. unbegun home begun (has_flat (λ (e : GateEntry). begun_by e.author e.deed) (gates home) entry begun there h))
 
   abbrev mine : GateEntry → Bool

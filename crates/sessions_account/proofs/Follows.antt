@@ -28,9 +28,8 @@ use Rattle.weave_account.specs.GoesOn.{IsBeginningOf}
 use Rattle.weave_account.specs.Sessions.{SessionsClause, requests_of_session}
 use Rattle.weave_account.specs.Store.{InTurn}
 use Rattle.hands_account.specs.Runs.{WasGiven, own_begun, own_judgements}
-use Rattle.hands_account.proofs.Places.{pairs-append}
 use Rattle.seen_logs.specs.Seen.{IsOwn}
-use Rattle.seen_logs.proofs.Placed.{list-within}
+use Rattle.seen_logs.proofs.Placed.{list-within, pairs-append}
 use Rattle.weaver_core.specs.Sessions.{log_of_client}
 use Rattle.weaver_locks.specs.declared.hand.Hand.{Hand}
 use Rattle.weaver_locks.specs.Hands.{hand_number, seen_by}

@@ -1,4 +1,5 @@
--- If a hand's entries and its sessions' entries match in two parts of its calls, they match in both together.
+-- If a hand and its sessions gained matching entries in some calls, and then in others, they gained them in all; and
+-- sessions that have the same request are the same.
 -- Used by Leading, Served and Visits.
 use Rattle.std.proofs.Common.{◌≡◌, ◌≢◌, ◌⊎◌, inl, inr, ℕ, ◌<◌, ◌==◌, Bool, List, ◌++◌, length, AllPairs, Contains, IsTrue, Option, Some, sym, ap, ◌∙◌, subst, append_assoc, arith}
 use Rattle.std.proofs.lemmas.Bool.{cases_eq, eqb-true}
@@ -7,7 +8,9 @@ use Rattle.std.proofs.lemmas.List.Concat.{flat_map-append}
 use Rattle.std.proofs.lemmas.List.Elements.{Contains-append_cases}
 use Rattle.std.proofs.lemmas.Option.{same_Some}
 use Rattle.seen_logs.proofs.Within.{all-later}
-use Rattle.hands_account.proofs.Places.{earlier-place, less-or, pairs-append}
+use Rattle.seen_logs.proofs.Placed.{pairs-append}
+use Rattle.seen_logs.proofs.Onward.{earlier-place}
+use Rattle.hands_account.proofs.Places.{less-or}
 use Rattle.vector_stamp.specs.declared.clock.Stamp.{Stamp}
 use Rattle.program_defs.specs.declared.script.Request.{Request}
 use Rattle.program_defs.specs.declared.script.Script.{Script}
@@ -35,7 +38,7 @@ use Rattle.sessions_account.proofs.Gains.{AreLogged, BeginsForSome, HasGained, I
 use Rattle.workers_account.proofs.JoinGains.{begun_of, either-made, ended_of, first-made, judgement_of, second-made, where-there}
 use Rattle.hands_account.proofs.Once.{Differ}
 
--- two requests of one session
+-- sessions that have the same request are the same
 pub same-sessions : (script : Script) (s t a b : ℕ) → IsRequestOf script s a → IsRequestOf script t b → a ≡ b → s ≡ t
 same-sessions script s t a b one two same =
     sym one.2 ∙ ap (λ (x : Request). x.session) (same_Some one.0 two.0 (sym one.1 ∙ ap (request_at script) same ∙ two.1)) ∙ two.2

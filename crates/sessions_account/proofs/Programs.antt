@@ -1,14 +1,12 @@
 -- Each program that a hand began since the start has read its vertices in turn, and a hand finishes no programs but
 -- those.
 -- Used by Closed.
-use Rattle.std.proofs.Common.{◌≡◌, ℕ, ◌-◌, ◌<◌, Bool, false, List, [], ◌∷◌, ◌++◌, length, drop, take, Contains, AllPairs, IsTrue, Option, None, Some, inl, inr, refl, sym, ap, subst, ◌∙◌, arith}
-use Rattle.std.specs.Prelude.{is_some, if◌then◌else◌}
-use Rattle.std.proofs.lemmas.List.{append-nil}
+use Rattle.std.proofs.Common.{◌≡◌, ℕ, ◌-◌, ◌<◌, Bool, false, List, [], ◌∷◌, ◌++◌, take, Contains, AllPairs, IsTrue, Some, inl, inr, refl, sym, ap, subst, ◌∙◌, arith}
+use Rattle.std.specs.Prelude.{if◌then◌else◌}
 use Rattle.std.proofs.lemmas.List.Concat.{flat_map-append}
 use Rattle.std.proofs.lemmas.List.Elements.{Contains-append_cases, Contains-append_left}
 use Rattle.std.proofs.lemmas.Option.{same_Some}
-use Rattle.std.proofs.Math.Seq.{drop-append_seam}
-use Rattle.weave_data.proofs.Members.{flat_has, has_flat, has_head, has_map, has_none}
+use Rattle.weave_data.proofs.Members.{flat_has, has_flat, has_head, has_map}
 use Rattle.weave_data.proofs.Ordered.{pairs_across}
 use Rattle.vector_stamp.specs.declared.clock.Stamp.{Stamp}
 use Rattle.program_defs.specs.declared.program.Program.{Program}
@@ -29,23 +27,21 @@ use Rattle.weave_account.specs.declared.account.Account.{Account}
 use Rattle.weave_account.specs.Account.{all_begun, gate_log, is_ended, reads_of, session_log}
 use Rattle.weave_account.specs.Programs.{ReadsInTurn}
 use Rattle.weave_account.specs.Sessions.{requests_of_session}
+use Rattle.weave_account.proofs.GoesOn.{has-on}
 use Rattle.hands_account.specs.Runs.{FinishesItsOwn, FinishesOwnPrograms, IsOwnProgram}
-use Rattle.hands_account.proofs.Places.{has-on, since-place}
+use Rattle.hands_account.proofs.Places.{since-place}
 use Rattle.seen_logs.specs.Seen.{entries_since}
-use Rattle.weaver_core.specs.declared.client.Client.{Client}
-use Rattle.weaver_core.specs.declared.walks.Running.{Running}
 use Rattle.weaver_core.specs.Sessions.{log_of_client}
 use Rattle.weaver_core.specs.Walks.{IsLookAt}
 use Rattle.weaver_hands.specs.Programs.{own_reads}
 use Rattle.weaver_locks.specs.declared.hand.Hand.{Hand}
 use Rattle.weaver_locks.specs.Hands.{hand_number, seen_by}
-use Rattle.weaver_locks.specs.Locks.{start_of}
-use Rattle.weaver_workers.specs.Keeping.{IsRunningFor, KeepsClient}
 use Rattle.workers_account.specs.Phase.{IsClosedBy}
 use Rattle.workers_account.proofs.Begun.{all-has}
 use Rattle.workers_account.proofs.Ended.{all-ended, ended-all}
 use Rattle.workers_account.proofs.ReadTurns.{turn-same}
 use Rattle.workers_account.proofs.SessionLogs.{pairs-take}
+use Rattle.workers_account.proofs.Programs.{none-waits}
 use Rattle.sessions_account.proofs.Leading.{keeps-first}
 use Rattle.sessions_account.proofs.Runs.{given-from, history, own-entry, part, Run, seen-on}
 use Rattle.sessions_account.proofs.SessionLogs.{LogLeft, begun-for, gained-log, logs-right, start-logged}
@@ -87,27 +83,6 @@ module _ (x : Run) (closed : Account) (end : IsClosedBy x.shared x.script x.star
 
   -- Finishes
 
-  -- no program of a session was running at the start
-  not-waiting : (session : ℕ) (client : Client) → KeepsClient x.shared x.script session (history x hand h).from.hand client → client.session.waits ≡ false
-  not-waiting session client keeps = by client.running refl
-    where
-      from : Hand
-      from = (history x hand h).from.hand
-
-      none-since : (one : Running) → IsRunningFor x.shared x.script from client.session one → ⊥
-      none-since one for =
-          let home = one.stamp.home in
-          let log = gate_log (start_of x.shared) home in
-          let nothing : entries_since log (gate_log (seen_by from) home) ≡ [] =
-          ap (λ (a : Account). drop (length log) (gate_log a home)) (history x hand h).may_begin.seen
-          ∙ ap (drop (length log)) (sym (append-nil log)) ∙ drop-append_seam log [] in
-          has_none (record { author = hand_number from; request = one.request; stamp = one.stamp })
-          (subst (λ (l : List GateEntry). Contains (programs_of l) (record { author = hand_number from; request = one.request; stamp = one.stamp })) nothing for.runs.begun)
-
-      by : (o : Option Running) → client.running ≡ o → client.session.waits ≡ false
-      by None is = keeps.waits ∙ ap is_some is
-      by (Some one) is = absurd (none-since one (keeps.running one is))
-
   -- a reply since then is of a request that began since then
   replied-new : (session : ℕ) (left : LogLeft x closed end session hand h) (r : ℕ) → Contains (replied_in ((part x hand h).logs session)) r
       → (stamp : Stamp) → Contains (begins_in (session_log x.start session)) (r, stamp) → ⊥
@@ -122,7 +97,7 @@ module _ (x : Run) (closed : Account) (end : IsClosedBy x.shared x.script x.star
       let state : session_of requests log ≡ client.session =
       ap (λ (l : List SessionEntry). session_of requests l) left.was_log
       ∙ ap (λ (rs : List ℕ). session_of rs (log_of_client client)) (sym keeps.requests) ∙ sym keeps.at_end.state in
-      let waits : (session_of requests log).waits ≡ false = ap (λ (s : SessionState). s.waits) state ∙ not-waiting session client keeps in
+      let waits : (session_of requests log).waits ≡ false = ap (λ (s : SessionState). s.waits) state ∙ none-waits x.shared x.script session (history x hand h).from.hand client (history x hand h).may_begin.seen keeps in
       let count : replied_count (session_of requests log) ≡ (session_of requests log).begun =
       ap (λ (b : Bool). if b then (session_of requests log).begun - 1 else (session_of requests log).begun) waits in
       let replied : Contains (replied_in log) r =

@@ -13,9 +13,11 @@ use Rattle.weave_entries.specs.StoreReplay.{Judgement, judgements_of}
 use Rattle.weave_account.specs.declared.account.Account.{Account}
 use Rattle.weave_account.specs.Account.{gate_log}
 use Rattle.weave_account.specs.GoesOn.{IsBeginningOf}
+use Rattle.weave_account.proofs.GoesOn.{onward}
 use Rattle.hands_account.specs.Runs.{own_begun, own_judgements}
-use Rattle.hands_account.proofs.Places.{earlier-place, in-back, onward}
+use Rattle.hands_account.proofs.Places.{in-back}
 use Rattle.seen_logs.specs.Seen.{IsOwn, VisitsOwnPrograms, entries_since, without_sessions}
+use Rattle.seen_logs.proofs.Onward.{earlier-place}
 use Rattle.weaver_core.specs.declared.client.Client.{Client}
 use Rattle.weaver_locks.specs.declared.hand.Hand.{Hand}
 use Rattle.weaver_locks.specs.declared.shared.Shared.{Shared}

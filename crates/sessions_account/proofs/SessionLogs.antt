@@ -20,13 +20,13 @@ use Rattle.weave_account.specs.declared.account.Account.{Account}
 use Rattle.weave_account.specs.Account.{all_begun, gate_log, session_log, stamp_of}
 use Rattle.weave_account.specs.GoesOn.{IsBeginningOf}
 use Rattle.weave_account.specs.Sessions.{requests_of_session}
-use Rattle.hands_account.proofs.Places.{has-on}
 use Rattle.weaver_core.specs.declared.client.Client.{Client}
 use Rattle.weaver_core.specs.Sessions.{log_of_client, requests_in}
 use Rattle.weaver_locks.specs.declared.hand.Hand.{Hand}
 use Rattle.weaver_locks.specs.Hands.{hand_number}
 use Rattle.workers_account.specs.Phase.{IsClosedBy}
 use Rattle.weave_account.proofs.Replying.{has-all}
+use Rattle.weave_account.proofs.GoesOn.{has-on}
 use Rattle.workers_account.proofs.Begun.{all-has, no-stamp, stamp-began, stamp-is}
 use Rattle.workers_account.proofs.SessionLogs.{begins-cases, begins-later, begins-on, begun-here, log-at, stamp-from, stamp-there}
 use Rattle.sessions_account.specs.Histories.{HasSession}

@@ -15,8 +15,8 @@ use Rattle.weave_entries.proofs.OwnStamps.{program-begun}
 use Rattle.weave_account.specs.declared.account.Account.{Account}
 use Rattle.weave_account.specs.Account.{all_begun, gate_log, reads_of, shard_log}
 use Rattle.weave_account.specs.Shards.{ShardFitsAs}
+use Rattle.weave_account.proofs.GoesOn.{has-on}
 use Rattle.hands_account.proofs.ByHands.{start-or-hand, start-within}
-use Rattle.hands_account.proofs.Places.{has-on}
 use Rattle.seen_logs.specs.Seen.{VisitsItsOwn, entries_since}
 use Rattle.weaver_hands.specs.Programs.{own_reads}
 use Rattle.weaver_locks.specs.declared.hand.Hand.{Hand}

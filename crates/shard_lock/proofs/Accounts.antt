@@ -1,7 +1,6 @@
 -- What was seen, as an account: the shard's own log in its place, and more of the others.
--- Used by Adding, Meeting, Starting and Visits.
+-- Used by Adding, Meeting, Starting, Visits and crate weaver_locks.
 use Rattle.std.proofs.Common.{◌≡◌, ◌≢◌, ℕ, zero, suc, List, [], get_or, refl, sym, ap, subst}
-use Rattle.std.proofs.lemmas.List.{append-nil}
 use mathlib.Core.List.{IsPrefix}
 use mathlib.Core.Logic.{dite}
 use native.Mathlib.Decide.{ℕ_discrete}
@@ -30,10 +29,6 @@ elsewhere zero zero own other = absurd (other refl)
 elsewhere zero (suc k) own other = refl
 elsewhere (suc number) zero own other = refl
 elsewhere (suc number) (suc k) own other = elsewhere number k own (λ e. other (ap suc e))
-
--- each list is a beginning of itself
-pub same_on : {A : Type 0} (l : List A) → IsBeginningOf l l
-same_on l = ([], sym (append-nil l))
 
 -- a property of the own log at each place holds of what was seen, if it holds elsewhere of nothing
 pub at_shards : (P : ℕ → List ShardEntry → Type 0) (number : ℕ) (own : List ShardEntry) → P number own → ((k : ℕ) → k ≢ number → P k [])

@@ -18,6 +18,7 @@ use Rattle.shard_node.specs.Shards.{AddsEntry, ShardView}
 use Rattle.weave_account.specs.declared.account.Account.{Account}
 use Rattle.weave_account.specs.Account.{shard_log}
 use Rattle.weave_account.specs.Seen.{HasSeen}
+use Rattle.weave_account.proofs.GoesOn.{whole}
 use Rattle.seen_logs.specs.References.{ArrivesAsSeen, ShardRefersAs}
 use Rattle.seen_logs.specs.Seen.{AreLegal, IsWithin}
 use Rattle.chronicle.specs.Passes.{seen_by_note}
@@ -25,7 +26,7 @@ use Rattle.oracle_lock.specs.Seen.{gates_noted}
 use Rattle.shard_lock.specs.declared.notes.ShardNotes.{ShardNotes}
 use Rattle.shard_lock.specs.LowerLaws.{LawsForShardNotes}
 use Rattle.shard_lock.specs.Notes.{ShardIsKept, seen_of_shard}
-use Rattle.shard_lock.proofs.Accounts.{at_number, at_shards, elsewhere, grows, same_on}
+use Rattle.shard_lock.proofs.Accounts.{at_number, at_shards, elsewhere, grows}
 
 abbrev entry_by : ℕ → ShardDeed → ShardEntry
 entry_by author deed = record { author = author; deed = deed }
@@ -50,7 +51,7 @@ module _ (laws : LawsForShardNotes) (shard : ShardView) (shards : ℕ) (notes : 
 
   goes : IsWithin before after
   goes = grows shard.number shard.log more.log (gates_noted notes.gates.items) (gates_noted notes.gates.items) (seen_by_note notes.store) (seen_by_note notes.store)
-      (seen_by_note notes.oracle) (seen_by_note notes.oracle) (entry_by author deed ∷ [], refl) (λ k. same_on _) ([], append-nil (seen_by_note notes.store))
+      (seen_by_note notes.oracle) (seen_by_note notes.oracle) (entry_by author deed ∷ [], refl) (λ k. whole _) ([], append-nil (seen_by_note notes.store))
       ([], append-nil (seen_by_note notes.oracle))
 
   legal : AreLegal shard.gates shards after

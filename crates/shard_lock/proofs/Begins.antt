@@ -1,4 +1,5 @@
--- What a gatekeeper's log says of begins: what is running was begun, what was sent is of a transaction that was begun, and
+-- What a gatekeeper's log says of begins: what is running was begun, what was sent is of a transaction that was begun,
+-- and
 -- a transaction and a program that were begun have different ids.
 -- Used by `own_programs_are_running`, Updates and Visits.
 use Rattle.std.proofs.Common.{◌≡◌, ◌≢◌, ◌⊎◌, inl, inr, ℕ, zero, suc, ◌==◌, not, List, [], ◌∷◌, ◌++◌, fold, get_or, AllPairs, Contains, Option, None, Some, refl, sym, ap, ◌∙◌, subst}
@@ -7,7 +8,7 @@ use Rattle.std.proofs.lemmas.Bool.{and_parts, eqb-true}
 use Rattle.std.proofs.lemmas.List.Concat.{flat_map-append}
 use Rattle.std.proofs.lemmas.List.Elements.{Contains-append_cases, Contains-append_left, Contains-append_right}
 use Rattle.weave_data.proofs.Members.{cut_at, filter_has, flat_has, has_filter, has_flat, has_head, has_none, has_tail, map_has, only}
-use Rattle.weave_data.proofs.Ordered.{pairs_across, pairs_cases, pairs_cons, pairs_none, pairs_tail}
+use Rattle.weave_data.proofs.Ordered.{pairs_across, pairs_cases, pairs_cons, pairs_none}
 use Rattle.weave_data.proofs.ListPlaces.{not-true}
 use Rattle.graph_ops.specs.declared.op.Op.{Op}
 use Rattle.vector_stamp.specs.declared.clock.Stamp.{Stamp}
@@ -24,6 +25,7 @@ use Rattle.weave_entries.specs.Sending.{message_to, messages_of, shards_named}
 use Rattle.weave_entries.proofs.OwnStamps.{program-begun, tx-begun}
 use Rattle.weave_account.proofs.SeenIds.{IdsDiffer}
 use Rattle.weave_account.proofs.Beginning.{all-in}
+use Rattle.weave_account.proofs.RepliesClause.{pairs-right}
 use Rattle.oracle_lock.specs.Seen.{of_gates}
 
 abbrev begun_with : ℕ → ℕ → Stamp → BegunRequest
@@ -190,10 +192,6 @@ module _ (home shards shard : ℕ) where
 -- Different ids
 
 module _ {A B : Type 0} (R : B → B → Type 0) (f : A → List B) where
-  back : (xs ys : List B) → AllPairs R (xs ++ ys) → AllPairs R ys
-  back [] ys h = h
-  back (x ∷ xs) ys h = back xs ys (pairs_tail R x (xs ++ ys) h)
-
   -- what one element gives has it to what another gives
   abbrev Across : A → A → Type 0
   Across x y = (a b : B) → Contains (f x) a → Contains (f y) b → R a b
@@ -202,7 +200,7 @@ module _ {A B : Type 0} (R : B → B → Type 0) (f : A → List B) where
   across-each [] h = pairs_none Across
   across-each (x ∷ xs) h =
       pairs_cons Across x xs (λ y there a b in_x in_y. pairs_across R (f x) (flat_map f xs) a b h in_x (has_flat f xs y b there in_y))
-      (across-each xs (back (f x) (flat_map f xs) h))
+      (across-each xs (pairs-right R (f x) (flat_map f xs) h))
 
 abbrev begun-at : GateEntry → List BegunRequest
 begun-at entry = begun_by entry.author entry.deed

@@ -12,6 +12,7 @@ use Rattle.weave_entries.specs.StoreRule.{IsStoreLog}
 use Rattle.shard_node.specs.Shards.{ShardView}
 use Rattle.weave_account.specs.Account.{shard_log}
 use Rattle.weave_account.specs.GoesOn.{IsBeginningOf}
+use Rattle.weave_account.proofs.GoesOn.{whole}
 use Rattle.seen_logs.specs.References.{ShardRefersAs}
 use Rattle.seen_logs.specs.Seen.{AreLegal, GatesGoOn, IsWithin}
 use Rattle.chronicle.specs.declared.pass.Pass.{Pass}
@@ -26,7 +27,7 @@ use Rattle.shard_lock.specs.declared.notes.ShardNotes.{ShardNotes}
 use Rattle.shard_lock.specs.Frames.{shard_frame}
 use Rattle.shard_lock.specs.LowerLaws.{LawsForShardNotes}
 use Rattle.shard_lock.specs.Notes.{ShardIsKept, account_of_shard, frame_of_shard, seen_by_shard_passes, seen_of_shard}
-use Rattle.shard_lock.proofs.Accounts.{at_number, grows, same_on}
+use Rattle.shard_lock.proofs.Accounts.{at_number, grows}
 
 -- the notes have met the passes
 pub record AreMet (old new : ShardNotes) (gates gates_now : List (Pass GateDeed)) (store store_now : Pass StoreDeed)
@@ -46,7 +47,7 @@ module _ (shard : ShardView) (old new : ShardNotes) (gates gates_now : List (Pas
   -- the notes have seen no less than they had
   pub notes_on : IsWithin (seen_of_shard shard old) (seen_of_shard shard new)
   notes_on = grows shard.number shard.log shard.log (gates_noted old.gates.items) (gates_noted new.gates.items) (seen_by_note old.store) (seen_by_note new.store)
-      (seen_by_note old.oracle) (seen_by_note new.oracle) (same_on shard.log) met.notes_on met.at_store.note_on met.at_oracle.note_on
+      (seen_by_note old.oracle) (seen_by_note new.oracle) (whole shard.log) met.notes_on met.at_store.note_on met.at_oracle.note_on
 
   -- the shard with its new notes has seen all that the passes had seen
   pub passes_on : (own : List ShardEntry) → IsBeginningOf own shard.log

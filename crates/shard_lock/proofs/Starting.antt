@@ -1,21 +1,19 @@
 -- Notes of whole logs are enough, if the logs are legal and have all that the shard's own log refers to.
 -- Used by `notes_of_whole_logs_are_enough`.
-use Rattle.std.proofs.Common.{◌≡◌, ℕ, ◌<◌, ◌≤◌, List, [], ◌∷◌, ◌++◌, length, refl, sym, ap, ◌∙◌, arith}
-use Rattle.std.proofs.lemmas.List.{append-nil, length-append}
+use Rattle.std.proofs.Common.{◌≡◌, ℕ, ◌<◌, ◌≤◌, List, ◌∷◌, ◌++◌, length, refl, sym, ap, ◌∙◌, arith}
+use Rattle.std.proofs.lemmas.List.{length-append}
 use Rattle.weave_entries.specs.declared.shard_log.ShardEntry.{ShardEntry}
 use Rattle.shard_node.specs.Shards.{ShardView}
 use Rattle.weave_account.specs.declared.account.Account.{Account}
 use Rattle.weave_account.specs.Account.{gate_log, shard_log}
 use Rattle.weave_account.specs.GoesOn.{IsBeginningOf}
+use Rattle.weave_account.proofs.GoesOn.{same-on}
 use Rattle.seen_logs.specs.References.{ShardRefersAs}
 use Rattle.seen_logs.specs.Seen.{AreLegal, ShardRefersWithin}
 use Rattle.shard_lock.specs.declared.notes.ShardNotes.{ShardNotes}
 use Rattle.shard_lock.specs.LowerLaws.{LawsForShardNotes}
 use Rattle.shard_lock.specs.Notes.{ShardIsKept, seen_of_shard}
 use Rattle.shard_lock.proofs.Accounts.{at_number, at_shards}
-
-on : {A : Type 0} (xs ys : List A) → ys ≡ xs → IsBeginningOf xs ys
-on xs ys is = ([], is ∙ sym (append-nil xs))
 
 module _ (laws : LawsForShardNotes) (shard : ShardView) (shards : ℕ) (notes : ShardNotes) (account : Account) (number : shard.number < shards)
     (gates : length notes.gates.items ≡ shard.gates)
@@ -27,11 +25,11 @@ module _ (laws : LawsForShardNotes) (shard : ShardView) (shards : ℕ) (notes : 
 
   legal_seen : AreLegal shard.gates shards (seen_of_shard shard notes)
   legal_seen = laws.beginnings shard.gates shards (seen_of_shard shard notes) account record {
-    gates = λ k. on (gate_log (seen_of_shard shard notes) k) (gate_log account k) (sym (gates_are k));
-    store = on (seen_of_shard shard notes).store account.store (sym store_is);
-    oracle = on (seen_of_shard shard notes).oracle account.oracle (sym oracle_is);
+    gates = λ k. same-on (gate_log (seen_of_shard shard notes) k) (gate_log account k) (sym (gates_are k));
+    store = same-on (seen_of_shard shard notes).store account.store (sym store_is);
+    oracle = same-on (seen_of_shard shard notes).oracle account.oracle (sym oracle_is);
     shards = at_shards (λ k l. IsBeginningOf l (shard_log account k)) shard.number shard.log
-        (on shard.log (shard_log account shard.number) (sym own_is)) (λ k other. (shard_log account k, refl));
+        (same-on shard.log (shard_log account shard.number) (sym own_is)) (λ k other. (shard_log account k, refl));
   } legal
 
   none_new : (front : List ShardEntry) (entry : ShardEntry) (rest : List ShardEntry)
@@ -49,7 +47,7 @@ module _ (laws : LawsForShardNotes) (shard : ShardView) (shards : ℕ) (notes : 
     gates = gates;
     legal = legal_seen;
     refers = laws.notes shards account (seen_of_shard shard notes)
-        (λ k. on (gate_log account k) (gate_log (seen_of_shard shard notes) k) (gates_are k)) (on account.store (seen_of_shard shard notes).store store_is)
-        (on account.oracle (seen_of_shard shard notes).oracle oracle_is) shard.number
-        (on (shard_log account shard.number) (shard_log (seen_of_shard shard notes) shard.number) same_own) refers none_new;
+        (λ k. same-on (gate_log account k) (gate_log (seen_of_shard shard notes) k) (gates_are k)) (same-on account.store (seen_of_shard shard notes).store store_is)
+        (same-on account.oracle (seen_of_shard shard notes).oracle oracle_is) shard.number
+        (same-on (shard_log account shard.number) (shard_log (seen_of_shard shard notes) shard.number) same_own) refers none_new;
   }

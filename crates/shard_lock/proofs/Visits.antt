@@ -28,6 +28,7 @@ use Rattle.shard_node.specs.declared.fault.VisitFault.{VisitFault}
 use Rattle.weave_account.specs.declared.account.Account.{Account}
 use Rattle.weave_account.specs.Account.{IsBegunStamp, gate_log, shard_log}
 use Rattle.weave_account.specs.Seen.{HasSeen, HasSeenSent}
+use Rattle.weave_account.proofs.GoesOn.{whole}
 use Rattle.seen_logs.specs.References.{OracleRefersAs, ShardRefersAs}
 use Rattle.seen_logs.specs.Seen.{GatesGoOn, IsWithin}
 use Rattle.chronicle.specs.declared.note.Note.{Note}
@@ -42,7 +43,7 @@ use Rattle.shard_lock.specs.LowerLaws.{LawsForShardNotes}
 use Rattle.shard_lock.specs.Notes.{ShardIsKept, NotedShardView, seen_of_shard}
 use Rattle.shard_lock.specs.Visited.{VisitsOver}
 use Rattle.shard_lock.specs.VisitLaws.{VisitLaws}
-use Rattle.shard_lock.proofs.Accounts.{at_number, grows, same_on}
+use Rattle.shard_lock.proofs.Accounts.{at_number, grows}
 use Rattle.shard_lock.proofs.Adding.{kept_still, kept_then}
 use Rattle.shard_lock.proofs.Begins.{running-begun}
 use Rattle.shard_lock.proofs.Reading.{visits-as-seen}
@@ -135,7 +136,7 @@ more-noted laws shard shards notes note kept on right =
     let before = seen_of_shard shard notes in
     let after = seen_of_shard shard (with_oracle notes note) in
     let goes : IsWithin before after = grows shard.number shard.log shard.log (gates_noted notes.gates.items) (gates_noted notes.gates.items)
-    (seen_by_note notes.store) (seen_by_note notes.store) (seen_by_note notes.oracle) (seen_by_note note) (same_on shard.log) (λ k. same_on _)
+    (seen_by_note notes.store) (seen_by_note notes.store) (seen_by_note notes.oracle) (seen_by_note note) (whole shard.log) (λ k. whole _)
     ([], append-nil (seen_by_note notes.store)) on in
     record {
       number = kept.number;

@@ -9,7 +9,7 @@ use Rattle.weave_data.proofs.Options.{map_some}
 use Rattle.weave_data.specs.Names.{same_name}
 use Rattle.weave_data.specs.declared.name.Name.{Name}
 use Rattle.graph_ops.specs.declared.part.Part.{Part}
-use Rattle.graph_ops.proofs.Vertices.{itself}
+use Rattle.graph_ops.proofs.Vertices.{same_name-refl}
 use Rattle.vector_stamp.specs.declared.clock.Stamp.{Stamp}
 use Rattle.vector_stamp.specs.Order.{id_of}
 use Rattle.vector_stamp.specs.Coherence.{AreCoherent}
@@ -78,7 +78,7 @@ are_coherent_too v log program known all = record {
 pub elsewhere-cons : (v : Name) (part : Part) (others parts : List Part) → parts ≡ part ∷ others → same_name v part.vertex ≡ false → All (λ (one : Part). v ≢ one.vertex) others → All (λ (one : Part). v ≢ one.vertex) parts
 elsewhere-cons v part others parts is apart rest =
     let differ : v ≢ part.vertex = λ same. let is : same_name v part.vertex ≡ true = ap (same_name v) (sym same)
-    ∙ itself v in absurd cc in
+    ∙ same_name-refl v in absurd cc in
     subst (All (λ (one : Part). v ≢ one.vertex)) (sym is) (All-cons (λ (one : Part). v ≢ one.vertex) part others differ rest)
 
 -- if a part is of another vertex than all others, and the others are of vertices of their own, all parts are

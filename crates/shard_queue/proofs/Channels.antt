@@ -1,6 +1,6 @@
 -- What is processed is what was sent, in number order.
 -- Used by `channels_give_what_was_sent` and `each_number_waits_by_itself`.
-use Rattle.std.proofs.Common.{append_assoc, add-one, get_or, ◌≡◌, ◌≢◌, ℕ, zero, suc, ◌+◌, ◌-◌, ◌<◌, ◌≤◌, Bool, true, false, ◌||◌, cond, List, [], ◌∷◌, ◌++◌, take, length, Contains, inl, inr, Option, Some, None, refl, sym, ap, subst, ◌∙◌, arith}
+use Rattle.std.proofs.Common.{append_assoc, add-one, get_or, ◌≡◌, ◌≢◌, ℕ, suc, ◌+◌, ◌-◌, ◌<◌, ◌≤◌, Bool, true, false, ◌||◌, cond, List, [], ◌∷◌, ◌++◌, take, length, Contains, inl, inr, Option, Some, None, refl, sym, ap, subst, ◌∙◌, arith}
 use Rattle.std.specs.Prelude.{◌==◌, fold, nat_le, is_some}
 use Rattle.std.specs.List.{list_any, slice_get}
 use Rattle.std.specs.Ordering.{nat_cmp}
@@ -12,16 +12,11 @@ use Rattle.std.proofs.lemmas.Bool.{le-leb, ne_eqb}
 use Rattle.std.proofs.Math.Seq.{take-suc}
 use Rattle.std.proofs.lemmas.List.{append-nil}
 use Rattle.std.proofs.lemmas.Option.{slice_get_within, get_or_from_slice_get}
+use Rattle.weave_data.proofs.Members.{has_head, has_tail}
 use Rattle.vector_stamp.specs.declared.clock.Stamp.{Stamp}
 use Rattle.shard_queue.specs.Outbox.{sent_as}
-use Rattle.shard_queue.specs.Inbox.{Incoming, Event, Arrives, TakesHead, nothing_arrived, waiting_head, has_arrived, after_head_if, after_event, inbox_after, taken_messages, taken_by, processed_in, is_arrival_of, AreOfSent, after_arrival, waiting_at, WaitingLaws}
+use Rattle.shard_queue.specs.Inbox.{Incoming, Event, Arrives, TakesHead, nothing_arrived, waiting_head, has_arrived, after_head_if, after_event, inbox_after, taken_messages, taken_by, processed_in, is_arrival_of, AreOfSent, waiting_at, WaitingLaws}
 use Rattle.shard_queue.proofs.Waiting.{put-there, put-others, take-others, AllWaiting, all-put, all-take, all-found}
-
-has_here : {X : Type 0} (x : X) (xs : List X) → Contains (x ∷ xs) x
-has_here x xs = (zero, omega arith, refl)
-
-has_later : {X : Type 0} (x : X) (xs : List X) (y : X) → Contains xs y → Contains (x ∷ xs) y
-has_later x xs y (k, below, at) = (suc k, omega (arith, below), at)
 
 or-true : (b : Bool) → (b || true) ≡ true
 or-true true = refl
@@ -134,14 +129,14 @@ module _ {M : Type 0} (stamp_of : M → Stamp) where
   fed_on : (sent : List M) (inbox : Incoming M) (events : List (Event M)) → AreOfSent sent events → IsFed sent inbox → IsFed sent (fold (after_event stamp_of) inbox events)
   fed_on sent inbox [] of fed = fed
   fed_on sent inbox (event ∷ events) of fed =
-      fed_on sent (after_event stamp_of inbox event) events (λ n m has. of n m (has_later event events (Arrives n m) has)) (fed_event sent inbox event (λ n m is. of n m (subst (Contains (event ∷ events)) is (has_here event events))) fed)
+      fed_on sent (after_event stamp_of inbox event) events (λ n m has. of n m (has_tail event events (Arrives n m) has)) (fed_event sent inbox event (λ n m is. of n m (subst (Contains (event ∷ events)) is (has_head event events))) fed)
 
   takes_on : (sent : List M) (inbox : Incoming M) (events : List (Event M)) → AreOfSent sent events → IsFed sent inbox → take inbox.processed sent ++ processed_in stamp_of inbox events ≡ take (fold (after_event stamp_of) inbox events).processed sent
   takes_on sent inbox [] of fed = append-nil (take inbox.processed sent)
   takes_on sent inbox (event ∷ events) of fed =
       sym (append_assoc (take inbox.processed sent) (taken_by inbox event) (processed_in stamp_of (after_event stamp_of inbox event) events))
       ∙ ap (λ (xs : List M). xs ++ processed_in stamp_of (after_event stamp_of inbox event) events) (takes_event sent inbox event fed)
-      ∙ takes_on sent (after_event stamp_of inbox event) events (λ n m has. of n m (has_later event events (Arrives n m) has)) (fed_event sent inbox event (λ n m is. of n m (subst (Contains (event ∷ events)) is (has_here event events))) fed)
+      ∙ takes_on sent (after_event stamp_of inbox event) events (λ n m has. of n m (has_tail event events (Arrives n m) has)) (fed_event sent inbox event (λ n m is. of n m (subst (Contains (event ∷ events)) is (has_head event events))) fed)
 
   fed_nothing : (sent : List M) → IsFed sent nothing_arrived
   fed_nothing sent = record { within = omega arith; waits = tt }

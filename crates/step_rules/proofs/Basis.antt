@@ -1,5 +1,6 @@
 -- What the lemmas on steps are given: a core, its script's limits, and the laws of the crates below.
--- Used by BeginStep, GateSteps, JudgeStep, NopStep, QuietSteps, ReplyStep, Replying, SendStep, ShardStep and 3 more.
+-- Used by BeginStep, GateSteps, JudgeStep, NopStep, QuietSteps, ReplyStep, Replying, SendStep, ShardStep, Stepping,
+-- VisitStep and Visiting.
 use Rattle.program_defs.specs.declared.script.Script.{Script}
 use Rattle.program_defs.specs.Limits.{IsWithinLimits}
 use Rattle.step_rules.specs.CoreState.{CoreState}

@@ -2,7 +2,6 @@
 -- Used by JudgeStep and VisitStep.
 use Rattle.std.proofs.Common.{◌≡◌, ℕ, List, [], ◌∷◌, Contains, inl, inr, subst, ap}
 use Rattle.std.specs.Prelude.{reverse}
-use Rattle.std.specs.List.{AllByRecursion}
 use Rattle.std.proofs.lemmas.List.{reverse-append}
 use Rattle.std.proofs.lemmas.List.Elements.{Contains-append_cases}
 use Rattle.weave_data.proofs.Members.{flat_has, has_head, has_map, has_none, has_tail, only}
@@ -12,11 +11,6 @@ use Rattle.weave_entries.specs.declared.store_log.StoreDeed.TheVariants.{Judged}
 use Rattle.weave_entries.specs.declared.verdict.Verdict.{Verdict}
 use Rattle.weave_entries.specs.declared.verdict.Verdict.TheVariants.{Committed, Conflict, Refused}
 use Rattle.weave_entries.specs.StoreReplay.{Commit, Judgement, commit_by, commit_if, commits_of, judged_by, judgements_of}
-
--- what holds of each member holds of all by recursion
-pub all-from : {A : Type 0} (P : A → Type 0) (xs : List A) → ((x : A) → Contains xs x → P x) → AllByRecursion P xs
-all-from P [] f = tt
-all-from P (x ∷ xs) f = (f x (has_head x xs), all-from P xs (λ y h. f y (has_tail x xs y h)))
 
 -- a member of the list turned round is one of the list
 pub in-reverse : {A : Type 0} (xs : List A) (x : A) → Contains (reverse xs) x → Contains xs x

@@ -1,4 +1,5 @@
--- Fewer than 2^64 steps give stamps of 64 bits: each step makes at most one entry at a gatekeeper, and raises its epoch to at most 1,000,000.
+-- Fewer than 2^64 steps give stamps of 64 bits: each step makes at most one entry at a gatekeeper, and raises its
+-- epoch to at most 1,000,000.
 -- Used by `trace_is_a_core`.
 use Rattle.std.proofs.Common.{◌≡◌, ℕ, zero, suc, ◌+◌, ◌^◌, ◌<◌, ◌≤◌, ◌==◌, Bool, true, false, cond, List, [], ◌∷◌, ◌++◌, length, get_or, Contains, IsTrue, Option, None, Some, ◌⊎◌, inl, inr, refl, sym, ap, subst, ◌∙◌, get_or-set_same, get_or-set_other, arith}
 use Rattle.std.specs.Prelude.{count_by, nat_lt, slice_index, slice_set}

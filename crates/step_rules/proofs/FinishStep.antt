@@ -1,4 +1,5 @@
--- A program's reply: it is finished at its gatekeeper and has its reply in its session, both at once. The logs between the two are no account.
+-- A program's reply: it is finished at its gatekeeper and has its reply in its session, both at once. The logs between
+-- the two are no account.
 -- Used by Replying.
 use Rattle.std.proofs.Common.{◌≡◌, ◌≢◌, ℕ, ◌<◌, ◌==◌, List, [], ◌∷◌, ◌++◌, length, Contains, AllPairs, IsTrue, None, Some, ◌⊎◌, inl, inr, refl, sym, ap, subst, ◌∙◌}
 use Rattle.std.specs.List.{find, flat_map}

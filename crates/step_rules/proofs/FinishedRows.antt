@@ -1,4 +1,6 @@
--- Two worked lists of steps: in the first a program is finished by its `reply`; in the second it is not, since its `reply` was refused.
+-- Two worked lists of steps: in the first a program is finished by its `reply`; in the second it is not, since its
+-- `reply` was refused.
+-- Used by nothing: worked examples.
 use Rattle.std.specs.Prelude.{◌≡◌, ◌&&◌, ◌==◌, Bool, true, false, List, refl}
 use Rattle.std.specs.List.{list_any, zip}
 use Rattle.std.proofs.lemmas.Bool.{both_ways, ltb-true}

@@ -9,6 +9,7 @@ use Rattle.std.proofs.lemmas.List.Elements.{All-from_recursion, Contains-append_
 use Rattle.weave_data.proofs.Entries.{each_push}
 use Rattle.weave_data.proofs.Members.{find_has, find_lacks, flat_has, has_map, has_none, map_has}
 use Rattle.weave_data.proofs.Ordered.{pairs_push}
+use Rattle.weave_data.proofs.ListPlaces.{all-from}
 use Rattle.graph_ops.specs.Mentions.{named_by}
 use Rattle.graph_ops.specs.PlainGraph.{PlainGraph, TxOutcome, transaction}
 use Rattle.graph_ops.specs.declared.op.Op.{Op}
@@ -50,7 +51,7 @@ use Rattle.step_rules.specs.Requests.{ops_in}
 use Rattle.step_rules.proofs.Basis.{Basis}
 use Rattle.step_rules.proofs.Begun.{flight-begun}
 use Rattle.step_rules.proofs.Frames.{StoreRule, each-other, sends-stay, deeds-stay, replies-stay}
-use Rattle.step_rules.proofs.Commits.{all-from, commit-stamp, in-reverse}
+use Rattle.step_rules.proofs.Commits.{commit-stamp, in-reverse}
 use Rattle.step_rules.proofs.Verdicts.{IsSettled, all-precede, asked-is, none-refused, settles}
 
 module _ (script : Script) (state : CoreState) (basis : Basis script state) (g : ℕ) (inside : g < script.gates)

@@ -1,4 +1,5 @@
--- `reply` keeps a core: a transaction that was sent has its reply; a program that has read all is finished and has its reply.
+-- `reply` keeps a core: a transaction that was sent has its reply; a program that has read all is finished and has its
+-- reply.
 -- Used by Stepping.
 use Rattle.std.proofs.Common.{◌≡◌, ℕ, ◌==◌, Bool, true, false, cond, not, Option, None, Some, List, refl, sym, ap, ◌∙◌}
 use Rattle.std.specs.Prelude.{is_some, ◌||◌}

@@ -1,4 +1,5 @@
 -- The versions that are kept in the rows on collection.
+-- Used by nothing: worked examples.
 use Rattle.std.specs.Prelude.{◌≡◌, refl, take}
 use Rattle.weave_entries.specs.ShardReplay.{kept_of}
 use Rattle.weave_account.specs.Account.{shard_log}

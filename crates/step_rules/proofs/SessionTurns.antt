@@ -66,7 +66,7 @@ module _ (requests : List ℕ) where
       by-deed (Begun r stamp) session = refl
       by-deed (Replied r) session = refl
 
-  -- one that waits has begun
+  -- a session that waits for a reply has begun a request
   pub waits-begun : (log : List SessionEntry) → (session_of requests log).waits ≡ true → 1 ≤ (session_of requests log).begun
   waits-begun = by_last (λ log. (session_of requests log).waits ≡ true → 1 ≤ (session_of requests log).begun) (λ waits. cc)
       (λ log entry so. subst (λ (session : SessionState). session.waits ≡ true → 1 ≤ session.begun) (sym (one-more log entry)) (by-deed entry.deed (session_of requests log)))

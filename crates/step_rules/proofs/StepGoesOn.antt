@@ -1,7 +1,7 @@
 -- After each step the logs begin with those before it.
--- Used by BeginAccount, FinishStep, QuietGateEntry, 3 more and crates weave_drive, weaver_core and weaver_top.
-use Rattle.std.proofs.Common.{◌≡◌, ℕ, ◌<◌, Bool, true, false, cond, List, [], ◌∷◌, ◌++◌, length, Option, None, Some, refl, sym, ap, ◌∙◌, append_assoc, arith}
-use Rattle.std.proofs.lemmas.List.{append-nil}
+-- Used by BeginAccount, FinishStep, QuietGateEntry, ShardStep, Stepping, VisitStep and crates weave_drive, weaver_core
+-- and weaver_top.
+use Rattle.std.proofs.Common.{◌≡◌, ℕ, ◌<◌, Bool, true, false, cond, List, [], ◌∷◌, ◌++◌, length, Option, None, Some, refl, ap, ◌∙◌, append_assoc, arith}
 use Rattle.weave_data.specs.declared.name.Name.{Name}
 use Rattle.weave_data.specs.Names.{shard_of}
 use Rattle.vector_stamp.specs.declared.clock.Clock.{Clock}
@@ -25,6 +25,7 @@ use Rattle.weave_entries.specs.StoreReplay.{Judgement}
 use Rattle.weave_account.specs.declared.account.Account.{Account}
 use Rattle.weave_account.specs.Account.{gate_log, shard_log, session_log}
 use Rattle.weave_account.specs.GoesOn.{GoesOn, IsBeginningOf}
+use Rattle.weave_account.proofs.GoesOn.{whole}
 use Rattle.program_defs.specs.Limits.{IsWithinLimits}
 use Rattle.step_rules.specs.CoreState.{CoreState, with_gate_deed, with_shard_deed, with_session_deed}
 use Rattle.step_rules.specs.Entries.{account_with, after_begin, after_deliver, after_hear, after_judge, after_reply, after_send, after_visit, after_work, at_request, judgement_in_flight, notices_with, with_finish}
@@ -35,10 +36,6 @@ use Rattle.step_rules.proofs.Within.{gate-within, home-within, session-within, s
 
 -- Beginnings
 
--- a log begins with itself
-pub same-log : {E : Type 0} (log : List E) → IsBeginningOf log log
-same-log log = ([], sym (append-nil log))
-
 -- that a log begins with another is transitive
 pub longer-log : {E : Type 0} (log middle last : List E) → IsBeginningOf log middle → IsBeginningOf middle last → IsBeginningOf log last
 longer-log log middle last (more, is) (further, are) = (more ++ further, are ∙ ap (λ l. l ++ further) is ∙ append_assoc log more further)
@@ -48,11 +45,11 @@ longer-log log middle last (more, is) (further, are) = (more ++ further, are ∙
 -- the logs of an account begin with themselves
 pub goes-same : (account : Account) → GoesOn account account
 goes-same account = record {
-  gates = λ home. same-log (gate_log account home);
-  store = same-log account.store;
-  oracle = same-log account.oracle;
-  shards = λ shard. same-log (shard_log account shard);
-  sessions = λ session. same-log (session_log account session);
+  gates = λ home. whole (gate_log account home);
+  store = whole account.store;
+  oracle = whole account.oracle;
+  shards = λ shard. whole (shard_log account shard);
+  sessions = λ session. whole (session_log account session);
 }
 
 -- that the logs of an account go on is transitive
@@ -69,49 +66,49 @@ goes-further account middle last on further = record {
 pub with-gate-deed : (account : Account) (home author : ℕ) (deed : GateDeed) → home < length account.gates → GoesOn account (with_gate_deed account home author deed)
 with-gate-deed account home author deed within = record {
   gates = set-log account.gates home within (record { author = author; deed = deed });
-  store = same-log account.store;
-  oracle = same-log account.oracle;
-  shards = λ shard. same-log (shard_log account shard);
-  sessions = λ session. same-log (session_log account session);
+  store = whole account.store;
+  oracle = whole account.oracle;
+  shards = λ shard. whole (shard_log account shard);
+  sessions = λ session. whole (session_log account session);
 }
 
 -- the same of a deed of a shard
 pub with-shard-deed : (account : Account) (shard : ℕ) (deed : ShardDeed) → shard < length account.shards → GoesOn account (with_shard_deed account shard deed)
 with-shard-deed account shard deed within = record {
-  gates = λ home. same-log (gate_log account home);
-  store = same-log account.store;
-  oracle = same-log account.oracle;
+  gates = λ home. whole (gate_log account home);
+  store = whole account.store;
+  oracle = whole account.oracle;
   shards = set-log account.shards shard within (record { author = 0; deed = deed });
-  sessions = λ session. same-log (session_log account session);
+  sessions = λ session. whole (session_log account session);
 }
 
 -- the same of a deed of a session
 pub with-session-deed : (account : Account) (session : ℕ) (deed : SessionDeed) → session < length account.sessions → GoesOn account (with_session_deed account session deed)
 with-session-deed account session deed within = record {
-  gates = λ home. same-log (gate_log account home);
-  store = same-log account.store;
-  oracle = same-log account.oracle;
-  shards = λ shard. same-log (shard_log account shard);
+  gates = λ home. whole (gate_log account home);
+  store = whole account.store;
+  oracle = whole account.oracle;
+  shards = λ shard. whole (shard_log account shard);
   sessions = set-log account.sessions session within (record { author = session; deed = deed });
 }
 
 with-more : (account : Account) (judged : List StoreEntry) (settled : List OracleEntry) → GoesOn account (record account { store = account.store ++ judged; oracle = account.oracle ++ settled })
 with-more account judged settled = record {
-  gates = λ home. same-log (gate_log account home);
+  gates = λ home. whole (gate_log account home);
   store = (judged, refl);
   oracle = (settled, refl);
-  shards = λ shard. same-log (shard_log account shard);
-  sessions = λ session. same-log (session_log account session);
+  shards = λ shard. whole (shard_log account shard);
+  sessions = λ session. whole (session_log account session);
 }
 
 -- the same of more entries of the oracle
 pub with-settled : (account : Account) (settled : List OracleEntry) → GoesOn account (record account { oracle = account.oracle ++ settled })
 with-settled account settled = record {
-  gates = λ home. same-log (gate_log account home);
-  store = same-log account.store;
+  gates = λ home. whole (gate_log account home);
+  store = whole account.store;
   oracle = (settled, refl);
-  shards = λ shard. same-log (shard_log account shard);
-  sessions = λ session. same-log (session_log account session);
+  shards = λ shard. whole (shard_log account shard);
+  sessions = λ session. whole (session_log account session);
 }
 
 -- Steps
@@ -189,15 +186,15 @@ module _ (script : Script) (state : CoreState) (limits : IsWithinLimits script) 
 
 -- the notices begin with those before
 pub notices-on : (state : CoreState) (step : Step) → IsBeginningOf state.notices (notices_with state step)
-notices-on state (Begin r) = same-log state.notices
-notices-on state (Judge g) = same-log state.notices
-notices-on state (Send g) = same-log state.notices
+notices-on state (Begin r) = whole state.notices
+notices-on state (Judge g) = whole state.notices
+notices-on state (Send g) = whole state.notices
 notices-on state (Say g) = (clock_of g (gate_log state.account g) ∷ [], refl)
-notices-on state (Hear g n) = same-log state.notices
-notices-on state (Nop g s) = same-log state.notices
-notices-on state (Deliver g s n) = same-log state.notices
-notices-on state (Apply s g) = same-log state.notices
-notices-on state (Visit r) = same-log state.notices
-notices-on state (Reply r) = same-log state.notices
-notices-on state (Collect s) = same-log state.notices
-notices-on state (Epoch g epoch) = same-log state.notices
+notices-on state (Hear g n) = whole state.notices
+notices-on state (Nop g s) = whole state.notices
+notices-on state (Deliver g s n) = whole state.notices
+notices-on state (Apply s g) = whole state.notices
+notices-on state (Visit r) = whole state.notices
+notices-on state (Reply r) = whole state.notices
+notices-on state (Collect s) = whole state.notices
+notices-on state (Epoch g epoch) = whole state.notices

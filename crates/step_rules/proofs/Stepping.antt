@@ -8,6 +8,7 @@ use Rattle.program_defs.specs.declared.script.Step.TheVariants.{Begin, Judge, Se
 use Rattle.report_rules.specs.declared.report.StepAnswer.{StepAnswer}
 use Rattle.report_rules.specs.declared.report.StepAnswer.TheVariants.{Ok, Twice, Early, Busy, Idle, Old, Unknown, Repeat, Empty, Waits, Again}
 use Rattle.weave_account.specs.GoesOn.{GoesOn, IsBeginningOf}
+use Rattle.weave_account.proofs.GoesOn.{whole}
 use Rattle.program_defs.specs.Limits.{IsWithinLimits}
 use Rattle.step_rules.specs.CoreState.{CoreState}
 use Rattle.step_rules.specs.Answers.{answer_of}
@@ -24,7 +25,7 @@ use Rattle.step_rules.proofs.QuietSteps.{apply-keeps, collect-keeps, deliver-kee
 use Rattle.step_rules.proofs.Replying.{reply-keeps}
 use Rattle.step_rules.proofs.SendStep.{send-keeps}
 use Rattle.step_rules.proofs.Starting.{start-is-core}
-use Rattle.step_rules.proofs.StepGoesOn.{goes-same, notices-on, same-log, step-goes-on}
+use Rattle.step_rules.proofs.StepGoesOn.{goes-same, notices-on, step-goes-on}
 use Rattle.step_rules.proofs.Visiting.{visit-keeps}
 
 -- an answer that is tested as `Ok` is `Ok`
@@ -91,4 +92,4 @@ notices-go script state step = at (is_ok (answer_of script state step))
   where
     at : (b : Bool) → IsBeginningOf state.notices (cond b (state_with script state step) state).notices
     at true = notices-on state step
-    at false = same-log state.notices
+    at false = whole state.notices

@@ -1,7 +1,7 @@
 -- With one more visit, the updates of a shard's log stay, and there is one more read, and one more mark if the oracle
 -- made an entry.
 -- Used by VisitStep and crates weave_phase, weaver_core and workers_account.
-use Rattle.std.proofs.Common.{◌≡◌, ◌≢◌, ℕ, zero, suc, ◌<◌, ◌==◌, Bool, true, false, cond, List, [], ◌∷◌, ◌++◌, map, take, length, Contains, Some, inl, inr, refl, sym, ap, ◌∙◌, arith}
+use Rattle.std.proofs.Common.{◌≡◌, ◌≢◌, ℕ, zero, suc, ◌==◌, Bool, true, false, cond, List, [], ◌∷◌, ◌++◌, map, take, Contains, Some, inl, inr, refl, sym, ap, ◌∙◌, arith}
 use Rattle.std.specs.Prelude.{filter, slice_get, ◌&&◌}
 use Rattle.std.specs.List.{filter_map, find, flat_map}
 use Rattle.std.specs.Option.{option_map}
@@ -20,12 +20,6 @@ use Rattle.weave_entries.specs.ShardReplay.{Arrival, Update, Visit, arrival_by, 
 use Rattle.weave_account.specs.Oracle.{marked_in, seen_last}
 
 -- Places
-
--- at each place below the length of a list there is an element
-pub get-some : {A : Type 0} (xs : List A) (j : ℕ) → j < length xs → (x : A) × (slice_get xs j ≡ Some x)
-get-some [] j within = absurd (omega (arith, within))
-get-some (x ∷ xs) zero within = (x, refl)
-get-some (x ∷ xs) (suc j) within = get-some xs j (omega (arith, within))
 
 -- the image of the element at a place of a list is at this place of the images
 pub map-get : {A B : Type 0} (f : A → B) (xs : List A) (j : ℕ) (x : A) → slice_get xs j ≡ Some x → slice_get (map f xs) j ≡ Some (f x)

@@ -1,7 +1,7 @@
 -- `visit` keeps a core, if the program was begun, the vertex is its next one, and the shard is ready: the program reads
 -- what it sees of the vertex, and the last update that it sees is put before it.
 -- Used by Visiting and crate workers_account.
-use Rattle.std.proofs.Common.{◌≡◌, ◌≢◌, ℕ, zero, suc, ◌+◌, ◌-◌, ◌<◌, ◌≤◌, Bool, true, false, cond, not, List, [], ◌∷◌, ◌++◌, map, take, length, AllPairs, Contains, IsTrue, Option, None, Some, inl, inr, refl, sym, ap, subst, ◌∙◌, arith}
+use Rattle.std.proofs.Common.{◌≡◌, ◌≢◌, ℕ, zero, suc, ◌+◌, ◌-◌, ◌<◌, ◌≤◌, Bool, true, false, cond, not, List, [], ◌∷◌, ◌++◌, map, take, length, get_or, AllPairs, Contains, IsTrue, Option, None, Some, inl, inr, refl, sym, ap, subst, ◌∙◌, arith}
 use Rattle.std.specs.Prelude.{IsSomeAnd, slice_get, ◌&&◌}
 use Rattle.std.specs.List.{flat_map}
 use Rattle.std.specs.Map.{keys_of}
@@ -9,10 +9,11 @@ use Rattle.std.specs.Option.{ForSome}
 use Rattle.std.proofs.lemmas.Bool.{and_from, and_parts, both_ways, cases_Bool, cases_eq, cases_lt, not_from_false, or_cases, or_left, or_right}
 use Rattle.std.proofs.lemmas.List.{append-nil, get_or_past, length-map, length-set}
 use Rattle.std.proofs.lemmas.List.Elements.{All-from_recursion, Contains-append_cases, Contains-append_left, Contains-append_right}
-use Rattle.std.proofs.lemmas.Option.{get_or_from_slice_get, slice_get_within}
+use Rattle.std.proofs.lemmas.Option.{get_or_from_slice_get, slice_get_within, slice_get-get_or}
 use Rattle.weave_data.proofs.Members.{cut_at, filter_has, find_has, flat_has, has_head, has_map, has_none, map_has, only}
 use Rattle.weave_data.specs.declared.name.Name.{Name}
 use Rattle.weave_data.specs.Names.{shard_of}
+use Rattle.weave_data.proofs.ListPlaces.{all-from}
 use Rattle.graph_ops.specs.Mentions.{is_among}
 use Rattle.graph_ops.specs.Operations.{State}
 use Rattle.graph_ops.specs.declared.op.Op.{Op}
@@ -49,7 +50,7 @@ use Rattle.step_rules.specs.Entries.{made_entry, seen_in, update_stamps_at}
 use Rattle.step_rules.specs.IsCore.{IsCore}
 use Rattle.step_rules.proofs.Basis.{Basis}
 use Rattle.step_rules.proofs.Begun.{all-in, inside-log, one-begun}
-use Rattle.step_rules.proofs.Commits.{all-from, commit-judged}
+use Rattle.step_rules.proofs.Commits.{commit-judged}
 use Rattle.step_rules.proofs.FindLists.{pairs-into}
 use Rattle.step_rules.proofs.Frames.{ShardRule, deeds-stay, replies-stay, sends-stay, store-stays}
 use Rattle.step_rules.proofs.Preceded.{each-precede}
@@ -162,8 +163,7 @@ module _ (script : Script) (state : CoreState) (basis : Basis script state) (r :
   one-of : (j : ℕ) → k ≡ j + 1 → IsOne
   one-of j e =
       let in-list = basis.laws.stamps.seen_within pairs stamp stamps in
-      let one = visited.get-some stamps j (omega (arith, e, in-list)) in
-      record { x = one.0; last = record { j = j; k-is = e; at = one.1 } }
+      record { x = get_or stamps j stamp; last = record { j = j; k-is = e; at = slice_get-get_or stamps j stamp (omega (arith, e, in-list)) } }
 
   event-is : (x : Stamp) → Contains events x → IsLast x
   event-is x h = from k refl

@@ -1,5 +1,6 @@
 -- The logs of a core's gatekeepers, shards and sessions are there.
--- Used by BeginAccount, BeginStep, FewSteps, FinishStep, QuietGateEntry, ReplyStep, Replying, ShardStep and 2 more.
+-- Used by BeginAccount, BeginStep, FewSteps, FinishStep, QuietGateEntry, ReplyStep, Replying, ShardStep, StepGoesOn
+-- and VisitStep.
 use Rattle.std.proofs.Common.{◌≡◌, ℕ, ◌<◌, length, Some, arith}
 use Rattle.program_defs.specs.declared.script.Request.{Request}
 use Rattle.program_defs.specs.declared.script.Script.{Script}

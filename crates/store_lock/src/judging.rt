@@ -1,11 +1,12 @@
 //! A judgement under the oracle's lock.
-ghost use Rattle.std.specs.Prelude.{◌≡◌, ◌≢◌, ◌<◌, ◌≤◌, ◌^◌, [], ◌∷◌, List, length, All, Contains};
+ghost use Rattle.std.specs.Prelude.{◌≡◌, ◌≢◌, ◌<◌, ◌≤◌, [], ◌∷◌, List, length, All, Contains};
 ghost use Rattle.weave_data.specs.Limits.{most_gates};
 ghost use Rattle.vector_stamp.specs.declared.clock.Stamp.{Stamp};
 ghost use Rattle.vector_stamp.specs.Order.{id_of};
 ghost use Rattle.weave_entries.specs.declared.oracle_log.OracleEntry.{OracleEntry};
 ghost use Rattle.weave_entries.specs.declared.gate_log.GateDeed.{GateDeed};
 ghost use Rattle.weave_entries.specs.StoreReplay.{commits_of};
+ghost use Rattle.weave_entries.specs.StoreRule.{ops_bound};
 ghost use Rattle.backing_store.specs.Commits.{stamps_judged, stamps_kept};
 ghost use Rattle.weave_account.specs.Account.{IsBegunStamp};
 ghost use Rattle.seen_logs.specs.Seen.{GatesGoOn};
@@ -50,7 +51,7 @@ pub(crate) fn judge_over<R: Wait, G: Machine<Entry = GateDeed>>(
     requires all_ready { AreReady gates.now passes.old }
     requires legal { AreGateLogs shards (gates_seen passes.old) }
     requires gates { length gates.now ≤ most_gates }
-    requires few { length ops.now < 2 ^ 31 }
+    requires few { length ops.now < ops_bound }
     requires new { All (λ (judged : Stamp). id_of judged ≢ id_of stamp) (stamps_judged store.old) }
     requires begun { (event : Stamp) → Contains (stamp ∷ stamps_kept (commits_of store.old)) event
         → IsBegunStamp (of_gates (gates_seen passes.old)) event }

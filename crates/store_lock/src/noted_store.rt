@@ -62,12 +62,13 @@ impl Machine for NotedStore {
 }
 
 impl NotedStore {
-    ghost use Rattle.std.specs.Prelude.{◌≡◌, ◌≢◌, ◌<◌, ◌≤◌, ◌^◌, ℕ, List, [], ◌∷◌, length, map, All, Contains};
+    ghost use Rattle.std.specs.Prelude.{◌≡◌, ◌≢◌, ◌<◌, ◌≤◌, ℕ, List, [], ◌∷◌, length, map, All, Contains};
     ghost use Rattle.vector_stamp.specs.declared.clock.Stamp.{Stamp};
     ghost use Rattle.vector_stamp.specs.Order.{id_of};
     ghost use Rattle.weave_entries.specs.declared.gate_log.GateDeed.{GateDeed};
     ghost use Rattle.weave_entries.specs.declared.oracle_log.OracleEntry.{OracleEntry};
     ghost use Rattle.weave_entries.specs.GateReplay.{txs_of};
+    ghost use Rattle.weave_entries.specs.StoreRule.{ops_bound};
     ghost use Rattle.backing_store.specs.Commits.{stamps_judged};
     ghost use Rattle.weave_account.specs.Account.{gate_log};
     ghost use Rattle.seen_logs.specs.Seen.{GatesGoOn};
@@ -170,7 +171,7 @@ impl NotedStore {
         requires legal { AreGateLogs self.old.shards (gates_seen passes.old) }
         requires met { GatesGoOn (of_gates (gates_noted self.old.gates)) (of_gates (gates_seen passes.old)) }
         requires gates { length gates.now ≤ most_gates }
-        requires few { length ops.now < 2 ^ 31 }
+        requires few { length ops.now < ops_bound }
         requires new { All (λ (judged : Stamp). id_of judged ≢ id_of stamp) (stamps_judged self.old.store) }
         requires begun { (home : ℕ) × Contains (txs_of (gate_log (of_gates (gates_noted self.old.gates)) home))
             (record { author = number_of pass.old; request = request; stamp = stamp }) }

@@ -9,7 +9,7 @@ mod calls;
 #[cfg(test)]
 mod fixed_judge;
 #[cfg(test)]
-mod judged;
+mod refusing_judge;
 #[cfg(test)]
 mod rows;
 #[cfg(test)]

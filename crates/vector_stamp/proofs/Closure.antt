@@ -1,25 +1,13 @@
 -- The test of precedence is the least transitive relation that has the order of stamps and the pairs.
 -- Used by `one_pair_joins_its_ends`, `precedence_is_decided`, Events, Pairs and Settle.
-use Rattle.std.proofs.Common.{◌≡◌, zero, suc, Bool, ◌||◌, List, [], ◌∷◌, Contains, IsTrue, ◌⊎◌, inl, inr, refl, sym, subst, arith}
+use Rattle.std.proofs.Common.{Bool, ◌||◌, List, [], ◌∷◌, Contains, IsTrue, ◌⊎◌, inl, inr, sym, subst, arith}
 use Rattle.std.proofs.lemmas.Bool.{and_from, or_cases, or_left, or_right}
+use Rattle.weave_data.proofs.Members.{has_head, has_read, has_tail}
 use Rattle.vector_stamp.specs.declared.clock.Stamp.{Stamp}
 use Rattle.vector_stamp.specs.Order.{stamp_before, same_stamp}
 use Rattle.vector_stamp.specs.Precedence.{GivenPair, Precedes, ByStamps, ByPair, Through, precedes, IsClosed}
 use Rattle.vector_stamp.proofs.Reading.{both_left, both_right}
 use Rattle.vector_stamp.proofs.Orders.{before-trans, same_stamp-is, same_stamp-refl}
-
--- what is in a list is its head, or in the rest
-pub contained_read : {X : Type 0} (p : X) (ps : List X) (q : X) → Contains (p ∷ ps) q → (p ≡ q) ⊎ Contains ps q
-contained_read p ps q (zero, below, here) = inl here
-contained_read p ps q (suc k, below, here) = inr (k, omega (arith, below), here)
-
--- the head of a list is in it
-pub contained_head : {X : Type 0} (p : X) (ps : List X) → Contains (p ∷ ps) p
-contained_head p ps = (zero, omega arith, refl)
-
--- what is in the rest of a list is in the whole list
-pub contained_tail : {X : Type 0} (p : X) (ps : List X) (q : X) → Contains ps q → Contains (p ∷ ps) q
-contained_tail p ps q (k, below, here) = (suc k, omega (arith, below), here)
 
 -- a is b, or precedes it
 abbrev pub leads : List GivenPair → Stamp → Stamp → Bool
@@ -94,7 +82,7 @@ leads-refl ps a = or_left _ _ (same_stamp-refl a)
 pub precedes_pairs : (ps : List GivenPair) (a b : Stamp) → Contains ps (a, b) → IsTrue (precedes ps a b)
 precedes_pairs [] a b h = absurd (omega (arith, h.1))
 precedes_pairs (p ∷ ps) a b h =
-    elim (contained_read p ps (a, b) h) [
+    elim (has_read p ps (a, b) h) [
       | inl e ↦ precedes_by p ps a b (subst (λ (q : GivenPair). IsTrue (leads ps a q.0)) (sym e) (leads-refl ps a)) (subst (λ (q : GivenPair). IsTrue (leads ps q.1 b)) (sym e) (leads-refl ps b))
       | inr later ↦ precedes_more p ps a b (precedes_pairs ps a b later)
     ]
@@ -108,7 +96,7 @@ passes_test ps _ _ (Through a b c g h) = precedes-trans ps a b c (passes_test ps
 -- with one more pair what preceded precedes
 pub more_pairs : (p : GivenPair) (ps : List GivenPair) (a b : Stamp) → Precedes ps a b → Precedes (p ∷ ps) a b
 more_pairs p ps _ _ (ByStamps a b h) = ByStamps a b h
-more_pairs p ps _ _ (ByPair a b h) = ByPair a b (contained_tail p ps (a, b) h)
+more_pairs p ps _ _ (ByPair a b h) = ByPair a b (has_tail p ps (a, b) h)
 more_pairs p ps _ _ (Through a b c g h) = Through a b c (more_pairs p ps a b g) (more_pairs p ps b c h)
 
 module _ (p : GivenPair) (ps : List GivenPair) (known : (x y : Stamp) → IsTrue (precedes ps x y) → Precedes ps x y) where
@@ -119,9 +107,9 @@ module _ (p : GivenPair) (ps : List GivenPair) (known : (x y : Stamp) → IsTrue
 
   through_pair : (a b : Stamp) → IsTrue (same_stamp a p.0) ⊎ IsTrue (precedes ps a p.0) → IsTrue (same_stamp p.1 b) ⊎ IsTrue (precedes ps p.1 b) → Precedes (p ∷ ps) a b
   through_pair a b (inl same) rest =
-      to_end a b (subst (λ x. Precedes (p ∷ ps) x p.1) (sym (same_stamp-is a p.0 same)) (ByPair p.0 p.1 (contained_head p ps))) rest
+      to_end a b (subst (λ x. Precedes (p ∷ ps) x p.1) (sym (same_stamp-is a p.0 same)) (ByPair p.0 p.1 (has_head p ps))) rest
   through_pair a b (inr before) rest =
-      to_end a b (Through a p.0 p.1 (more_pairs p ps a p.0 (known a p.0 before)) (ByPair p.0 p.1 (contained_head p ps))) rest
+      to_end a b (Through a p.0 p.1 (more_pairs p ps a p.0 (known a p.0 before)) (ByPair p.0 p.1 (has_head p ps))) rest
 
 -- what passes the test precedes
 pub test_precedes : (ps : List GivenPair) (a b : Stamp) → IsTrue (precedes ps a b) → Precedes ps a b

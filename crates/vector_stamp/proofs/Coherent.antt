@@ -1,16 +1,17 @@
 -- The test of coherence is what it says.
 -- Used by `coherence_is_decided` and `equality_is_decided`.
-use Rattle.std.proofs.Common.{◌≡◌, Bool, true, false, ◌&&◌, ◌||◌, not, nat_lt, ◌==◌, ◌<◌, List, IsTrue, Contains, ◌⊎◌, inl, inr, refl, sym, ap, subst, arith}
+use Rattle.std.proofs.Common.{◌≡◌, Bool, true, false, ◌&&◌, ◌||◌, not, nat_lt, ◌==◌, ◌<◌, List, IsTrue, Contains, ap, subst}
 use Rattle.std.specs.List.{list_all}
-use Rattle.std.proofs.lemmas.Bool.{cases_Bool, eqb-true, eq-eqb, ltb-true, lt-ltb, not_from_false, and_from}
+use Rattle.std.proofs.lemmas.Bool.{eqb-true, eq-eqb, ltb-true, lt-ltb, and_from}
 use Rattle.std.proofs.lemmas.List.Elements.{All-contains, All-contains_itself, All-weaker}
 use Rattle.std.proofs.lemmas.List.Sums.{AllPass-from_list_all, list_all-from_AllPass}
+use Rattle.weave_data.proofs.ListPlaces.{unless}
 use Rattle.vector_stamp.specs.declared.clock.Stamp.{Stamp}
 use Rattle.vector_stamp.specs.declared.clock.EventId.{EventId}
 use Rattle.vector_stamp.specs.Order.{id_of, same_id, own_count, id_before, stamp_before, same_stamp}
 use Rattle.vector_stamp.specs.Coherence.{AreCoherent, two_coherent, all_coherent}
 use Rattle.vector_stamp.proofs.Reading.{both_left, both_right}
-use Rattle.vector_stamp.proofs.Orders.{not_true, same_stamp-is, same_stamp-refl}
+use Rattle.vector_stamp.proofs.Orders.{same_stamp-is, same_stamp-refl}
 
 -- if the test of all stamps of a list, two by two, passes, then the test passes for each two of them
 pub each_two : (r : Stamp → Stamp → Bool) (stamps : List Stamp) → IsTrue (list_all (λ a. list_all (r a) stamps) stamps) → (a b : Stamp) → Contains stamps a → Contains stamps b → IsTrue (r a b)
@@ -27,10 +28,6 @@ from_each_two r stamps each =
 implied : (p q : Bool) → IsTrue (not p || q) → IsTrue p → IsTrue q
 implied true q h g = h
 implied false q h g = absurd (cc)
-
-implies : (p q : Bool) → (IsTrue p → IsTrue q) → IsTrue (not p || q)
-implies true q h = h refl
-implies false q h = refl
 
 -- stamps that have the same id pass the test of the same id
 pub same_id-from : (a b : Stamp) → id_of a ≡ id_of b → IsTrue (same_id a b)
@@ -65,7 +62,7 @@ module _ (a b : Stamp) where
 -- each two of coherent stamps pass the test of two
 pub two_from : (stamps : List Stamp) → AreCoherent stamps → (a b : Stamp) → Contains stamps a → Contains stamps b → IsTrue (two_coherent a b)
 two_from stamps all a b in_a in_b =
-    and_from _ _ (and_from _ _ (lt-ltb a.home 8 (all.homes a in_a)) (implies (same_id a b) _ one)) (implies (a.home == b.home && id_before a b) _ told)
+    and_from _ _ (and_from _ _ (lt-ltb a.home 8 (all.homes a in_a)) (unless (same_id a b) _ one)) (unless (a.home == b.home && id_before a b) _ told)
   where
     one : IsTrue (same_id a b) → IsTrue (same_stamp a b)
     one h = subst (λ (x : Stamp). IsTrue (same_stamp a x)) (all.one_of_id a b in_a in_b (same_id-is a b h)) (same_stamp-refl a)

@@ -1,5 +1,6 @@
 -- The counts of two clocks, side by side.
--- Used by `at_most_each`, `clocks_keep_the_laws`, `compare`, `counts_one_by_one` and 6 more.
+-- Used by `at_most_each`, `clocks_keep_the_laws`, `compare`, `counts_one_by_one`,
+-- `counts_past_the_gatekeepers_stay_0`, `order_gate_by_gate`, Hearing, Meeting, Orders and Ticks.
 use Rattle.std.proofs.Common.{◌≡◌, ℕ, zero, suc, slice_index, ◌≤◌, ◌&&◌, IsTrue, List, [], ◌∷◌, length, nat_le, refl, ap, arith, rules}
 use Rattle.std.proofs.lemmas.Bool.{leb-true, le-leb, and_from}
 use Rattle.std.specs.Cmp.Lexicographic.{bytes_decides, as_long}

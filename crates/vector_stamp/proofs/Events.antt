@@ -6,12 +6,13 @@ use Rattle.vector_stamp.specs.declared.clock.Stamp.{Stamp}
 use Rattle.vector_stamp.specs.Order.{same_stamp}
 use Rattle.vector_stamp.specs.Precedence.{GivenPair, Precedes, ByStamps, ByPair, Through, precedes, JoinsEvents, PrecedesAmong, AmongByStamps, AmongByPair, AmongThrough}
 use Rattle.vector_stamp.proofs.Orders.{same_stamp-is}
-use Rattle.vector_stamp.proofs.Closure.{leads, precedes_read, passes_test, contained_head, contained_tail}
+use Rattle.weave_data.proofs.Members.{has_head, has_tail}
+use Rattle.vector_stamp.proofs.Closure.{leads, precedes_read, passes_test}
 
 -- with one more pair
 pub among_more : (es : List Stamp) (p : GivenPair) (ps : List GivenPair) (a b : Stamp) → PrecedesAmong es ps a b → PrecedesAmong es (p ∷ ps) a b
 among_more es p ps _ _ (AmongByStamps a b g h e) = AmongByStamps a b g h e
-among_more es p ps _ _ (AmongByPair a b g h e) = AmongByPair a b g h (contained_tail p ps (a, b) e)
+among_more es p ps _ _ (AmongByPair a b g h e) = AmongByPair a b g h (has_tail p ps (a, b) e)
 among_more es p ps _ _ (AmongThrough a b c g h) = AmongThrough a b c (among_more es p ps a b g) (among_more es p ps b c h)
 
 -- all of it precedes
@@ -29,7 +30,7 @@ by_pair : (es : List Stamp) (p : GivenPair) (ps : List GivenPair) → Among es p
 by_pair es p ps known from to a b in_a in_b first last = to_end (to_pair (or_cases (same_stamp a p.0) _ first)) (or_cases (same_stamp p.1 b) _ last)
   where
     pair : PrecedesAmong es (p ∷ ps) p.0 p.1
-    pair = AmongByPair p.0 p.1 from to (contained_head p ps)
+    pair = AmongByPair p.0 p.1 from to (has_head p ps)
 
     to_pair : IsTrue (same_stamp a p.0) ⊎ IsTrue (precedes ps a p.0) → PrecedesAmong es (p ∷ ps) a p.1
     to_pair (inl same) = subst (λ x. PrecedesAmong es (p ∷ ps) x p.1) (sym (same_stamp-is a p.0 same)) pair
@@ -43,8 +44,8 @@ by_pair es p ps known from to a b in_a in_b first last = to_end (to_pair (or_cas
 pub test_among : (es : List Stamp) (ps : List GivenPair) → JoinsEvents es ps → Among es ps
 test_among es [] joins a b in_a in_b h = AmongByStamps a b in_a in_b h
 test_among es (p ∷ ps) joins a b in_a in_b h =
-    let known : Among es ps = test_among es ps (λ x y there. joins x y (contained_tail p ps (x, y) there)) in
-    let ends = joins p.0 p.1 (contained_head p ps) in
+    let known : Among es ps = test_among es ps (λ x y there. joins x y (has_tail p ps (x, y) there)) in
+    let ends = joins p.0 p.1 (has_head p ps) in
     elim (precedes_read p ps a b h) [
       | inl before ↦ among_more es p ps a b (known a b in_a in_b before)
       | inr via ↦ by_pair es p ps known ends.0 ends.1 a b in_a in_b via.0 via.1

@@ -1,5 +1,7 @@
 -- The order of stamps is a strict order.
--- Used by `clocks_are_ordered`, `clocks_keep_the_laws`, `equality_is_decided`, `one_pair_joins_its_ends` and 13 more.
+-- Used by `clocks_are_ordered`, `clocks_keep_the_laws`, `equality_is_decided`, `one_pair_joins_its_ends`,
+-- `order_gate_by_gate`, `raising_starts_later`, `stamps_are_ordered`, Closure, Coherent, Events, Hearing, Meeting,
+-- MeetsOfLists, Pairs, Ticks and Together.
 use Rattle.std.proofs.Common.{◌≡◌, Bool, true, false, ◌&&◌, not, nat_lt, ◌==◌, IsTrue, ◌⊎◌, inl, inr, refl, sym, ap, subst, ◌∙◌, ◌<◌, arith}
 use Rattle.std.proofs.lemmas.Bool.{eqb-true, ltb-true, lt-ltb, eq-eqb, cases_Bool, both_ways, and_from, or_cases, or_left, or_right}
 use Rattle.vector_stamp.specs.declared.clock.Clock.{Clock}

@@ -1,14 +1,15 @@
 -- Precedence with more pairs, and cycles.
 -- Used by `more_pairs_more_precedence`, `no_cycle_arises` and Settle.
-use Rattle.std.proofs.Common.{◌≡◌, Bool, true, ◌||◌, List, [], ◌∷◌, ◌++◌, Contains, IsTrue, ◌⊎◌, inl, inr, refl, sym, subst, ◌∙◌}
+use Rattle.std.proofs.Common.{◌≡◌, List, [], ◌∷◌, ◌++◌, Contains, IsTrue, ◌⊎◌, inl, inr, sym, subst, ◌∙◌}
 use Rattle.std.proofs.lemmas.Bool.{or_cases}
 use Rattle.std.proofs.lemmas.Bool.Decides.{same_from_decides}
 use Rattle.std.proofs.lemmas.List.Elements.{Contains-append_left, Contains-push, Contains-push_cases}
 use Rattle.vector_stamp.specs.declared.clock.Stamp.{Stamp}
-use Rattle.vector_stamp.specs.Order.{stamp_before, same_stamp}
+use Rattle.vector_stamp.specs.Order.{same_stamp}
 use Rattle.vector_stamp.specs.Precedence.{GivenPair, Precedes, ByStamps, ByPair, Through, precedes, AreAmong, IsAcyclic}
 use Rattle.vector_stamp.proofs.Orders.{before-strict, same_stamp-is}
-use Rattle.vector_stamp.proofs.Closure.{contained_read, contained_head, contained_tail, leads, leads_after, leads_before, leads_from, precedes_read, precedes-trans, passes_test, test_precedes}
+use Rattle.weave_data.proofs.Members.{has_head, has_read, has_tail}
+use Rattle.vector_stamp.proofs.Closure.{leads, leads_before, leads_from, precedes_read, precedes-trans, passes_test, test_precedes}
 
 grows : (ps qs : List GivenPair) → AreAmong ps qs → (a b : Stamp) → Precedes ps a b → Precedes qs a b
 grows ps qs sub _ _ (ByStamps a b h) = ByStamps a b h
@@ -31,13 +32,13 @@ precedes-push ps p a b =
     to_head : AreAmong (ps ++ p ∷ []) (p ∷ ps)
     to_head x y h =
         elim (Contains-push_cases ps p (x, y) h) [
-          | inl there ↦ contained_tail p ps (x, y) there
-          | inr here ↦ subst (λ (q : GivenPair). Contains (p ∷ ps) q) here (contained_head p ps)
+          | inl there ↦ has_tail p ps (x, y) there
+          | inr here ↦ subst (λ (q : GivenPair). Contains (p ∷ ps) q) here (has_head p ps)
         ]
 
     to_end : AreAmong (p ∷ ps) (ps ++ p ∷ [])
     to_end x y h =
-        elim (contained_read p ps (x, y) h) [
+        elim (has_read p ps (x, y) h) [
           | inl here ↦ subst (λ (q : GivenPair). Contains (ps ++ p ∷ []) q) here (Contains-push ps p)
           | inr there ↦ Contains-append_left ps (p ∷ []) (x, y) there
         ]

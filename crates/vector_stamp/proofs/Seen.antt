@@ -1,6 +1,7 @@
 -- How many of a vertex's updates a program sees.
--- Used by `the_last_update_read_is_seen` and crates shard_lock, shard_node, version_chain and weaver_core.
+-- Used by `the_last_update_read_is_seen` and 5 crates above.
 use Rattle.std.proofs.Common.{◌≡◌, ℕ, zero, suc, ◌+◌, ◌≤◌, Bool, true, false, List, [], ◌∷◌, length, slice_get, IsTrue, Some, ◌⊎◌, inl, inr, refl, sym, ap, subst, ◌∙◌, add-one, arith}
+use Rattle.std.specs.Option.{IsSomeAnd}
 use Rattle.vector_stamp.specs.declared.clock.Stamp.{Stamp}
 use Rattle.vector_stamp.specs.Seeing.{with_front, last_place, last_seen}
 
@@ -27,6 +28,20 @@ module _ {A : Type 0} (test : A → Bool) where
       from zero false e rest before is at b_is = absurd (omega (arith, is))
       from (suc place) b e rest zero is at b_is = absurd (omega (arith, is))
       from (suc place) b e rest (suc before) is at b_is = rest before (e ∙ omega (arith, is)) at
+
+  -- there is an element at the place, and it passes
+  pub place-some : (xs : List A) (n : ℕ) → last_place test xs ≡ suc n → IsSomeAnd (slice_get xs n) (λ x. IsTrue (test x))
+  place-some [] n e = absurd (omega (arith, e))
+  place-some (x ∷ xs) n e = at (last_place test xs) (test x) refl (λ k is. place-some xs k is) n e
+    where
+      at : (place : ℕ) (front : Bool) → test x ≡ front
+          → ((k : ℕ) → place ≡ suc k → IsSomeAnd (slice_get xs k) (λ y. IsTrue (test y)))
+          → (n : ℕ) → with_front front place ≡ suc n → IsSomeAnd (slice_get (x ∷ xs) n) (λ y. IsTrue (test y))
+      at zero true passes rest zero e = passes
+      at zero true passes rest (suc n) e = absurd (omega (arith, e))
+      at zero false passes rest n e = absurd (omega (arith, e))
+      at (suc k) front passes rest zero e = absurd (omega (arith, e))
+      at (suc k) front passes rest (suc n) e = rest n (omega (arith, e))
 
   -- and none after it does
   pub none-after : (xs : List A) (place : ℕ) (x : A) → last_place test xs ≤ place → slice_get xs place ≡ Some x → test x ≡ false

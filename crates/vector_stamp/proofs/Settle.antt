@@ -1,6 +1,6 @@
 -- Earlier events are put before a later one.
 -- Used by `no_cycle_arises` and `settling_puts_all_before`.
-use Rattle.std.proofs.Common.{◌≡◌, ℕ, zero, suc, ◌+◌, ◌<◌, ◌≤◌, Bool, true, false, cond, nat_lt, List, [], ◌∷◌, ◌++◌, length, map, Contains, IsTrue, ◌⊎◌, inl, inr, refl, sym, ap, subst, ◌∙◌, add-zero, None, Some, slice_get, slice_index, arith}
+use Rattle.std.proofs.Common.{◌≡◌, ℕ, zero, suc, ◌+◌, ◌<◌, Bool, true, false, cond, List, [], ◌∷◌, ◌++◌, length, Contains, IsTrue, inl, inr, refl, sym, ap, subst, ◌∙◌, add-zero, None, Some, slice_get, slice_index, arith}
 use Rattle.std.proofs.lemmas.Bool.{cases_Bool, cases_lt, both_ways, lt-ltb, cond-true, cond-false, and_from, not_from_false, false_from_ne_true}
 use Rattle.std.proofs.lemmas.List.{append_assoc, append-nil}
 use Rattle.std.proofs.lemmas.List.Elements.{Contains-get_or}
@@ -9,12 +9,12 @@ use Rattle.std.proofs.lemmas.Option.{none-some, slice_get_within, get_or_from_sl
 use Rattle.std.specs.List.{position_or_len}
 use Rattle.std.specs.List.Sorted.{IsStrictlyIncreasing}
 use Rattle.vector_stamp.specs.declared.clock.Stamp.{Stamp}
-use Rattle.vector_stamp.specs.Order.{same_stamp, stamp_before, unordered}
+use Rattle.vector_stamp.specs.Order.{stamp_before, unordered}
 use Rattle.vector_stamp.specs.Precedence.{GivenPair, precedes, IsAcyclic}
 use Rattle.vector_stamp.specs.Settling.{refused_place, additions_from, places_of, pairs_of}
-use Rattle.vector_stamp.proofs.Orders.{same_stamp-is}
 use Rattle.vector_stamp.proofs.Pairs.{precedes_append, push_read, pushed_precedes, no_way_back, acyclic_push}
-use Rattle.vector_stamp.proofs.Closure.{contained_read, contained_head, contained_tail, precedes_stamps}
+use Rattle.weave_data.proofs.Members.{has_head, has_read, has_tail}
+use Rattle.vector_stamp.proofs.Closure.{precedes_stamps}
 
 -- the pairs after all of them were put
 abbrev pub pairs_after : ℕ → List GivenPair → List Stamp → Stamp → List GivenPair
@@ -65,11 +65,11 @@ pub after_precedes : (place : ℕ) (pairs : List GivenPair) (events : List Stamp
 after_precedes place pairs [] later event h = absurd (omega (arith, h.1))
 after_precedes place pairs (first ∷ events) later event h =
     elim (cases_Bool (precedes pairs first later)) [
-      | inl before ↦ rw (after-settled place pairs first events later before) (elim (contained_read first events event h) [
+      | inl before ↦ rw (after-settled place pairs first events later before) (elim (has_read first events event h) [
         | inl here ↦ subst (λ x. IsTrue (precedes (pairs_after (suc place) pairs events later) x later)) here (precedes_append pairs (pairs_of (additions_from (suc place) pairs events later) later) first later before)
         | inr there ↦ after_precedes (suc place) pairs events later event there
       ])
-      | inr put ↦ rw (after-put place pairs first events later put) (elim (contained_read first events event h) [
+      | inr put ↦ rw (after-put place pairs first events later put) (elim (has_read first events event h) [
         | inl here ↦ subst (λ x. IsTrue (precedes (pairs_after (suc place) (pairs ++ (first, later) ∷ []) events later) x later)) here (precedes_append (pairs ++ (first, later) ∷ []) (pairs_of (additions_from (suc place) (pairs ++ (first, later) ∷ []) events later) later) first later (pushed_precedes pairs first later))
         | inr there ↦ after_precedes (suc place) (pairs ++ (first, later) ∷ []) events later event there
       ])
@@ -91,8 +91,8 @@ permitted_push pairs first later event other permitted still h =
 pub acyclic_after : (place : ℕ) (pairs : List GivenPair) (events : List Stamp) (later : Stamp) → IsAcyclic pairs → IsPermitted pairs events later → IsAcyclic (pairs_after place pairs events later)
 acyclic_after place pairs [] later none permitted = rw append-nil none
 acyclic_after place pairs (first ∷ events) later none permitted =
-    let head = permitted first (contained_head first events) in
-    let tail : IsPermitted pairs events later = λ event h. permitted event (contained_tail first events event h) in
+    let head = permitted first (has_head first events) in
+    let tail : IsPermitted pairs events later = λ event h. permitted event (has_tail first events event h) in
     elim (cases_Bool (precedes pairs first later)) [
       | inl before ↦ rw (after-settled place pairs first events later before) (acyclic_after (suc place) pairs events later none tail)
       | inr put ↦ rw (after-put place pairs first events later put) (acyclic_after (suc place) (pairs ++ (first, later) ∷ []) events later (acyclic_push pairs first later none head.0 head.1) (λ event h. ((tail event h).0, permitted_push pairs first later event head.0 head.1 (tail event h).1)))
@@ -102,8 +102,8 @@ acyclic_after place pairs (first ∷ events) later none permitted =
 pub permitted_after : (place : ℕ) (pairs : List GivenPair) (events : List Stamp) (later event : Stamp) → IsPermitted pairs events later → ¬ IsTrue (precedes pairs later event) → ¬ IsTrue (precedes (pairs_after place pairs events later) later event)
 permitted_after place pairs [] later event permitted still = rw append-nil still
 permitted_after place pairs (first ∷ events) later event permitted still =
-    let head = permitted first (contained_head first events) in
-    let tail : IsPermitted pairs events later = λ other h. permitted other (contained_tail first events other h) in
+    let head = permitted first (has_head first events) in
+    let tail : IsPermitted pairs events later = λ other h. permitted other (has_tail first events other h) in
     elim (cases_Bool (precedes pairs first later)) [
       | inl before ↦ rw (after-settled place pairs first events later before) (permitted_after (suc place) pairs events later event tail still)
       | inr put ↦ rw (after-put place pairs first events later put) (permitted_after (suc place) (pairs ++ (first, later) ∷ []) events later event (λ other h. ((tail other h).0, permitted_push pairs first later other head.0 head.1 (tail other h).1)) (permitted_push pairs first later event head.0 head.1 still))
@@ -126,7 +126,7 @@ additions_read place pairs (first ∷ events) later put h =
       | inl before ↦
           let rest = additions_read (suc place) pairs events later put (subst (λ es. Contains es put) (additions-there place pairs first events later before) h) in
           (suc rest.0, (let e = rest.1 in omega arith), rest.2)
-      | inr now ↦ elim (contained_read (place, first) (additions_from (suc place) (pairs ++ (first, later) ∷ []) events later) put (subst (λ es. Contains es put) (additions-put place pairs first events later now) h)) [
+      | inr now ↦ elim (has_read (place, first) (additions_from (suc place) (pairs ++ (first, later) ∷ []) events later) put (subst (λ es. Contains es put) (additions-put place pairs first events later now) h)) [
         | inl here ↦ (0, (let e : place ≡ put.0 = ap (λ (p : ℕ × Stamp). p.0) here in omega arith), ap (λ (p : ℕ × Stamp). Some p.1) here)
         | inr there ↦
             let rest = additions_read (suc place) (pairs ++ (first, later) ∷ []) events later put there in
@@ -138,9 +138,9 @@ additions_read place pairs (first ∷ events) later put h =
 pub pairs_read : (events : List (ℕ × Stamp)) (later a b : Stamp) → Contains (pairs_of events later) (a, b) → (place : ℕ) × Contains events (place, a) × (b ≡ later)
 pairs_read [] later a b h = absurd (omega (arith, h.1))
 pairs_read (event ∷ events) later a b h =
-    elim (contained_read (event.1, later) (pairs_of events later) (a, b) h) [
-      | inl here ↦ (event.0, subst (λ x. Contains (event ∷ events) (event.0, x)) (ap (λ (p : GivenPair). p.0) here) (contained_head event events), sym (ap (λ (p : GivenPair). p.1) here))
-      | inr there ↦ let rest = pairs_read events later a b there in (rest.0, contained_tail event events (rest.0, a) rest.1, rest.2)
+    elim (has_read (event.1, later) (pairs_of events later) (a, b) h) [
+      | inl here ↦ (event.0, subst (λ x. Contains (event ∷ events) (event.0, x)) (ap (λ (p : GivenPair). p.0) here) (has_head event events), sym (ap (λ (p : GivenPair). p.1) here))
+      | inr there ↦ let rest = pairs_read events later a b there in (rest.0, has_tail event events (rest.0, a) rest.1, rest.2)
     ]
 
 contained_at : (events : List Stamp) (k : ℕ) (event : Stamp) → slice_get events k ≡ Some event → Contains events event
@@ -161,9 +161,9 @@ rising_cons n ns above rising (suc k) h = let e : suc k + 1 ≡ suc (k + 1) = om
 places_read : (events : List (ℕ × Stamp)) (n : ℕ) → Contains (places_of events) n → (event : Stamp) × Contains events (n, event)
 places_read [] n h = absurd (omega (arith, h.1))
 places_read (event ∷ events) n h =
-    elim (contained_read event.0 (places_of events) n h) [
-      | inl here ↦ (event.1, subst (λ x. Contains (event ∷ events) (x, event.1)) here (contained_head event events))
-      | inr there ↦ let rest = places_read events n there in (rest.0, contained_tail event events (n, rest.0) rest.1)
+    elim (has_read event.0 (places_of events) n h) [
+      | inl here ↦ (event.1, subst (λ x. Contains (event ∷ events) (x, event.1)) here (has_head event events))
+      | inr there ↦ let rest = places_read events n there in (rest.0, has_tail event events (n, rest.0) rest.1)
     ]
 
 above_place : (place : ℕ) (pairs : List GivenPair) (events : List Stamp) (later : Stamp) (m : ℕ) → Contains (places_of (additions_from (suc place) pairs events later)) m → place < m
@@ -191,7 +191,7 @@ not-before place pairs (event ∷ events) later a b h t = at (precedes pairs eve
   where
     at : (x : Bool) → precedes pairs event later ≡ x → Contains (pairs_of (cond x (additions_from (suc place) pairs events later) ((place, event) ∷ additions_from (suc place) (pairs ++ (event, later) ∷ []) events later)) later) (a, b) → ((more : List GivenPair) → Contains (pairs_of (additions_from (suc place) more events later) later) (a, b) → ⊥) → ⊥
     at true e g rest = rest pairs g
-    at false e g rest = elim (contained_read (event, later) _ (a, b) g) [
+    at false e g rest = elim (has_read (event, later) _ (a, b) g) [
       | inl same ↦ (let first : event ≡ a = ap (λ (q : GivenPair). q.0) same in let second : later ≡ b = ap (λ (q : GivenPair). q.1) same in
           both_ways _ e (precedes_stamps pairs event later (subst (λ s. IsTrue (stamp_before s later)) (sym first) (subst (λ s. IsTrue (stamp_before a s)) (sym second) t))))
       | inr more ↦ rest (pairs ++ (event, later) ∷ []) more

@@ -1,6 +1,6 @@
 -- A chain's invariant, and its versions, after each change.
 -- Used by `apply_update`, `drop_older`, `parts` and `take_back`.
-use Rattle.std.proofs.Common.{◌≡◌, ◌≤◌, ◌<◌, ◌+◌, ◌-◌, ◌^◌, ◌==◌, ℕ, zero, suc, Bool, true, false, ◌&&◌, cond, List, [], ◌∷◌, ◌++◌, take, drop, length, Option, Some, None, IsSome, Result, Ok, Err, OnErr, IsTrue, refl, sym, ap, subst, ◌∙◌, arith}
+use Rattle.std.proofs.Common.{◌≡◌, ◌≤◌, ◌<◌, ◌+◌, ◌-◌, ◌^◌, ◌==◌, ℕ, zero, suc, Bool, true, false, ◌&&◌, cond, List, [], ◌∷◌, ◌++◌, take, drop, length, Option, Some, None, IsSome, IsTrue, refl, sym, ap, subst, ◌∙◌, arith}
 use Rattle.std.specs.Prelude.{nat_le, pred}
 use Rattle.std.specs.Option.{option_to_list}
 use Rattle.std.proofs.lemmas.Bool.{le-leb, lt-leb, leb-true, eqb-true, eq-eqb, ne_eqb}
@@ -351,8 +351,3 @@ module _ (dropped : ℕ) (lists : Lists) (stamps : List Stamp) (chain : ChainVie
 pub one_popped : (o : Option Stamp) → IsSome o → length (option_to_list o) ≡ 1
 one_popped None some = absurd cc
 one_popped (Some stamp) some = refl
-
--- a fact that is known, after an error
-pub err_known : {A E : Type 0} (result : Result A E) (P : Type 0) → P → OnErr result P
-err_known (Ok value) P known = tt
-err_known (Err error) P known = known

@@ -1,12 +1,13 @@
 -- What a collection leaves: no view changes for a program whose clock the bound is at most.
 -- Used by `collections_leave_views` and Changed.
-use Rattle.std.proofs.Common.{◌≡◌, ℕ, zero, suc, ◌+◌, ◌-◌, ◌<◌, ◌≤◌, Bool, true, false, not, List, [], ◌∷◌, ◌++◌, take, drop, length, slice_get, IsTrue, ◌⊎◌, inl, inr, Option, None, Some, refl, sym, ap, subst, ◌∙◌, arith}
+use Rattle.std.proofs.Common.{◌≡◌, ℕ, zero, suc, ◌+◌, ◌-◌, ◌<◌, ◌≤◌, Bool, not, List, [], ◌∷◌, ◌++◌, take, drop, length, slice_get, IsTrue, ◌⊎◌, inl, inr, None, refl, sym, ap, subst, ◌∙◌, arith}
 use Rattle.std.specs.Prelude.{pred, fold}
 use Rattle.std.specs.List.{list_any}
 use Rattle.std.specs.Option.{IsSomeAnd}
 use Rattle.std.proofs.lemmas.Bool.{cases_lt, or_left}
 use Rattle.std.proofs.lemmas.List.{drop-map, drop-take, take-append-drop, length-take, length-drop, length-map}
 use Rattle.std.proofs.lemmas.List.Sums.{fold-append}
+use Rattle.weave_data.proofs.Options.{some-weaker}
 use Rattle.graph_ops.specs.Operations.{State}
 use Rattle.vector_stamp.specs.declared.clock.Clock.{Clock}
 use Rattle.vector_stamp.specs.declared.clock.Stamp.{Stamp}
@@ -14,7 +15,7 @@ use Rattle.vector_stamp.specs.Order.{is_before, is_at_most, stamp_before}
 use Rattle.vector_stamp.specs.Precedence.{GivenPair, precedes}
 use Rattle.vector_stamp.specs.Seeing.{with_front, last_place, is_seen, seen_of, last_seen}
 use Rattle.vector_stamp.proofs.LastPlaces.{front-first, last-dropped, place-drop}
-use Rattle.vector_stamp.proofs.Seen.{place-within}
+use Rattle.vector_stamp.proofs.Seen.{place-within, place-some}
 use Rattle.version_chain.specs.declared.version.Version.{Version}
 use Rattle.version_chain.specs.Chains.{ChainView, update_count, stamps_of_versions, newest_state}
 use Rattle.version_chain.specs.Views.{kept_seen, view_of, ReachesBack}
@@ -27,20 +28,6 @@ front-past front zero k below = absurd (omega (arith, below))
 front-past front (suc place) k below = omega (arith, below)
 
 module _ {A : Type 0} (test : A → Bool) where
-  -- if the last place of those that pass is some place, the element there passes
-  pub place-passes : (xs : List A) (n : ℕ) → last_place test xs ≡ suc n → IsSomeAnd (slice_get xs n) (λ x. IsTrue (test x))
-  place-passes [] n e = absurd (omega (arith, e))
-  place-passes (x ∷ xs) n e = at (last_place test xs) (test x) refl (λ k is. place-passes xs k is) n e
-    where
-      at : (place : ℕ) (front : Bool) → test x ≡ front
-          → ((k : ℕ) → place ≡ suc k → IsSomeAnd (slice_get xs k) (λ y. IsTrue (test y)))
-          → (n : ℕ) → with_front front place ≡ suc n → IsSomeAnd (slice_get (x ∷ xs) n) (λ y. IsTrue (test y))
-      at zero true passes rest zero e = passes
-      at zero true passes rest (suc n) e = absurd (omega (arith, e))
-      at zero false passes rest n e = absurd (omega (arith, e))
-      at (suc k) front passes rest zero e = absurd (omega (arith, e))
-      at (suc k) front passes rest (suc n) e = rest n (omega (arith, e))
-
   -- no element that passes is past the last place
   pub place-past : (xs : List A) (k : ℕ) → IsSomeAnd (slice_get xs k) (λ x. IsTrue (test x)) → k < last_place test xs
   place-past [] k passes = absurd passes
@@ -51,10 +38,6 @@ module _ {A : Type 0} (test : A → Bool) where
 newest-some : (state : State) (versions : List Version) → 1 ≤ length versions → fold (λ (before : State) (version : Version). version.state) state versions ≡ newest_state versions
 newest-some state [] some = absurd (omega (arith, some))
 newest-some state (version ∷ versions) some = refl
-
-some-weaker : {A : Type 0} (P Q : A → Type 0) (found : Option A) → ((x : A) → P x → Q x) → IsSomeAnd found P → IsSomeAnd found Q
-some-weaker P Q None weaker holds = holds
-some-weaker P Q (Some x) weaker holds = weaker x holds
 
 stamp-there : (P : Stamp → Type 0) (versions : List Version) (n : ℕ) → IsSomeAnd (slice_get versions n) (λ version. P version.stamp) → IsSomeAnd (slice_get (stamps_of_versions versions) n) P
 stamp-there P [] n holds = holds
@@ -113,7 +96,7 @@ module _ (bound : Clock) (chain : ChainView) where
         by (suc place) is some =
             stamp-there (λ oldest. IsTrue (stamp_before oldest program)) chain.kept place
             (some-weaker (λ version. IsTrue (before version)) (λ version. IsTrue (stamp_before version.stamp program)) (slice_get chain.kept place)
-            (λ version is_older. ordered version.stamp.clock bound program.clock is_older below) (place-passes before chain.kept place is))
+            (λ version is_older. ordered version.stamp.clock bound program.clock is_older below) (place-some before chain.kept place is))
 
     -- and so what is kept reaches back far enough
     pub still-reaches : ReachesBack program chain ⊎ (chain.dropped < chain.dropped + older) → ReachesBack program (collected_chain bound chain)

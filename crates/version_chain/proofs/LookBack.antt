@@ -10,7 +10,9 @@ use Rattle.std.specs.Option.{IsSomeAnd}
 use Rattle.std.specs.declared.alloc.AllocError.{AllocError}
 use Rattle.std.proofs.lemmas.List.Sums.{fold-append}
 use Rattle.std.proofs.lemmas.List.Elements.{Contains-append_left, Contains-append_right}
+use mathlib.Core.List.{IsPrefix}
 use Rattle.weave_data.proofs.Members.{has_none, has_read, has_head, has_tail, has_last, has_map, any_from}
+use Rattle.weave_data.proofs.Lists.{length-step}
 use Rattle.vector_stamp.specs.declared.clock.Stamp.{Stamp}
 use Rattle.vector_stamp.specs.Order.{stamp_before, unordered}
 use Rattle.vector_stamp.specs.Coherence.{AreCoherent}
@@ -20,7 +22,7 @@ use Rattle.vector_stamp.specs.Seeing.{with_front, last_place, is_seen, seen_of, 
 use Rattle.version_chain.specs.declared.version.Version.{Version}
 use Rattle.version_chain.specs.Chains.{ChainView, stamps_of_versions, newest_state}
 use Rattle.version_chain.specs.Views.{has_unordered, read_update, view_of, ReachesBack}
-use Rattle.version_chain.specs.Looks.{IsFront, LearnsOnly, read_of}
+use Rattle.version_chain.specs.Looks.{LearnsOnly, read_of}
 use Rattle.version_chain.specs.declared.view.View.{View}
 use Rattle.version_chain.specs.declared.view.Seen.{Seen}
 
@@ -48,10 +50,6 @@ pub take-front : {A : Type 0} (xs ys : List A) → take (length xs) (xs ++ ys) �
 take-front [] ys = refl
 take-front (x ∷ xs) ys = ap (λ zs. x ∷ zs) (take-front xs ys)
 
-length-last : {A : Type 0} (xs : List A) (x : A) → length (xs ++ x ∷ []) ≡ suc (length xs)
-length-last [] x = refl
-length-last (y ∷ xs) x = ap suc (length-last xs x)
-
 length-stamps : (versions : List Version) → length (stamps_of_versions versions) ≡ length versions
 length-stamps [] = refl
 length-stamps (version ∷ versions) = ap suc (length-stamps versions)
@@ -61,9 +59,9 @@ pub some_of : (b : Bool) (seen first : Seen) → Some seen ≡ cond b (Some firs
 some_of true seen first is = (refl, cc)
 some_of false seen first is = absurd cc
 
-module _ (versions rest older : List Version) (newest : Version) (front : IsFront rest versions) (split : rest ≡ older ++ newest ∷ []) where
+module _ (versions rest older : List Version) (newest : Version) (front : IsPrefix rest versions) (split : rest ≡ older ++ newest ∷ []) where
   whole : versions ≡ (older ++ newest ∷ []) ++ front.0
-  whole = front.1 ∙ ap (λ (vs : List Version). vs ++ front.0) split
+  whole = sym front.1 ∙ ap (λ (vs : List Version). vs ++ front.0) split
 
   -- the stamp of the version that is looked at is one of those of the versions
   pub newest_stamp-in : Contains (stamps_of_versions versions) newest.stamp
@@ -79,8 +77,8 @@ module _ (versions rest older : List Version) (newest : Version) (front : IsFron
   ]
 
   -- the versions before the one that is looked at begin the versions
-  pub older-front : IsFront older versions
-  older-front = (newest ∷ front.0, whole ∙ append_assoc older (newest ∷ []) front.0)
+  pub older-front : IsPrefix older versions
+  older-front = (newest ∷ front.0, sym (whole ∙ append_assoc older (newest ∷ []) front.0))
 
   -- program, this version and what the judge knows are still coherent, if it learned only of program and versions
   pub one_coherent : (part : (stamps others : List Stamp) → AreCoherent others → ((stamp : Stamp) → Contains stamps stamp → Contains others stamp) → AreCoherent stamps) (program : Stamp) (old now : List Stamp) → LearnsOnly (program ∷ stamps_of_versions versions) old now → AreCoherent (program ∷ stamps_of_versions versions ++ old) → AreCoherent (program ∷ newest.stamp ∷ now)
@@ -144,9 +142,9 @@ module _ (versions rest older : List Version) (newest : Version) (front : IsFron
     pub view_is : (seen : Seen) → Some seen ≡ cond (is_seen pairs program newest.stamp) (Some seen_version) None → (dropped : ℕ) → record { state = seen.state; updates = dropped + length rest; settled = seen.settled } ≡ view_of pairs program (record { dropped = dropped; kept = versions })
     view_is seen is dropped =
         let both = some_of (is_seen pairs program newest.stamp) seen seen_version is in
-        let count : length rest ≡ suc (length older) = ap length split ∙ length-last older newest in
+        let count : length rest ≡ suc (length older) = ap length split ∙ length-step older newest in
         let at : seen_of pairs program (stamps_of_versions versions) ≡ suc (length older) = seen_here both.0 in
-        let taken : take (suc (length older)) versions ≡ older ++ newest ∷ [] = ap (λ (n : ℕ). take n versions) (sym (length-last older newest)) ∙ ap (take (length (older ++ newest ∷ []))) whole ∙ take-front (older ++ newest ∷ []) front.0 in
+        let taken : take (suc (length older)) versions ≡ older ++ newest ∷ [] = ap (λ (n : ℕ). take n versions) (sym (length-step older newest)) ∙ ap (take (length (older ++ newest ∷ []))) whole ∙ take-front (older ++ newest ∷ []) front.0 in
         let state_is : seen.state ≡ newest_state (take (seen_of pairs program (stamps_of_versions versions)) versions) = ap (λ (s : Seen). s.state) both.1 ∙ sym newest_is ∙ ap newest_state (sym taken) ∙ ap (λ (n : ℕ). newest_state (take n versions)) (sym at) in
         let settled_is : seen.settled ≡ list_any (λ update. not (precedes pairs update program)) (last_seen (seen_of pairs program (stamps_of_versions versions)) (stamps_of_versions versions)) = ap (λ (s : Seen). s.settled) both.1 ∙ sym (or-false (not (precedes pairs newest.stamp program))) ∙ ap (list_any (λ update. not (precedes pairs update program))) (sym (read_here both.0)) in
         let updates_is : dropped + length rest ≡ dropped + seen_of pairs program (stamps_of_versions versions) = ap (λ (n : ℕ). dropped + n) (count ∙ sym at) in

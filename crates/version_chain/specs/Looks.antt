@@ -1,5 +1,5 @@
 -- One step of a visit, for proofs: no public contract cites this.
-use Rattle.std.specs.Prelude.{◌≡◌, ◌⊎◌, List, [], ◌∷◌, ◌++◌, Contains, Option, Some, None}
+use Rattle.std.specs.Prelude.{◌⊎◌, List, [], ◌∷◌, Contains, Option, Some, None}
 use Rattle.vector_stamp.specs.declared.clock.Stamp.{Stamp}
 use Rattle.version_chain.specs.declared.view.Seen.{Seen}
 
@@ -7,10 +7,6 @@ use Rattle.version_chain.specs.declared.view.Seen.{Seen}
 abbrev pub read_of : Option Seen → Stamp → List Stamp
 read_of None update = []
 read_of (Some seen) update = update ∷ []
-
--- the first list begins the second
-abbrev pub IsFront : {A : Type 0} → List A → List A → Type 0
-IsFront {A} front whole = (gone : List A) × (whole ≡ front ++ gone)
 
 -- each of these stamps was known before, or was handed in
 abbrev pub LearnsOnly : List Stamp → List Stamp → List Stamp → Type 0

@@ -1,7 +1,7 @@
 -- Chains in a table: what it has at each vertex, after a part was applied or taken back.
 -- Used by `apply_all`, `apply_parts`, `chain`, `make_place`, `new`, `take_all_back`, `update` and Collecting.
 use Rattle.std.proofs.Common.{◌≡◌, ◌≢◌, ℕ, suc, ◌+◌, ◌<◌, Bool, true, false, cond, List, [], ◌∷◌, ◌++◌, length, take, get_or, All, Option, None, Some, is_some, inl, inr, refl, sym, ap, subst, ◌∙◌, arith}
-use Rattle.std.specs.Prelude.{◌==◌, AllPairs, Result, Ok, Err, OnOk, OnErr}
+use Rattle.std.specs.Prelude.{◌==◌, AllPairs}
 use Rattle.std.specs.FinMap as map
 use Rattle.std.specs.FinMap.{nat_cmp-IsAntisymmetric, slice_cmp-IsAntisymmetric, same_map, get-insert, get-remove, get-empty}
 use Rattle.std.specs.Cmp.Lexicographic.{nat_list_cmp_total}
@@ -16,7 +16,7 @@ use Rattle.weave_data.specs.Names.{name_cmp, same_name, one_name}
 use Rattle.weave_data.specs.declared.name.Name.{Name}
 use Rattle.graph_ops.specs.declared.part.Part.{Part}
 use Rattle.graph_ops.proofs.States.{here_or_else}
-use Rattle.graph_ops.proofs.Vertices.{itself}
+use Rattle.graph_ops.proofs.Vertices.{same_name-refl}
 use Rattle.vector_stamp.specs.declared.clock.Stamp.{Stamp}
 use Rattle.version_chain.specs.declared.version.Version.{Version}
 use Rattle.version_chain.specs.Chains.{ChainView, no_updates, update_count, with_version, with_update, next_version, IsNextUpdate, KeepsOne}
@@ -188,7 +188,7 @@ module _ (stamp : Stamp) (rest earlier : List Part) (last : Part) (before now : 
   last_is = applied_last last.vertex ∙ ap
       (λ (b : Bool). cond b (Some (with_update stamp last.ops
       (chain_or_new (after_parts stamp last.vertex (chain_at last.vertex before) earlier))))
-      (after_parts stamp last.vertex (chain_at last.vertex before) earlier)) (itself last.vertex)
+      (after_parts stamp last.vertex (chain_at last.vertex before) earlier)) (same_name-refl last.vertex)
 
   -- the newest update of that vertex can be taken back
   pub last_newest : HasNewest (chain_at last.vertex now)
@@ -245,16 +245,6 @@ seen_none table empty v = get_held table v ∙ ap (chain_at v) empty
 pub applied_graph : (stamp : Stamp) (parts : List Part) (before after : List (Name × ChainView)) (chains next : Chains) → chains_held before ≡ chains → chains_held after ≡ next → ((v : Name) → chain_at v after ≡ after_parts stamp v (chain_at v before) parts) → (v : Name) → chain_of next v ≡ after_parts stamp v (chain_of chains v) parts
 applied_graph stamp parts before after chains next view view_next applied v =
     sym (seen_at after next view_next v) ∙ applied v ∙ ap (λ (c : Option ChainView). after_parts stamp v c parts) (seen_at before chains view v)
-
--- what follows from what holds after success holds after success
-pub if_ok : {A E : Type 0} (result : Result A E) (P Q : Type 0) → (P → Q) → OnOk result P → OnOk result Q
-if_ok (Ok x) P Q on h = on h
-if_ok (Err e) P Q on h = tt
-
--- what follows from what holds after an error holds after an error
-pub if_err : {A E : Type 0} (result : Result A E) (P Q : Type 0) → (P → Q) → OnErr result P → OnErr result Q
-if_err (Ok x) P Q on h = tt
-if_err (Err e) P Q on h = on h
 
 -- the next part is the next update of its vertex, since the parts before it are of others
 pub next_here : (stamp : Stamp) (parts : List Part) (n : ℕ) (part : Part) (before now : List (Name × ChainView)) → part ≡ get_or parts n part → n < length parts → AllPairs (λ (one other : Part). one.vertex ≢ other.vertex) parts

@@ -8,7 +8,7 @@ use Rattle.weave_data.specs.declared.name.Name.{Name}
 use Rattle.graph_ops.specs.declared.op.Op.{Op}
 use Rattle.graph_ops.specs.declared.op.Op.TheVariants.{Create}
 use Rattle.graph_ops.specs.declared.part.Part.{Part}
-use Rattle.graph_ops.proofs.Vertices.{itself}
+use Rattle.graph_ops.proofs.Vertices.{same_name-refl}
 use Rattle.version_chain.specs.Chains.{ChainView, no_updates, IsNextUpdate}
 use Rattle.version_graph.specs.Graphs.{Chains, chain_of, chain_or_new, AreNextUpdates}
 
@@ -21,7 +21,7 @@ pub record Makes (part : Part) (v : Name) : Type 0 where
 differ : (a b : Name) (p q : Part) → Makes p a → Makes q b → same_name a b ≡ false → p.vertex ≢ q.vertex
 differ a b p q makes other apart same =
     let names : a ≡ b = sym makes.vertex ∙ same ∙ other.vertex in
-    let is : same_name a b ≡ true = ap (same_name a) (sym names) ∙ itself a in
+    let is : same_name a b ≡ true = ap (same_name a) (sym names) ∙ same_name-refl a in
     absurd cc
 
 first : (chains : Chains) (p : Part) (a : Name) → Makes p a → chain_of chains a ≡ None → IsNextUpdate (chain_or_new (chain_of chains p.vertex)) p.before p.ops

@@ -1,5 +1,5 @@
 -- What the lemmas on an account are given: the account, its script's limits, and the laws of the crates below.
--- Used by `account_has_one_report`, `account_is_right`, `account_may_be_ordered`, 59 more and crate drive_rules.
+-- Used by 63 functions, laws and files of this crate and of those above.
 use Rattle.vector_stamp.specs.Precedence.{IsAcyclic}
 use Rattle.program_defs.specs.declared.script.Script.{Script}
 use Rattle.weave_account.specs.declared.account.Account.{Account}

@@ -1,8 +1,8 @@
 -- A request that was begun has its stamp.
--- Used by BegunElsewhere, ConflictsClause, FinalReplies, Growing, InSession, KnownClocks, 9 more and 6 crates above.
+-- Used by BegunElsewhere, ConflictsClause, FinalReplies, Growing, InSession, KnownClocks, Meeting, OneReport,
+-- PhaseOrder, PhasePrecedence, PhasesKept, PlacedPairs, ReadingPlace, Storing, VisitedPairs and 7 crates above.
 use Rattle.std.proofs.Common.{◌≡◌, ◌≢◌, ℕ, zero, suc, List, [], ◌∷◌, ◌++◌, get_or, Contains, AllPairs, Some, ap}
 use Rattle.std.specs.Option.{option_map}
-use Rattle.std.proofs.lemmas.List.Elements.{Contains-append_left, Contains-append_right}
 use Rattle.weave_data.proofs.Members.{has_head, has_tail, has_none, has_flat}
 use Rattle.vector_stamp.specs.declared.clock.Stamp.{Stamp}
 use Rattle.weave_entries.specs.declared.gate_log.GateEntry.{GateEntry}

@@ -24,7 +24,7 @@ use Rattle.weave_entries.specs.declared.verdict.Verdict.TheVariants.{Committed, 
 use Rattle.weave_entries.specs.GateReplay.{BegunRequest}
 use Rattle.weave_entries.specs.Sending.{IsCountsOf, message_to, messages_of, shards_named}
 use Rattle.weave_entries.specs.ShardReplay.{Update, applied_messages, arrived_at, processed_of, updates_in, updates_of}
-use Rattle.weave_entries.specs.StoreReplay.{Commit, Judgement, count_naming, judged_by, judgements_of}
+use Rattle.weave_entries.specs.StoreReplay.{Commit, Judgement, judged_by, judgements_of}
 use Rattle.report_rules.specs.Lookups.{request_at}
 use Rattle.weave_account.specs.declared.account.Account.{Account}
 use Rattle.weave_account.specs.Account.{IsBegunStamp, all_begun, begun_stamps, gate_log, session_log, shard_log, stamp_of}
@@ -33,6 +33,7 @@ use Rattle.weave_account.specs.Store.{IsRightVerdict, Judges}
 use Rattle.weave_entries.specs.SessionReplay.{session_of}
 use Rattle.weave_entries.specs.StoreReplay.{commits_of}
 use Rattle.weave_entries.proofs.OwnStamps.{tx-begun}
+use Rattle.weave_entries.proofs.StoreLogs.{vertices-counted}
 use Rattle.weave_account.proofs.Basis.{Basis}
 use Rattle.weave_account.proofs.Beginning.{all-in}
 use Rattle.weave_account.proofs.Heads.{arrived-sent}
@@ -56,12 +57,6 @@ filter_map-from {A = A} {B = B} f (x ∷ xs) y h = at (f x) refl (filter_map-fro
           | inl same ↦ (x, e ∙ ap Some same)
           | inr more ↦ rest more
         ]
-
--- the vertices counted are those that were named
-vertices-counted : (commits : List Commit) (names : List Name)
-    → map (λ (c : Counted). c.vertex) (map (λ (v : Name). record { vertex = v; before = count_naming v commits }) names) ≡ names
-vertices-counted commits [] = refl
-vertices-counted commits (v ∷ names) = ap (λ vs. v ∷ vs) (vertices-counted commits names)
 
 module _ (script : Script) (account : Account) (basis : Basis script account) where
   -- the stamp of a request is that of its begin

@@ -2,7 +2,7 @@
 -- most the stamps of the programs that are running. It rests on what a hand can have seen, of which an account has
 -- all.
 -- Used by `accounts_were_seen`, `collections_leave_what_programs_see` and KnownClocks.
-use Rattle.std.proofs.Common.{◌≡◌, ℕ, zero, suc, ◌+◌, ◌<◌, max, Bool, true, false, List, [], ◌∷◌, ◌++◌, map, fold, drop, Contains, IsTrue, Option, Some, None, ◌⊎◌, inl, inr, refl, sym, ap, subst, ◌∙◌, append_assoc, arith}
+use Rattle.std.proofs.Common.{◌≡◌, ℕ, zero, suc, ◌+◌, ◌<◌, max, List, [], ◌∷◌, ◌++◌, map, fold, drop, Contains, IsTrue, Option, Some, None, ◌⊎◌, inl, inr, refl, sym, ap, subst, ◌∙◌, append_assoc, arith}
 use Rattle.std.specs.Prelude.{pred, slice_get, IsSomeAnd}
 use Rattle.std.specs.List.{range_with_len}
 use Rattle.std.specs.Option.{option_map}
@@ -17,7 +17,8 @@ use Rattle.vector_stamp.specs.declared.clock.Clock.{Clock}
 use Rattle.vector_stamp.specs.declared.clock.Stamp.{Stamp}
 use Rattle.vector_stamp.specs.Clocks.{meet_of}
 use Rattle.vector_stamp.specs.Order.{HasEightCounts, is_at_most, is_before, stamp_before}
-use Rattle.vector_stamp.specs.Seeing.{last_place, with_front}
+use Rattle.vector_stamp.specs.Seeing.{last_place}
+use Rattle.vector_stamp.proofs.Seen.{place-some}
 use Rattle.program_defs.specs.declared.script.Script.{Script}
 use Rattle.weave_entries.specs.declared.gate_log.GateEntry.{GateEntry}
 use Rattle.weave_entries.specs.declared.message.Addressed.{Addressed}
@@ -40,6 +41,7 @@ use Rattle.weave_account.proofs.Basis.{Basis}
 use Rattle.weave_account.proofs.Applying.{Takes, arrived-was-sent}
 use Rattle.weave_account.proofs.Heads.{seen-go-on}
 use Rattle.weave_data.proofs.Images.{flat-has, map-has, within-list}
+use Rattle.weave_data.proofs.Options.{some-weaker}
 use Rattle.weave_account.proofs.Requests.{in-range}
 use Rattle.weave_account.proofs.Ready.{has-range}
 
@@ -51,26 +53,6 @@ get-longer : {A : Type 0} (P : A → Type 0) (xs ys : List A) (i : ℕ) → IsSo
 get-longer P [] ys i h = absurd h
 get-longer P (x ∷ xs) ys zero h = h
 get-longer P (x ∷ xs) ys (suc i) h = get-longer P xs ys i h
-
--- what is there passes a weaker test
-some-weaker : {A : Type 0} (P Q : A → Type 0) (o : Option A) → ((x : A) → P x → Q x) → IsSomeAnd o P → IsSomeAnd o Q
-some-weaker P Q None weaker h = h
-some-weaker P Q (Some x) weaker h = weaker x h
-
--- the last element that passes is at its place
-last-at : {A : Type 0} (test : A → Bool) (xs : List A) (n : ℕ) → last_place test xs ≡ suc n
-    → IsSomeAnd (slice_get xs n) (λ x. IsTrue (test x))
-last-at test [] n e = cc
-last-at test (x ∷ xs) n e = at (last_place test xs) (test x) refl (λ k is. last-at test xs k is) n e
-  where
-    at : (place : ℕ) (front : Bool) → test x ≡ front
-        → ((k : ℕ) → place ≡ suc k → IsSomeAnd (slice_get xs k) (λ y. IsTrue (test y)))
-        → (n : ℕ) → with_front front place ≡ suc n → IsSomeAnd (slice_get (x ∷ xs) n) (λ y. IsTrue (test y))
-    at zero true passes rest zero e = passes
-    at zero true passes rest (suc n) e = absurd (omega (arith, e))
-    at zero false passes rest n e = absurd (omega (arith, e))
-    at (suc k) front passes rest zero e = absurd (omega (arith, e))
-    at (suc k) front passes rest (suc n) e = rest n (omega (arith, e))
 
 -- Dropping
 
@@ -86,7 +68,7 @@ newest-before bound updates some = at (last_place (λ (u : Update). is_before u.
     at : (place : ℕ) → last_place (λ (u : Update). is_before u.stamp.clock bound) updates ≡ place → 0 < pred place
         → IsSomeAnd (slice_get updates (pred place)) (IsOlder bound)
     at zero is some = absurd (omega (arith, some))
-    at (suc n) is some = last-at (λ (u : Update). is_before u.stamp.clock bound) updates n is
+    at (suc n) is some = place-some (λ (u : Update). is_before u.stamp.clock bound) updates n is
 
 -- what is dropped after one more entry
 dropped-push : (v : Name) (before log : List ShardEntry) (entry : ShardEntry) (n : ℕ)

@@ -1,6 +1,7 @@
 -- The clause on conflicts: the newer request was judged before, names the vertex, and is preceded. It rests on the
 -- clause on the store.
--- Used by FormOfScript, Growing, NumbersClause, PairsClause, PhasesKept, PlacedPairs, RefusalsClause and 2 more.
+-- Used by FormOfScript, Growing, NumbersClause, PairsClause, PhasesKept, PlacedPairs, RefusalsClause, Requests and
+-- RightReport.
 use Rattle.std.proofs.Common.{◌≡◌, ℕ, ◌<◌, List, [], ◌∷◌, ◌++◌, Contains, AllPairs, IsTrue, Option, Some, None, inl, inr, refl, sym, ap, subst, ◌∙◌}
 use Rattle.std.specs.Prelude.{IsSomeAnd, reverse, ⊤, is_some}
 use Rattle.std.proofs.lemmas.Bool.{and_from}
@@ -9,7 +10,7 @@ use Rattle.std.proofs.lemmas.List.Concat.{flat_map-append}
 use Rattle.std.proofs.lemmas.List.Elements.{Contains-append_left, Contains-append_cases}
 use Rattle.weave_data.proofs.Members.{has_read, has_head, has_tail, has_none, find_has, has_map}
 use Rattle.vector_stamp.specs.declared.clock.Stamp.{Stamp}
-use Rattle.vector_stamp.specs.Precedence.{Precedes, ByStamps}
+use Rattle.vector_stamp.specs.Precedence.{ByStamps}
 use Rattle.weave_data.specs.declared.name.Name.{Name}
 use Rattle.graph_ops.specs.declared.tx.Got.{Got}
 use Rattle.program_defs.specs.declared.script.Request.{Request}
@@ -27,9 +28,9 @@ use Rattle.report_rules.specs.declared.report.ReplyState.TheVariants.{Unbegun, B
 use Rattle.report_rules.specs.declared.report.Report.{Report}
 use Rattle.weave_data.specs.Facts.{AllHold}
 use Rattle.report_rules.specs.RightReport.{IsConflictInPlace, conflicts_clause}
-use Rattle.report_rules.specs.Lookups.{is_some_and, AreBoth, request_at, same_session, request_names_vertex, committed_number, is_committed}
+use Rattle.report_rules.specs.Lookups.{is_some_and, request_at, same_session, request_names_vertex, committed_number, is_committed}
 use Rattle.weave_account.specs.declared.account.Account.{Account}
-use Rattle.weave_account.specs.Account.{stamp_of, pairs_in, commits_in, Precedence}
+use Rattle.weave_account.specs.Account.{stamp_of, commits_in}
 use Rattle.weave_account.specs.Store.{Conflicts, IsRightVerdict, InTurn}
 use Rattle.weave_account.specs.Report.{state_by_verdict, state_of_tx, IsStateOfProgram, IsStateOf, IsReportOfAccount}
 use Rattle.weave_account.proofs.Beginning.{tx-stamp}
@@ -39,7 +40,7 @@ use Rattle.weave_data.proofs.Ordered.{pairs_across}
 use Rattle.weave_data.proofs.Images.{flat-has}
 use Rattle.weave_data.proofs.Numbers.{in-has}
 use Rattle.weave_data.proofs.ListPlaces.{each-holds, not-true}
-use Rattle.weave_account.proofs.Ordering.{RequestBefore, not-both}
+use Rattle.weave_account.proofs.Ordering.{RequestBefore, not-both, by-stamps}
 use Rattle.weave_account.proofs.Printing.{order-has}
 use Rattle.weave_account.proofs.Storing.{requests_of_commits, commit-of, work-named}
 use Rattle.weave_account.proofs.Replies.{same-precedence, convert}
@@ -148,12 +149,6 @@ module _ (script : Script) (account : Account) (basis : Basis script account) (r
   commit-names commit v h named =
       subst IsTrue (sym (work-named (request_at script commit.request) commit.ops v (known script account basis report reported commit h).work)) named
 
-  precedes-by : (a b : ℕ) (x y : Stamp) → stamp_of account a ≡ Some x → stamp_of account b ≡ Some y → Precedence account x y
-      → RequestBefore script account a b
-  precedes-by a b x y is is' p =
-      subst (λ s. AreBoth (Precedes (pairs_in account)) s (stamp_of account b)) (sym is)
-      (subst (λ s. AreBoth (Precedes (pairs_in account)) (Some x) s) (sym is') p)
-
   -- Conflicts
 
   -- the commits before a place are of requests that were judged before
@@ -187,7 +182,7 @@ module _ (script : Script) (account : Account) (basis : Basis script account) (r
       subst (λ k. stamp_of account k ≡ Some judged.stamp) at.request_is
       (tx-stamp account basis.is.gatekeepers.once (at.rule).home _ _ _ (at.rule).begun) in
       let stamp-newer : stamp_of account newer ≡ Some last.stamp = subst (λ k. stamp_of account k ≡ Some last.stamp) conflict.newer_is of.stamp in
-      let precedes : RequestBefore script account r newer = precedes-by r newer judged.stamp last.stamp stamp-r stamp-newer conflict.precedes in
+      let precedes : RequestBefore script account r newer = by-stamps script account r newer judged.stamp last.stamp stamp-r stamp-newer conflict.precedes in
       let work : IsSomeAnd (request_at script r) (λ (request : Request). request.work ≡ Change judged.ops) =
       subst (λ k. IsSomeAnd (request_at script k) (λ (request : Request). request.work ≡ Change judged.ops)) at.request_is (at.rule).work in
       let named-r : IsTrue (request_names_vertex script r v) = subst IsTrue (sym (work-named (request_at script r) judged.ops v work)) conflict.named in
@@ -203,7 +198,7 @@ module _ (script : Script) (account : Account) (basis : Basis script account) (r
       subst (λ k. InTurn script k r) newer-is (subst (λ k. InTurn script (j.0).request k) r-is (in-turn at.before at.entry at.after at.is j.0 j.1)) in
       let less : newer < r = turn (session-other script r newer same) in
       let x = sessions-rise script account basis newer r judged.stamp less (session-other script r newer same) stamp-r in
-      not-both script account basis r newer precedes (precedes-by newer r x.0 judged.stamp x.1 stamp-r (ByStamps x.0 judged.stamp x.2)) in (
+      not-both script account basis r newer precedes (by-stamps script account newer r x.0 judged.stamp x.1 stamp-r (ByStamps x.0 judged.stamp x.2)) in (
         and_from _ _ (and_from _ _ (and_from _ _ committed named-newer) (not-true (same_session script r newer) other)) named-r,
         convert (sym (same-precedence script account report reported.matches basis r newer)) precedes,
       )

@@ -1,5 +1,6 @@
 -- A worked account: a gatekeeper raises its epoch, and another one hears a clock of it. Two transactions without
 -- operations begin in the new epoch, and a shard collects before anything was processed.
+-- Used by nothing: worked examples.
 use Rattle.std.proofs.Common.{◌≡◌, ◌≢◌, ℕ, zero, suc, ◌≤◌, [], ◌∷◌, Contains, IsTrue, Some, None, refl, ap, ◌∙◌, arith}
 use Rattle.std.specs.Prelude.{codes}
 use Rattle.weave_data.proofs.Entries.{each_none}

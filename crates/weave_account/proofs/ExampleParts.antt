@@ -1,5 +1,6 @@
 -- Words that several worked accounts use, and facts of small accounts.
--- Used by ExampleEpoch, ExampleMarked, ExamplePath, ExampleReader, 4 more and crates hands_account and seen_logs.
+-- Used by ExampleEpoch, ExampleMarked, ExamplePath, ExampleReader, ExampleRefusal, ExampleWriters, WrongHearing,
+-- WrongLogs and crates hands_account and seen_logs.
 use Rattle.std.proofs.Common.{◌≡◌, ◌≢◌, ℕ, zero, suc, ◌<◌, ◌≤◌, List, [], ◌∷◌, get_or, Contains, IsTrue, Some, None, refl, sym, ap, subst, ◌∙◌, arith}
 use Rattle.std.specs.Prelude.{slice_get, codes}
 use Rattle.std.proofs.lemmas.List.Elements.{All-nil}

@@ -1,5 +1,6 @@
 -- A worked account: one session with two transactions at two gatekeepers. The first is refused, as its vertex isn't
 -- there. The second hears the first one's stamp and creates the vertex.
+-- Used by nothing: worked examples.
 use Rattle.std.proofs.Common.{◌≡◌, ◌≢◌, ℕ, zero, suc, List, [], ◌∷◌, Contains, IsTrue, Some, None, refl, ap, subst, ◌∙◌, arith}
 use Rattle.std.specs.Prelude.{codes}
 use Rattle.weave_data.proofs.Entries.{each_none}

@@ -1,4 +1,5 @@
 -- The reports of worked accounts, and reports that aren't theirs.
+-- Used by nothing: worked examples.
 use Rattle.std.proofs.Common.{◌≡◌, ℕ, false, List, [], ◌∷◌, Some, None, inl, inr, refl, true, arith}
 use Rattle.std.proofs.lemmas.Bool.{both_ways}
 use Rattle.vector_stamp.specs.declared.clock.Stamp.{Stamp}

@@ -1,6 +1,7 @@
 -- A head whose counts agree passes on the newest states of its vertices. It rests on the clauses on channels, store and
 -- shards, on what a hand can have seen, and on "the updates applied are the first commits".
--- Used by `accounts_were_seen`, `collections_leave_what_programs_see`, `heads_pass` and 5 more.
+-- Used by `accounts_were_seen`, `collections_leave_what_programs_see`, `heads_pass`, `messages_can_be_taken`,
+-- `updates_are_commits`, BegunElsewhere, Collecting and KnownClocks.
 use Rattle.std.proofs.Common.{◌≡◌, ℕ, true, false, cond, List, [], ◌∷◌, ◌++◌, map, take, length, Contains, IsTrue, Some, None, inl, inr, refl, sym, ap, subst, ◌∙◌, arith}
 use Rattle.std.specs.Prelude.{Ok, is_ok}
 use Rattle.std.proofs.lemmas.List.{append-nil, map-append, take-append-le, take_all}
@@ -19,6 +20,7 @@ use Rattle.graph_ops.specs.VertexOps.{ops_on, none_refused, state_after_ops}
 use Rattle.graph_ops.specs.declared.tx.Got.{Got}
 use Rattle.graph_ops.specs.declared.op.Op.{Op}
 use Rattle.graph_ops.specs.declared.part.Part.{Part}
+use Rattle.graph_ops.proofs.Vertices.{same_name-refl}
 use Rattle.program_defs.specs.declared.script.Script.{Script}
 use Rattle.weave_entries.specs.declared.gate_log.GateEntry.{GateEntry}
 use Rattle.weave_entries.specs.declared.message.Addressed.{Addressed}
@@ -42,7 +44,6 @@ use Rattle.weave_account.specs.Shards.{AreShardDeeds, ShardFitsAs, update_of}
 use Rattle.weave_entries.specs.ShardRules.{PassesAt}
 use Rattle.weave_data.proofs.Images.{map-has}
 use Rattle.weave_data.proofs.ListPlaces.{all-from}
-use Rattle.weave_account.proofs.SameName.{same_name-refl}
 use Rattle.weave_account.proofs.Basis.{Basis}
 use Rattle.weave_account.proofs.Listed.{verdict-commits}
 use Rattle.weave_account.proofs.Applying.{go-on, Shows, Takes, arrived-was-sent, naming-parts, shows, waits-none}

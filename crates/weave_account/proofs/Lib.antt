@@ -1,4 +1,3 @@
-pub mod SameName
 pub mod Cutting
 pub mod Basis
 pub mod Replaying
@@ -68,3 +67,4 @@ pub mod Collecting
 pub mod OnTheWay
 pub mod ExampleReports
 pub mod StorePasses
+pub mod GoesOn

@@ -1,5 +1,6 @@
 -- What the printed order of an account lists: the commits of its store, and its finished programs.
--- Used by ConflictsClause, FormOfScript, Heads, ListingClause, Meeting, NumbersClause, PhaseOrder and 7 more.
+-- Used by ConflictsClause, FormOfScript, Heads, ListingClause, Meeting, NumbersClause, PhaseOrder, PhasesKept,
+-- RefusalsClause, ReplayClause, Sent, Transactions, Unprocessed and VisitedPairs.
 use Rattle.std.proofs.Common.{◌≡◌, ℕ, zero, suc, ◌==◌, List, [], ◌∷◌, ◌++◌, Contains, IsTrue, Option, Some, None, ◌⊎◌, inl, inr, refl, sym, ap, subst, ◌∙◌}
 use Rattle.std.specs.Prelude.{IsSomeAnd, slice_get}
 use Rattle.std.specs.List.{AllByRecursion, filter_map, cons_option}

@@ -1,6 +1,7 @@
 -- Of two listed requests that meet at a vertex, one precedes the other. It rests on the clauses on the store, shards
 -- and programs.
--- Used by `programs_read_the_graph_at_their_place`, `stamps_are_begun`, KnownClocks, OneReport, PlacedPairs and 3 more.
+-- Used by `programs_read_the_graph_at_their_place`, `stamps_are_begun`, KnownClocks, OneReport, PlacedPairs,
+-- RightReport, VisitedPairs and VisitsStay.
 use Rattle.std.proofs.Common.{◌≡◌, ℕ, zero, suc, ◌<◌, false, ◌==◌, ◌||◌, List, [], ◌∷◌, ◌++◌, length, take, drop, Contains, IsTrue, Some, ◌⊎◌, inl, inr, refl, sym, ap, subst, ◌∙◌, arith}
 use Rattle.std.specs.Prelude.{IsSomeAnd, if◌then◌else◌}
 use Rattle.std.specs.List.{filter}
@@ -9,7 +10,6 @@ use Rattle.std.proofs.lemmas.Bool.{or_cases, or_left, or_right, eq-eqb, eqb-true
 use Rattle.std.proofs.lemmas.List.Elements.{Contains-append_cases}
 use Rattle.weave_data.proofs.Members.{has_head, has_tail, filter_has, has_filter, cut_at}
 use Rattle.vector_stamp.specs.declared.clock.Stamp.{Stamp}
-use Rattle.vector_stamp.specs.Precedence.{Precedes}
 use Rattle.weave_data.specs.Names.{same_name, one_name}
 use Rattle.weave_data.specs.declared.name.Name.{Name}
 use Rattle.graph_ops.specs.Mentions.{is_among}
@@ -27,9 +27,9 @@ use Rattle.report_rules.specs.declared.report.Report.{Report}
 use Rattle.program_defs.specs.Works.{is_change}
 use Rattle.report_rules.specs.Meetings.{is_transaction, WorkIsAt, RequestIsAt, MeetAt, MeetingsAreOrdered}
 use Rattle.report_rules.specs.Replay.{graph_after, graph_before, graph_at_place}
-use Rattle.report_rules.specs.Lookups.{is_in, is_some_and, AreBoth, request_at, request_names_vertex, work_names, RequestPrecedes}
+use Rattle.report_rules.specs.Lookups.{is_in, is_some_and, request_at, request_names_vertex, work_names, RequestPrecedes}
 use Rattle.weave_account.specs.declared.account.Account.{Account}
-use Rattle.weave_account.specs.Account.{shard_log, stamp_of, pairs_in, commits_in, Precedence, reads_of}
+use Rattle.weave_account.specs.Account.{shard_log, stamp_of, commits_in, reads_of}
 use Rattle.weave_account.proofs.Replaying.{graph_after_all, AllPass, all-pass-left}
 use Rattle.weave_account.specs.Shards.{AreShardDeeds, IsRightVisit, ShardFitsAs}
 use Rattle.weave_account.specs.Report.{IsReportOfAccount}
@@ -38,7 +38,7 @@ use Rattle.weave_account.proofs.Cutting.{IsNotAfter, either}
 use Rattle.weave_account.proofs.Listed.{IsListedTx, IsListedProgram, listed-is}
 use Rattle.weave_data.proofs.Images.{map-has, flat-has, within-list}
 use Rattle.weave_data.proofs.Numbers.{has-in, IsSorted, in-head, in-tail, in-filter, sorted-at}
-use Rattle.weave_account.proofs.Ordering.{RequestBefore, not-both}
+use Rattle.weave_account.proofs.Ordering.{RequestBefore, not-both, by-stamps}
 use Rattle.weave_account.proofs.Printing.{order-sorted, order-has}
 use Rattle.weave_account.proofs.ReplayClause.{all-read, each-comes, reads-agree}
 use Rattle.weave_account.proofs.ReadingPlace.{visited-deed}
@@ -142,12 +142,6 @@ module _ (script : Script) (account : Account) (basis : Basis script account) wh
       ]
 
 module _ (script : Script) (account : Account) (basis : Basis script account) (report : Report) (reported : IsReportOfAccount script account report) where
-  by-stamps : (a b : ℕ) (x y : Stamp) → stamp_of account a ≡ Some x → stamp_of account b ≡ Some y → Precedence account x y
-      → RequestBefore script account a b
-  by-stamps a b x y ea eb h =
-      subst (λ s. AreBoth (Precedes (pairs_in account)) s (stamp_of account b)) (sym ea)
-      (subst (λ s. AreBoth (Precedes (pairs_in account)) (Some x) s) (sym eb) h)
-
   -- a commit that names a vertex visited precedes the program, or follows it
   visit-orders : (p : ℕ) (v : Name) → HasVisit script account p v → (commit : Commit)
       → Contains (commits_naming v (commits_in account)) commit
@@ -158,8 +152,8 @@ module _ (script : Script) (account : Account) (basis : Basis script account) (r
       program-stamp account basis.is.gatekeepers.once (has.visit).home (has.visit).author p has.stamp (has.visit).begun in
       let stamp-c = (known script account basis report reported commit (filter_has (names v) (commits_in account) commit h).0).stamp in
       elim (Contains-append_cases (take has.updates naming) (drop has.updates naming) commit (subst (λ cs. Contains cs commit) (take-drop naming has.updates) h)) [
-        | inl seen ↦ inl (by-stamps commit.request p commit.stamp has.stamp stamp-c stamp-p (seen-precede script account basis has.number has.inside has.log has.each p has.stamp v has.updates has.visit commit seen))
-        | inr other ↦ inr (by-stamps p commit.request has.stamp commit.stamp stamp-p stamp-c (others-follow script account basis has.number has.inside has.log has.each p has.stamp v has.updates has.visit commit other))
+        | inl seen ↦ inl (by-stamps script account commit.request p commit.stamp has.stamp stamp-c stamp-p (seen-precede script account basis has.number has.inside has.log has.each p has.stamp v has.updates has.visit commit seen))
+        | inr other ↦ inr (by-stamps script account p commit.request has.stamp commit.stamp stamp-p stamp-c (others-follow script account basis has.number has.inside has.log has.each p has.stamp v has.updates has.visit commit other))
       ]
 
   -- at the place of a listed request in the order, what is before it passes and leaves the graph at its place

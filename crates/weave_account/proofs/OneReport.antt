@@ -10,7 +10,7 @@ use Rattle.std.proofs.lemmas.List.{map-append}
 use Rattle.std.proofs.lemmas.List.Concat.{flat_map-append}
 use Rattle.std.proofs.lemmas.Option.{slice_get-map}
 use Rattle.weave_data.proofs.Members.{has_head, has_cut, has_filter, has_flat, has_map, filter_has}
-use Rattle.weave_data.proofs.Ordered.{pairs_none, pairs_cons, pairs_head, pairs_tail, pairs_cases}
+use Rattle.weave_data.proofs.Ordered.{pairs_cases, pairs-of-images}
 use Rattle.weave_data.specs.declared.name.Name.{Name}
 use Rattle.vector_stamp.specs.declared.clock.Stamp.{Stamp}
 use Rattle.vector_stamp.specs.Precedence.{GivenPair}
@@ -54,14 +54,6 @@ use Rattle.weave_account.proofs.VisitedPairs.{program-begun}
 use Rattle.weave_account.proofs.Visiting.{get-take}
 
 -- Lists
-
--- what is so of each two images is so of each two by their images
-pairs-of-map : {A B : Type 0} (f : A → B) (R : B → B → Type 0) (xs : List A) → AllPairs R (map f xs)
-    → AllPairs (λ a b. R (f a) (f b)) xs
-pairs-of-map f R [] pairs = pairs_none (λ a b. R (f a) (f b))
-pairs-of-map f R (x ∷ xs) pairs =
-    pairs_cons (λ a b. R (f a) (f b)) x xs (λ y h. pairs_head R (f x) (map f xs) (f y) pairs (has_map f xs y h))
-    (pairs-of-map f R xs (pairs_tail R (f x) (map f xs) pairs))
 
 -- the last of the first n elements is that before place n
 seen-is : (n : ℕ) (stamps : List Stamp) (s : Stamp) → 0 < n → slice_get stamps (n - 1) ≡ Some s → last_seen n stamps ≡ s ∷ []
@@ -204,7 +196,7 @@ module _ (script : Script) (account : Account) (basis : Basis script account) wh
   -- no two of them have that in common
   marks-apart : AllPairs (λ (a b : Name × (ℕ × List Stamp)). a.1 ≢ b.1) (flat_map marks-in account.shards)
   marks-apart =
-      pairs-of-map (λ (mark : Name × (ℕ × List Stamp)). mark.1) (λ (x y : ℕ × List Stamp). x ≢ y) (flat_map marks-in account.shards)
+      pairs-of-images (λ (mark : Name × (ℕ × List Stamp)). mark.1) (λ (x y : ℕ × List Stamp). x ≢ y) (flat_map marks-in account.shards)
       (subst (AllPairs (λ (x y : ℕ × List Stamp). x ≢ y)) (sym (marks-are account.shards)) basis.is.oracle.once)
 
   -- the updates that the visit's shard has applied to its vertex

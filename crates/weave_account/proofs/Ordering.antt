@@ -1,5 +1,6 @@
 -- At each vertex the commits that name it are ordered by precedence, as their numbers are; and nothing precedes itself.
--- Used by `commits_are_ordered`, ConflictsClause, InSession, ListingClause, Meeting, PhasesKept and 5 more.
+-- Used by `commits_are_ordered`, ConflictsClause, InSession, ListingClause, Meeting, PhasesKept, ReadingPlace,
+-- Replies, RightReport, Transactions and Visiting.
 use Rattle.std.proofs.Common.{◌≡◌, ℕ, Bool, true, false, cond, List, [], ◌∷◌, ◌++◌, get_or, Contains, AllPairs, IsTrue, Option, Some, None, ◌⊎◌, inl, inr, refl, sym, ap, subst, ◌∙◌, arith}
 use Rattle.std.specs.Prelude.{reverse}
 use Rattle.std.specs.List.{filter, find}
@@ -128,6 +129,12 @@ module _ (script : Script) (account : Account) where
   -- the first request precedes the second
   abbrev pub RequestBefore : ℕ → ℕ → Type 0
   RequestBefore a b = AreBoth (Precedes (pairs_in account)) (stamp_of account a) (stamp_of account b)
+
+  -- a request whose stamp precedes that of another precedes it
+  pub by-stamps : (a b : ℕ) (x y : Stamp) → stamp_of account a ≡ Some x → stamp_of account b ≡ Some y → Precedence account x y → RequestBefore a b
+  by-stamps a b x y stamp-a stamp-b precedes =
+      subst (λ s. AreBoth (Precedes (pairs_in account)) s (stamp_of account b)) (sym stamp-a)
+      (subst (λ s. AreBoth (Precedes (pairs_in account)) (Some x) s) (sym stamp-b) precedes)
 
   -- the requests of commits that name a vertex are the requests that name it
   pub naming-requests : (v : Name) (commits : List Commit)

@@ -15,6 +15,7 @@ use Rattle.weave_data.specs.Names.{same_name}
 use Rattle.weave_data.specs.declared.name.Name.{Name}
 use Rattle.graph_ops.specs.Mentions.{named_by, is_among}
 use Rattle.graph_ops.specs.declared.op.Op.{Op}
+use Rattle.graph_ops.proofs.Vertices.{same_name-refl}
 use Rattle.program_defs.specs.declared.script.Request.{Request}
 use Rattle.program_defs.specs.declared.script.Script.{Script}
 use Rattle.program_defs.specs.declared.script.Work.TheVariants.{Change}
@@ -33,7 +34,6 @@ use Rattle.weave_account.specs.Pairs.{IsAddedByCommit, IsAddedByVisit, IsPairInA
 use Rattle.weave_account.specs.Report.{IsReportOfAccount}
 use Rattle.weave_data.proofs.Images.{map-has}
 use Rattle.weave_data.proofs.ListPlaces.{each-holds}
-use Rattle.weave_account.proofs.SameName.{same_name-refl}
 use Rattle.weave_account.proofs.Storing.{commit-of}
 use Rattle.weave_account.proofs.Replies.{has-reply, same-stamp}
 use Rattle.weave_account.proofs.Transactions.{known}

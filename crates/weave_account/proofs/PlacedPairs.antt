@@ -1,6 +1,7 @@
 -- The pairs that are computed from the logs are those of the account. It rests on the clauses on the oracle, the
 -- store, gatekeepers and shards, and on "the updates applied are the first commits".
--- Used by `placed_pairs_are_the_pairs`, BegunElsewhere, InSession, KnownClocks, 4 more and crate weaver_core.
+-- Used by `placed_pairs_are_the_pairs`, BegunElsewhere, InSession, KnownClocks, OneReport, PairEnds, PhaseOrder,
+-- PhasePrecedence and crates weaver_core and weaver_top.
 use Rattle.std.proofs.Common.{◌≡◌, ◌≢◌, ℕ, zero, suc, ◌-◌, ◌<◌, Bool, true, false, not, cond, ◌==◌, ◌&&◌, ◌||◌, List, [], ◌∷◌, ◌++◌, map, take, length, Contains, IsTrue, Option, Some, None, ◌⊎◌, inl, inr, refl, sym, ap, subst, ◌∙◌, arith}
 use Rattle.std.specs.Prelude.{slice_get, IsSomeAnd, reverse}
 use Rattle.std.specs.List.{find, filter_map, flat_map, cons_option, list_any}

@@ -1,5 +1,6 @@
 -- What the printed order has and keeps.
--- Used by ConflictsClause, FormOfScript, ListingClause, Meeting, NumbersClause, RefusalsClause and 3 more.
+-- Used by ConflictsClause, FormOfScript, ListingClause, Meeting, NumbersClause, RefusalsClause, ReplayClause,
+-- Transactions and VisitedPairs.
 use Rattle.std.proofs.Common.{◌≢◌, ℕ, Bool, true, false, not, ◌==◌, nat_eq, List, [], ◌∷◌, IsTrue, inl, inr, sym, subst}
 use Rattle.std.specs.List.{AllByRecursion}
 use Rattle.std.proofs.lemmas.Bool.{ne_eqb, eq-eqb, not_from_false, cases_eq}

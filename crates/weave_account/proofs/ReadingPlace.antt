@@ -9,7 +9,6 @@ use Rattle.std.proofs.lemmas.List.{map-append}
 use Rattle.std.proofs.lemmas.List.Elements.{Contains-append_left, Contains-append_right}
 use Rattle.weave_data.proofs.Members.{has_read, has_head, has_tail, has_none, filter_has, cut_at}
 use Rattle.vector_stamp.specs.declared.clock.Stamp.{Stamp}
-use Rattle.vector_stamp.specs.Precedence.{Precedes}
 use Rattle.weave_data.specs.Names.{same_name, one_name}
 use Rattle.weave_data.specs.declared.name.Name.{Name}
 use Rattle.graph_ops.specs.Mentions.{is_among}
@@ -30,9 +29,9 @@ use Rattle.weave_entries.specs.StoreReplay.{Commit, commits_naming}
 use Rattle.weave_data.proofs.Entries.{each_before}
 use Rattle.program_defs.specs.Works.{ops_of}
 use Rattle.report_rules.specs.declared.report.Report.{Report}
-use Rattle.report_rules.specs.Lookups.{AreBoth, request_at, request_names_vertex}
+use Rattle.report_rules.specs.Lookups.{request_at, request_names_vertex}
 use Rattle.weave_account.specs.declared.account.Account.{Account}
-use Rattle.weave_account.specs.Account.{stamp_of, pairs_in, commits_in, Precedence, reads_of}
+use Rattle.weave_account.specs.Account.{stamp_of, commits_in, reads_of}
 use Rattle.weave_account.proofs.Replaying.{graph_after_all, ops_in, history, AllPass, history-is, history-naming}
 use Rattle.weave_account.specs.Shards.{AreShardDeeds, IsRightVisit, ShardFitsAs}
 use Rattle.weave_account.specs.Report.{IsReportOfAccount}
@@ -40,7 +39,7 @@ use Rattle.weave_account.proofs.Beginning.{program-stamp}
 use Rattle.weave_account.proofs.Cutting.{cut}
 use Rattle.weave_data.proofs.Images.{map-has, flat-has, within-list}
 use Rattle.weave_data.proofs.Numbers.{has-in}
-use Rattle.weave_account.proofs.Ordering.{RequestBefore, naming-requests, not-both}
+use Rattle.weave_account.proofs.Ordering.{RequestBefore, naming-requests, not-both, by-stamps}
 use Rattle.weave_account.proofs.Replying.{place-of}
 use Rattle.weave_account.specs.Shards.{update_of}
 use Rattle.weave_account.proofs.Sessions.{take-drop}
@@ -107,12 +106,6 @@ module _ (script : Script) (account : Account) where
 
 module _ (script : Script) (account : Account) (basis : Basis script account) (report : Report) (reported : IsReportOfAccount script account report)
     (p : ℕ) (before after : List ℕ) (is : report.order ≡ before ++ p ∷ after) (passes : AllPass empty_graph script before) where
-  stamps-precede : (a b : ℕ) (x y : Stamp) → stamp_of account a ≡ Some x → stamp_of account b ≡ Some y → Precedence account x y
-      → RequestBefore script account a b
-  stamps-precede a b x y ea eb h =
-      subst (λ s. AreBoth (Precedes (pairs_in account)) s (stamp_of account b)) (sym ea)
-      (subst (λ s. AreBoth (Precedes (pairs_in account)) (Some x) s) (sym eb) h)
-
   -- the commits that a visit saw are those listed before the program
   seen-listed : (number : ℕ) (log : List ShardEntry) → number < script.shards
       → AreShardDeeds script account number log
@@ -135,12 +128,12 @@ module _ (script : Script) (account : Account) (basis : Basis script account) (r
       let image = map-has (λ (c : Commit). c.request) (take k naming) n (has-in _ n h) in
       let in-all : Contains naming image.of =
       subst (λ cs. Contains cs image.of) (sym (take-drop naming k)) (Contains-append_left (take k naming) (drop k naming) image.of image.has) in
-      subst (λ m. RequestBefore script account m p) image.is (stamps-precede (image.of).request p (image.of).stamp stamp (in-naming image.of in-all).stamp stamp-p (seen-precede script account basis number inside log each p stamp v k visit image.of image.has)))
+      subst (λ m. RequestBefore script account m p) image.is (by-stamps script account (image.of).request p (image.of).stamp stamp (in-naming image.of in-all).stamp stamp-p (seen-precede script account basis number inside log each p stamp v k visit image.of image.has)))
       (λ n h.
       let image = map-has (λ (c : Commit). c.request) (drop k naming) n (has-in _ n h) in
       let in-all : Contains naming image.of =
       subst (λ cs. Contains cs image.of) (sym (take-drop naming k)) (Contains-append_right (take k naming) (drop k naming) image.of image.has) in
-      inr (subst (λ m. RequestBefore script account p m) image.is (stamps-precede p (image.of).request stamp (image.of).stamp stamp-p (in-naming image.of in-all).stamp (others-follow script account basis number inside log each p stamp v k visit image.of image.has))))
+      inr (subst (λ m. RequestBefore script account p m) image.is (by-stamps script account p (image.of).request stamp (image.of).stamp stamp-p (in-naming image.of in-all).stamp (others-follow script account basis number inside log each p stamp v k visit image.of image.has))))
 
   -- the state that a visit reads is that at the program's place
   visit-reads : (number : ℕ) (log rest : List ShardEntry) → number < script.shards

@@ -19,6 +19,7 @@ use Rattle.weave_entries.specs.declared.shard_log.ShardEntry.{ShardEntry}
 use Rattle.weave_entries.specs.GateReplay.{BegunRequest, tx_by, txs_of, flight_after, flight_of}
 use Rattle.weave_entries.specs.GateRules.{FitsAs, IsGateLog}
 use Rattle.weave_entries.specs.ShardReplay.{arrived_at, processed_count, head_of, last_of, is_past, is_ready_for, first_unready}
+use Rattle.weave_entries.proofs.Channels.{stamps_in}
 use Rattle.weave_data.proofs.Entries.{by_entries}
 use Rattle.weave_data.proofs.Ordered.{pairs_head, pairs_tail}
 use Rattle.std.proofs.lemmas.List.Sums.{fold-append}
@@ -91,10 +92,6 @@ gone home shards =
     (gone-step home shards log entry.author entry.deed fits so-far b (subst (λ xs. Contains xs b) (flat_map-append (λ (e : GateEntry). tx_by e.author e.deed) log (entry ∷ []) ∙ ap (λ rest. txs_of log ++ rest) (append-nil (tx_by entry.author entry.deed))) h)))
 
 -- Two messages of a channel
-
--- the stamps of messages, in order
-abbrev pub stamps_in : List Addressed → List Stamp
-stamps_in sent = map (λ (m : Message). m.stamp) (map (λ (a : Addressed). a.message) sent)
 
 -- of two elements of a list whose numbers and stamps rise one is before the other, if they aren't one
 pub either-sent : (sent : List Addressed) → AllPairs (λ a b. a < b) (map (λ (a : Addressed). a.number) sent)

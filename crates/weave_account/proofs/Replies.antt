@@ -1,6 +1,7 @@
 -- An account's report has a reply for each request, with its stamp, and the oracle's pairs; so what precedes in the
 -- report precedes in the account, and the other way round.
--- Used by ConflictsClause, Listed, ListingClause, Meeting, NumbersClause, PairsClause, PhasesKept and 5 more.
+-- Used by ConflictsClause, Listed, ListingClause, Meeting, NumbersClause, PairsClause, PhasesKept, RefusalsClause,
+-- RepliesClause, RightReport, Transactions and VisitedPairs.
 use Rattle.std.proofs.Common.{◌≡◌, ℕ, zero, suc, ◌<◌, List, [], ◌∷◌, length, get_or, Option, Some, None, ◌⊎◌, inl, inr, refl, sym, ap, subst, ◌∙◌, arith, zero-add}
 use Rattle.std.specs.Prelude.{slice_get}
 use Rattle.std.specs.List.{AllByRecursion, filter_map, cons_option, range_with_len}

@@ -1,13 +1,14 @@
--- The clause on replies: each has its request's place and its gatekeeper's stamp, stamps of one home are ordered, and
--- sessions begin in turn. It rests on the clauses on gatekeepers and sessions.
--- Used by BegunElsewhere, FormOfScript, InSession, KnownClocks, OneReport, PairEnds, PhasePrecedence and 4 more.
-use Rattle.std.proofs.Common.{◌≡◌, ◌≢◌, ℕ, zero, suc, ◌<◌, Bool, ◌==◌, ◌&&◌, List, [], ◌∷◌, ◌++◌, length, get_or, Contains, AllPairs, IsTrue, Option, Some, None, ◌⊎◌, inl, inr, refl, sym, ap, subst, ◌∙◌, arith}
+-- The clause on replies (`replies`, for RightReport): each has its request's place and its gatekeeper's stamp, stamps
+-- of one home are ordered, and sessions begin in turn. With it, what other users take: facts of an account's begins.
+-- Used by BegunElsewhere, FormOfScript, InSession, KnownClocks, OneReport, PairEnds, PhasePrecedence, PlacedPairs,
+-- Requests, RightReport, SeenIds and crates hands_account, seen_logs, shard_lock and weaver_top.
+use Rattle.std.proofs.Common.{◌≡◌, ◌≢◌, ℕ, ◌<◌, Bool, ◌==◌, ◌&&◌, List, [], ◌∷◌, ◌++◌, length, Contains, AllPairs, IsTrue, Option, Some, None, ◌⊎◌, inl, inr, refl, sym, ap, subst, ◌∙◌, arith}
 use Rattle.std.specs.Prelude.{slice_get}
 use Rattle.std.specs.List.{find}
 use Rattle.std.specs.Option.{option_map}
 use Rattle.std.proofs.lemmas.Bool.{cases_eq, and_from, and_parts, or_left, eq-eqb, eqb-true, lt-ltb, le-leb, not_from_false, ne_eqb}
 use Rattle.std.proofs.lemmas.List.{append_assoc, length-append}
-use Rattle.std.proofs.lemmas.List.Elements.{Contains-append_left, Contains-get_or}
+use Rattle.std.proofs.lemmas.List.Elements.{Contains-append_left}
 use Rattle.weave_data.proofs.Members.{has_head, cut_at, has_cut, find_has}
 use Rattle.vector_stamp.specs.declared.clock.Stamp.{Stamp}
 use Rattle.vector_stamp.specs.Order.{stamp_before, are_apart}
@@ -29,7 +30,7 @@ use Rattle.weave_account.specs.declared.account.Account.{Account}
 use Rattle.weave_account.specs.Account.{gate_log, all_begun, stamp_of}
 use Rattle.weave_account.specs.Report.{IsReplyInAccount, MatchesAccount}
 use Rattle.weave_account.proofs.ListingClause.{matches-of}
-use Rattle.weave_data.proofs.Ordered.{pairs_tail, pairs_across}
+use Rattle.weave_data.proofs.Ordered.{pairs_tail, pairs_across, pairs_cons}
 use Rattle.weave_data.proofs.ListPlaces.{facts-hold, list-all-from, unless}
 use Rattle.weave_account.proofs.Replying.{begun-rightly, home-below}
 use Rattle.weave_account.proofs.Sessions.{pairs-either}
@@ -38,7 +39,7 @@ use Rattle.weave_account.proofs.Basis.{Basis}
 use Rattle.weave_account.specs.LowerLaws.{LawsForAccounts}
 use Rattle.weave_account.proofs.Sessions.{sessions-rise}
 
--- Begun stamps are stamps, and rise
+-- The stamps of begins are among those of their log, and rise
 
 abbrev begun-by : GateEntry → List BegunRequest
 begun-by entry = tx_by entry.author entry.deed ++ program_by entry.author entry.deed
@@ -58,16 +59,6 @@ few-begun author (Finished r) = inl refl
 abbrev pub BeginsFirst : BegunRequest → BegunRequest → Type 0
 BeginsFirst a b = IsTrue (stamp_before a.stamp b.stamp)
 
-pairs-cons : {A : Type 0} (R : A → A → Type 0) (x : A) (xs : List A) → ((y : A) → Contains xs y → R x y) → AllPairs R xs
-    → AllPairs R (x ∷ xs)
-pairs-cons R x xs heads rest i j d below within = at i j below within
-  where
-    at : (i j : ℕ) → i < j → j < suc (length xs) → R (get_or (x ∷ xs) i d) (get_or (x ∷ xs) j d)
-    at zero zero below within = absurd (omega (arith, below))
-    at zero (suc j) below within = heads (get_or xs j d) (Contains-get_or xs j d (omega (arith, within)))
-    at (suc i) zero below within = absurd (omega (arith, below))
-    at (suc i) (suc j) below within = rest i j d (omega (arith, below)) (omega (arith, within))
-
 -- the second of two lists put together keeps a relation of each two
 pub pairs-right : {A : Type 0} (R : A → A → Type 0) (xs ys : List A) → AllPairs R (xs ++ ys) → AllPairs R ys
 pairs-right R [] ys pairs = pairs
@@ -82,8 +73,21 @@ begins-rise laws (entry ∷ log) pairs =
     elim (few-begun entry.author entry.deed) [
       | inl none ↦ subst (λ bs. AllPairs BeginsFirst (bs ++ begun_in log)) (sym none) rest
       | inr one ↦ subst (λ bs. AllPairs BeginsFirst (bs ++ begun_in log)) (sym one.1)
-          (pairs-cons BeginsFirst one.0 (begun_in log) (λ b h. pairs_across (λ a b. IsTrue (stamp_before a b)) (stamps_by entry.deed) (stamps_of log) (one.0).stamp b.stamp pairs one.2 (laws.own_stamp log b h)) rest)
+          (pairs_cons BeginsFirst one.0 (begun_in log) (λ b h. pairs_across (λ a b. IsTrue (stamp_before a b)) (stamps_by entry.deed) (stamps_of log) (one.0).stamp b.stamp pairs one.2 (laws.own_stamp log b h)) rest)
     ]
+
+-- a request that has a stamp in an account began there with it
+pub begun-there : (account : Account) (r : ℕ) (stamp : Stamp) → stamp_of account r ≡ Some stamp
+    → (begun : BegunRequest) × Contains (all_begun account) begun × (begun.request ≡ r) × (begun.stamp ≡ stamp)
+begun-there account r stamp e = at (find (λ (begun : BegunRequest). begun.request == r) (all_begun account)) refl e
+  where
+    at : (o : Option BegunRequest) → find (λ (begun : BegunRequest). begun.request == r) (all_begun account) ≡ o
+        → option_map (λ (begun : BegunRequest). begun.stamp) o ≡ Some stamp
+        → (begun : BegunRequest) × Contains (all_begun account) begun × (begun.request ≡ r) × (begun.stamp ≡ stamp)
+    at None is e = cc
+    at (Some begun) is e =
+        let has = find_has (λ (begun : BegunRequest). begun.request == r) (all_begun account) begun is in
+        (begun, has.0, eqb-true begun.request r has.1, cc)
 
 module _ (script : Script) (account : Account) (basis : Basis script account) where
   -- two begun requests have stamps apart
@@ -113,14 +117,7 @@ module _ (script : Script) (account : Account) (basis : Basis script account) wh
   -- the begin of a stamp
   pub begin-of : (r : ℕ) (stamp : Stamp) → stamp_of account r ≡ Some stamp
       → (b : BegunRequest) × Contains (all_begun account) b × (b.request ≡ r) × (b.stamp ≡ stamp)
-  begin-of r stamp e = at (find (λ (b : BegunRequest). b.request == r) (all_begun account)) refl e
-    where
-      at : (o : Option BegunRequest) → find (λ (b : BegunRequest). b.request == r) (all_begun account) ≡ o
-          → option_map (λ (b : BegunRequest). b.stamp) o ≡ Some stamp
-          → (b : BegunRequest) × Contains (all_begun account) b × (b.request ≡ r) × (b.stamp ≡ stamp)
-      at None is e = cc
-      at (Some b) is e =
-          let has = find_has (λ (b : BegunRequest). b.request == r) (all_begun account) b is in (b, has.0, eqb-true b.request r has.1, cc)
+  begin-of r stamp e = begun-there account r stamp e
 
   module _ (report : Report) (reported : MatchesAccount script account report) where
     in-place : (before : List Reply) (reply : Reply) (after : List Reply) → report.replies ≡ before ++ reply ∷ after

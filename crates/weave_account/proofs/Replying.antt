@@ -1,11 +1,12 @@
 -- Each begun request began rightly, at a gatekeeper of the script.
--- Used by BegunStamps, Coherence, 12 more and crates seen_logs, sessions_account, weaver_top and workers_account.
+-- Used by BegunStamps, Coherence, FormOfScript, Growing, InSession, KnownClocks, Meeting, PhaseOrder, PhasePrecedence,
+-- PlacedPairs, ReadingPlace, Replies, RepliesClause, Requests and 5 crates above.
 use Rattle.std.proofs.Common.{◌≡◌, ℕ, suc, ◌==◌, Bool, List, [], ◌∷◌, ◌++◌, get_or, Contains, IsTrue, Option, Some, None, inl, inr, refl, sym, ap, subst, ◌∙◌}
 use Rattle.std.specs.Prelude.{◌&&◌}
 use Rattle.std.specs.List.{find}
 use Rattle.std.specs.Option.{option_map}
 use Rattle.std.proofs.lemmas.Bool.{eqb-true}
-use Rattle.weave_data.proofs.Members.{has_read, has_none, cut_at, find_has, flat_has}
+use Rattle.weave_data.proofs.Members.{has_read, has_none, cut_at, find_has, flat_has, only}
 use Rattle.program_defs.specs.declared.script.Request.{Request}
 use Rattle.program_defs.specs.declared.script.Script.{Script}
 use Rattle.program_defs.specs.declared.script.Work.{Work}
@@ -33,18 +34,15 @@ pub record IsBegunRightly (script : Script) (account : Account) (begun : BegunRe
   pub there : Contains (begun_in (gate_log account home)) begun
   pub rule : BeginsRequest script account kind home before begun.request begun.stamp
 
-one-of : {A : Type 0} (x y : A) → Contains (x ∷ []) y → x ≡ y
-one-of x y h = elim (has_read x [] y h) [ inl same ↦ same | inr none ↦ absurd (has_none y none) ]
-
 deed-begun : (script : Script) (account : Account) (home : ℕ) (before : List GateEntry) (author : ℕ) (deed : GateDeed) (begun : BegunRequest)
     → Contains (begun_in (gate_log account home)) begun → Contains (tx_by author deed ++ program_by author deed) begun
     → BeginsAs script account home before deed → IsBegunRightly script account begun
 deed-begun script account home before author (BeganTx r stamp) begun there h rule =
-    let same = one-of (record { author = author; request = r; stamp = stamp }) begun h in
+    let same = only (record { author = author; request = r; stamp = stamp }) begun h in
     subst (λ b. Contains (begun_in (gate_log account home)) b → IsBegunRightly script account b) same
     (λ here. record { home = home; kind = is_change; before = before; there = here; rule = rule }) there
 deed-begun script account home before author (BeganProgram r stamp) begun there h rule =
-    let same = one-of (record { author = author; request = r; stamp = stamp }) begun h in
+    let same = only (record { author = author; request = r; stamp = stamp }) begun h in
     subst (λ b. Contains (begun_in (gate_log account home)) b → IsBegunRightly script account b) same
     (λ here. record { home = home; kind = is_look; before = before; there = here; rule = rule }) there
 deed-begun script account home before author (Sent r messages) begun there h rule = absurd (has_none begun h)

@@ -1,5 +1,5 @@
 -- No two begins in gatekeepers' logs, as far as they were seen, have the same id.
--- Used by `begun_stamps_are_coherent` and crate shard_lock.
+-- Used by `begun_stamps_are_coherent` and crates shard_lock, store_lock and weaver_locks.
 use Rattle.std.proofs.Common.{◌≡◌, ◌≢◌, ℕ, suc, ◌+◌, ◌<◌, ◌≤◌, List, [], ◌∷◌, ◌++◌, length, get_or, AllPairs, Contains, IsTrue, inl, inr, subst, ap, arith}
 use Rattle.std.specs.List.{flat_map}
 use Rattle.std.proofs.lemmas.List.Elements.{Contains-append_cases, Contains-get_or}

@@ -1,6 +1,7 @@
 -- A shard is sent empty messages, and for each commit that names a vertex of it one message, with the vertex's update.
 -- It rests on the clauses on channels and the store, and on what a hand can have seen.
--- Used by `accounts_were_seen`, `collections_leave_what_programs_see`, `messages_can_be_taken`, Applying and 4 more.
+-- Used by `accounts_were_seen`, `collections_leave_what_programs_see`, `messages_can_be_taken`, Applying,
+-- BegunElsewhere, Heads, Unprocessed and Updates.
 use Rattle.std.proofs.Common.{◌≡◌, ℕ, cond, ◌==◌, List, [], ◌∷◌, ◌++◌, Contains, IsTrue, ◌⊎◌, inl, inr, refl, sym, ap, subst, ◌∙◌}
 use Rattle.std.specs.List.{filter}
 use Rattle.std.proofs.lemmas.Bool.{cases_Bool, eqb-true}

@@ -1,12 +1,13 @@
 -- The commits of an account's store, as requests of the script: they replay to the store's graph, and at each vertex
 -- each precedes each later one.
--- Used by ConflictsClause, Heads, Listed, Meeting, NumbersClause, OneReport, Ordering, PairsClause and 6 more.
-use Rattle.std.proofs.Common.{◌≡◌, ◌≢◌, ℕ, List, [], ◌∷◌, ◌++◌, map, Contains, AllPairs, Option, Some, None, inl, inr, refl, sym, ap, subst, ◌∙◌}
+-- Used by ConflictsClause, Heads, Listed, Meeting, NumbersClause, OneReport, Ordering, PairsClause, PhasesKept,
+-- PlacedPairs, ReadingPlace, RefusalsClause, Transactions and Unprocessed.
+use Rattle.std.proofs.Common.{◌≡◌, ◌≢◌, ℕ, List, [], ◌∷◌, ◌++◌, map, Contains, AllPairs, Option, Some, None, refl, sym, ap, subst, ◌∙◌}
 use Rattle.std.specs.Prelude.{IsSomeAnd, ⊤}
 use Rattle.std.proofs.lemmas.List.{append-nil, map-append}
 use Rattle.std.proofs.lemmas.List.Concat.{flat_map-append}
 use Rattle.std.proofs.lemmas.List.Sums.{fold-append}
-use Rattle.weave_data.proofs.Members.{has_read, has_none, cut_at}
+use Rattle.weave_data.proofs.Members.{has_none, cut_at, only}
 use Rattle.vector_stamp.specs.declared.clock.Stamp.{Stamp}
 use Rattle.weave_data.specs.declared.name.Name.{Name}
 use Rattle.graph_ops.specs.Mentions.{named_by, is_among}
@@ -59,14 +60,11 @@ pub record IsCommitOf (judged : Judgement) (commit : Commit) : Type 0 where
   pub stamp : judged.stamp ≡ commit.stamp
   pub ops : judged.ops ≡ commit.ops
 
-one : {A : Type 0} (x y : A) → Contains (x ∷ []) y → x ≡ y
-one x y h = elim (has_read x [] y h) [ inl same ↦ same | inr none ↦ absurd (has_none y none) ]
-
 -- the commit of an entry is that of its judgement
 pub commit-of : (author : ℕ) (deed : StoreDeed) (commit : Commit) → Contains (commit_by deed) commit
     → IsCommitOf (judged_by author deed) commit
 commit-of author (Judged r stamp ops asked (Committed number answers counts)) commit h =
-    let same = one (record { request = r; stamp = stamp; ops = ops }) commit h in
+    let same = only (record { request = r; stamp = stamp; ops = ops }) commit h in
     record { verdict = tt; request = ap (λ (c : Commit). c.request) same; stamp = ap (λ (c : Commit). c.stamp) same; ops = ap (λ (c : Commit). c.ops) same }
 commit-of author (Judged r stamp ops asked (Conflict v newer)) commit h = absurd (has_none commit h)
 commit-of author (Judged r stamp ops asked (Refused op reason at)) commit h = absurd (has_none commit h)

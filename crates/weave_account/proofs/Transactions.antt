@@ -1,6 +1,7 @@
 -- A listed transaction, replayed at its place in the printed order, results in its reply: the commits that name its
 -- vertices and are listed before it are those with lesser numbers. It rests on the clause on the store.
--- Used by ConflictsClause, FormOfScript, Meeting, NumbersClause, PairsClause, PhasesKept, ReadingPlace and 2 more.
+-- Used by ConflictsClause, FormOfScript, Meeting, NumbersClause, PairsClause, PhasesKept, ReadingPlace, RefusalsClause
+-- and ReplayClause.
 use Rattle.std.proofs.Common.{◌≡◌, ℕ, Bool, cond, List, [], ◌∷◌, ◌++◌, Contains, IsTrue, Option, Some, None, inl, inr, refl, sym, ap, subst, ◌∙◌}
 use Rattle.std.specs.Prelude.{IsSomeAnd}
 use Rattle.std.specs.List.{filter}

@@ -9,6 +9,7 @@ use Rattle.weave_data.specs.Names.{same_name}
 use Rattle.weave_data.specs.declared.name.Name.{Name}
 use Rattle.graph_ops.specs.Mentions.{is_among}
 use Rattle.graph_ops.specs.Operations.{State}
+use Rattle.graph_ops.proofs.Vertices.{same_name-refl}
 use Rattle.program_defs.specs.declared.program.Program.{Program}
 use Rattle.program_defs.specs.declared.script.Request.{Request}
 use Rattle.program_defs.specs.declared.script.Script.{Script}
@@ -41,7 +42,6 @@ use Rattle.weave_account.proofs.Listed.{listed-is, in-begun}
 use Rattle.weave_account.proofs.ListingClause.{final-begun}
 use Rattle.weave_account.proofs.Meeting.{visit-there, read-visited-there}
 use Rattle.weave_data.proofs.Images.{flat-has}
-use Rattle.weave_account.proofs.SameName.{same_name-refl}
 use Rattle.weave_account.proofs.Printing.{has-order}
 use Rattle.weave_account.proofs.Replies.{has-reply}
 use Rattle.weave_account.proofs.Basis.{Basis}

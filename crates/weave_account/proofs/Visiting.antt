@@ -27,6 +27,7 @@ use Rattle.weave_account.specs.Account.{pairs_in, commits_in, Precedence}
 use Rattle.weave_account.specs.Shards.{AreShardDeeds, update_at, IsRightVisit}
 use Rattle.weave_data.proofs.Ordered.{pairs_across}
 use Rattle.weave_data.proofs.Images.{flat-has}
+use Rattle.weave_data.proofs.Lists.{get-some}
 use Rattle.weave_account.proofs.Ordering.{Earlier, ordered}
 use Rattle.weave_account.specs.Shards.{update_of}
 use Rattle.weave_account.proofs.Sessions.{take-more, cut-here, take-drop}
@@ -44,11 +45,6 @@ module _ {A : Type 0} where
   get-take (suc n) [] j lt = refl
   get-take (suc n) (x ∷ xs) zero lt = refl
   get-take (suc n) (x ∷ xs) (suc j) lt = get-take n xs j (omega (arith, lt))
-
-  get-some : (xs : List A) (j : ℕ) → j < length xs → (x : A) × (slice_get xs j ≡ Some x)
-  get-some [] j lt = absurd (omega (arith, lt))
-  get-some (x ∷ xs) zero lt = (x, refl)
-  get-some (x ∷ xs) (suc j) lt = get-some xs j (omega (arith, lt))
 
   drop-here : (xs : List A) (n : ℕ) (x : A) → slice_get xs n ≡ Some x → drop n xs ≡ x ∷ drop (suc n) xs
   drop-here [] n x e = cc

@@ -1,5 +1,6 @@
 -- A loop in time: a gatekeeper hears of an event before the one that this event rests on was made. Every count is
 -- known at the end, and stamps rise.
+-- Used by nothing: worked examples.
 use Rattle.std.proofs.Common.{[], ◌∷◌, IsTrue, None, refl}
 use Rattle.std.specs.Prelude.{codes}
 use Rattle.vector_stamp.specs.declared.clock.Stamp.{Stamp}

@@ -1,4 +1,5 @@
 -- Logs that are no account, each shown by one clause.
+-- Used by nothing: worked examples.
 use Rattle.std.proofs.Common.{◌≡◌, ℕ, true, false, List, [], ◌∷◌, ◌++◌, map, length, Contains, IsTrue, Some, inl, inr, refl, sym, ap, subst, ◌∙◌, arith}
 use Rattle.std.specs.List.{flat_map}
 use Rattle.weave_data.proofs.Members.{has_none, has_read, has_head, only}

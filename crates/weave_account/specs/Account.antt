@@ -1,5 +1,5 @@
 -- What the logs of a run, all together, say of its requests. A log that isn't there counts as empty.
-use Rattle.std.specs.Prelude.{ℕ, Bool, ◌==◌, List, [], map, Contains, slice_index_or, Option}
+use Rattle.std.specs.Prelude.{◌≡◌, ℕ, Bool, ◌==◌, List, [], map, Contains, slice_index_or, Option, None}
 use Rattle.std.specs.List.{find, flat_map}
 use Rattle.std.specs.Option.{option_map}
 use Rattle.weave_data.specs.declared.name.Name.{Name}
@@ -9,7 +9,7 @@ use Rattle.vector_stamp.specs.Precedence.{GivenPair, Precedes}
 use Rattle.weave_entries.specs.declared.gate_log.GateEntry.{GateEntry}
 use Rattle.weave_entries.specs.declared.shard_log.ShardEntry.{ShardEntry}
 use Rattle.weave_entries.specs.declared.session_log.SessionEntry.{SessionEntry}
-use Rattle.weave_entries.specs.GateReplay.{BegunRequest, begun_in, ended_in}
+use Rattle.weave_entries.specs.GateReplay.{BegunRequest, begun_in, ended_in, flight_of}
 use Rattle.weave_entries.specs.OracleReplay.{pairs_of_log}
 use Rattle.weave_entries.specs.ShardReplay.{reads_in}
 use Rattle.weave_entries.specs.StoreReplay.{Commit, commits_of}
@@ -35,6 +35,10 @@ session_log account session = slice_index_or account.sessions session []
 -- what was begun at the gatekeepers
 abbrev pub all_begun : Account → List BegunRequest
 all_begun account = flat_map begun_in account.gates
+
+-- no transaction is in flight at any gatekeeper
+abbrev pub NoneInFlight : Account → Type 0
+NoneInFlight account = (home : ℕ) → flight_of (gate_log account home) ≡ None
 
 -- the stamp of a request, if it was begun
 abbrev pub stamp_of : Account → ℕ → Option Stamp

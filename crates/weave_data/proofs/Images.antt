@@ -1,6 +1,6 @@
 -- Members of mapped lists, the last element that passes a test, the element at a place, and lists of lists.
--- Used by 8 crates above.
-use Rattle.std.proofs.Common.{◌≡◌, ℕ, zero, suc, ◌<◌, Bool, length, get_or, arith, List, [], ◌∷◌, map, Contains, None, Some, inl, inr, sym, subst}
+-- Used by 9 crates above.
+use Rattle.std.proofs.Common.{◌≡◌, ℕ, zero, suc, ◌<◌, Bool, length, get_or, arith, List, [], ◌∷◌, map, Contains, None, Some, inl, inr, sym, subst, refl, ap, ◌∙◌}
 use Rattle.std.specs.Prelude.{reverse, slice_get}
 use Rattle.std.specs.List.{filter, find, flat_map}
 use Rattle.std.proofs.lemmas.List.{reverse-append}
@@ -48,3 +48,8 @@ pub within-list : {A : Type 0} (xss : List (List A)) (i : ℕ) (y : A) → Conta
 within-list [] i y h = absurd (has_none y h)
 within-list (xs ∷ xss) zero y h = omega arith
 within-list (xs ∷ xss) (suc i) y h = let lt = within-list xss i y h in omega (arith, lt)
+
+-- images that come back are what they were made of
+pub made-back : {A B : Type 0} (f : A → B) (g : B → A) → ((x : B) → f (g x) ≡ x) → (xs : List B) → map f (map g xs) ≡ xs
+made-back f g same [] = refl
+made-back f g same (x ∷ xs) = ap (λ y. y ∷ map f (map g xs)) (same x) ∙ ap (λ ys. x ∷ ys) (made-back f g same xs)

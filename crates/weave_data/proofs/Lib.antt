@@ -4,6 +4,7 @@ pub mod Ordered
 pub mod Ends
 pub mod Entries
 pub mod Ranges
+pub mod Results
 pub mod FactsLaws
 pub mod Steps
 pub mod Images
@@ -19,3 +20,4 @@ pub mod Finding
 pub mod Kept
 pub mod Spelling
 pub mod Stored
+pub mod RowsSet

@@ -1,5 +1,5 @@
 -- Lists, by recursion.
--- Used by FactsLaws, ListPlaces and 13 crates above.
+-- Used by FactsLaws, ListPlaces and 14 crates above.
 use Rattle.std.proofs.Common.{◌≡◌, ◌≢◌, ℕ, zero, suc, ◌<◌, Bool, true, false, cond, List, [], ◌∷◌, ◌++◌, IsTrue, length, refl, sym, ap, subst, Option, Some, None, inl, inr, arith}
 use Rattle.std.specs.Prelude.{slice_get, slice_set, find}
 use Rattle.std.specs.List.{filter, list_all, list_any, filter_map, cons_option, AllByRecursion}
@@ -46,6 +46,12 @@ module _ {A : Type 0} where
   none_passes p [] h g = cc
   none_passes p (x ∷ xs) h g =
       elim (or_cases (p x) _ g) [ inl here ↦ both_ways _ h.0 here | inr more ↦ none_passes p xs h.1 more ]
+
+  -- at each place below the length of a list there is an element
+  pub get-some : (xs : List A) (j : ℕ) → j < length xs → (x : A) × (slice_get xs j ≡ Some x)
+  get-some [] j within = absurd (omega (arith, within))
+  get-some (x ∷ xs) zero within = (x, refl)
+  get-some (x ∷ xs) (suc j) within = get-some xs j (omega (arith, within))
 
   -- the element after a list of this length
   pub get-here : (xs : List A) (x : A) (ys : List A) → slice_get (xs ++ x ∷ ys) (length xs) ≡ Some x

@@ -1,5 +1,5 @@
 -- The members of lists, of what is left of a filter, of mapped lists, and the first that passes a test.
--- Used by Ends, Images, ListPlaces, Numbers, Ordered and 32 crates above.
+-- Used by Ends, Images, ListPlaces, Numbers, Ordered and 33 crates above.
 use Rattle.std.proofs.Common.{◌≡◌, ℕ, zero, suc, Bool, true, false, cond, List, [], ◌∷◌, ◌++◌, map, take, drop, Contains, IsTrue, Option, None, Some, ◌⊎◌, inl, inr, refl, sym, ap, subst, ◌∙◌, arith}
 use Rattle.std.specs.List.{filter, filter_map, cons_option, find, flat_map, list_any}
 use Rattle.std.proofs.lemmas.Bool.{both_ways, or_cases, or_left, or_right}
@@ -9,6 +9,11 @@ module _ {A : Type 0} where
   -- the empty list has no member
   pub has_none : (x : A) → Contains [] x → ⊥
   has_none x h = omega (arith, h.1)
+
+  -- a list without a member is empty
+  pub no-members : (xs : List A) → ((x : A) → Contains xs x → ⊥) → xs ≡ []
+  no-members [] none = refl
+  no-members (x ∷ xs) none = absurd (none x (zero, omega arith, refl))
 
   -- a member is the first element, or a member of the rest
   pub has_read : (y : A) (xs : List A) (x : A) → Contains (y ∷ xs) x → (y ≡ x) ⊎ Contains xs x

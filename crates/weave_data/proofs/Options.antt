@@ -1,7 +1,7 @@
 -- Values that may be there.
--- Used by crates shard_lock, shard_node, weave_entries and weaver_core.
+-- Used by 6 crates above.
 use Rattle.std.proofs.Common.{◌≡◌, true, Option, None, Some, is_some, refl}
-use Rattle.std.specs.Option.{option_map, option_or}
+use Rattle.std.specs.Option.{IsSomeAnd, option_map, option_or}
 
 -- a value or none is the value
 pub or_none : {A : Type 0} (x : Option A) → option_or x None ≡ x
@@ -24,3 +24,9 @@ pub map_some : {A B : Type 0} (f : A → B) (x : Option A) (y : B) → option_ma
     → (z : A) × (x ≡ Some z) × (f z ≡ y)
 map_some f None y is = absurd cc
 map_some f (Some z) y is = (z, refl, cc)
+
+-- what holds of a value that is there still holds if less is asked of it
+pub some-weaker : {A : Type 0} (P Q : A → Type 0) (found : Option A) → ((x : A) → P x → Q x) → IsSomeAnd found P
+    → IsSomeAnd found Q
+some-weaker P Q None weaker holds = holds
+some-weaker P Q (Some x) weaker holds = weaker x holds

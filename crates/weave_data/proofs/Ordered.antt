@@ -1,12 +1,12 @@
 -- Lists in which each element has a relation to each later one.
 -- Used by 16 crates above.
-use Rattle.std.proofs.Common.{◌≡◌, ◌≢◌, ℕ, zero, suc, ◌<◌, nat_eq, ◌==◌, cond, List, [], ◌∷◌, ◌++◌, get_or, Contains, AllPairs, Some, ◌⊎◌, inl, inr, refl, sym, ap, subst, ◌∙◌, arith}
+use Rattle.std.proofs.Common.{◌≡◌, ◌≢◌, ℕ, zero, suc, ◌<◌, nat_eq, ◌==◌, cond, List, [], ◌∷◌, ◌++◌, get_or, Contains, AllPairs, Some, ◌⊎◌, inl, inr, refl, sym, ap, subst, ◌∙◌, arith, map}
 use Rattle.std.specs.List.{find}
 use Rattle.std.proofs.lemmas.Bool.{cases_order, eq-eqb, ne_eqb}
 use Rattle.std.proofs.lemmas.List.{length-append, get_or_append_left, get_or_default}
 use Rattle.std.proofs.lemmas.List.Elements.{Contains-get_or, Contains-append_right}
 use Rattle.std.proofs.lemmas.List.Quantifiers.{all_pairs_push}
-use Rattle.weave_data.proofs.Members.{has_none, has_read, has_head}
+use Rattle.weave_data.proofs.Members.{has_none, has_read, has_head, has_map}
 
 module _ {A : Type 0} (R : A → A → Type 0) where
   -- the empty list is so
@@ -79,3 +79,11 @@ find_by_key key (z ∷ xs) x pairs h =
           ap (λ b. cond b (Some z) (find (λ y. key y == key x) xs)) (ne_eqb (key z) (key x) (pairs_head (λ a b. key a ≢ key b) z xs x pairs more))
           ∙ find_by_key key xs x (pairs_tail (λ a b. key a ≢ key b) z xs pairs) more
     ]
+
+-- if each two images are related, in order, so are the elements by their images
+pub pairs-of-images : {A B : Type 0} (f : A → B) (R : B → B → Type 0) (xs : List A) → AllPairs R (map f xs)
+    → AllPairs (λ a b. R (f a) (f b)) xs
+pairs-of-images f R [] pairs = pairs_none (λ a b. R (f a) (f b))
+pairs-of-images f R (x ∷ xs) pairs =
+    pairs_cons (λ a b. R (f a) (f b)) x xs (λ y h. pairs_head R (f x) (map f xs) (f y) pairs (has_map f xs y h))
+    (pairs-of-images f R xs (pairs_tail R (f x) (map f xs) pairs))

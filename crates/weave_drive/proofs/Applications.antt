@@ -16,7 +16,7 @@ use Rattle.weave_entries.specs.declared.shard_log.ShardDeed.TheVariants.{Applied
 use Rattle.weave_entries.specs.GateReplay.{addressed_to, channel_of}
 use Rattle.weave_entries.specs.ShardReplay.{head_of, processed_by, processed_count, processed_of}
 use Rattle.weave_account.specs.declared.account.Account.{Account}
-use Rattle.weave_account.specs.Account.{gate_log, shard_log}
+use Rattle.weave_account.specs.Account.{gate_log, shard_log, NoneInFlight}
 use Rattle.weave_account.specs.GoesOn.{GoesOn}
 use Rattle.step_rules.specs.CoreState.{CoreState, with_shard_deed}
 use Rattle.step_rules.specs.Answers.{answer_of, answer_of_apply, waits_or_ok}
@@ -24,7 +24,7 @@ use Rattle.step_rules.specs.Entries.{account_with}
 use Rattle.step_rules.specs.IsCore.{IsCore}
 use Rattle.step_rules.specs.Trace.{is_ok}
 use Rattle.weaver_core.specs.Cores.{CoreView, DoesStep}
-use Rattle.drive_rules.specs.Heads.{AllArrived, AllProcessed, CanApply, IsQuiet}
+use Rattle.drive_rules.specs.Heads.{AllArrived, AllProcessed, CanApply}
 use Rattle.weave_drive.specs.Driving.{Drives}
 use Rattle.weave_drive.specs.LowerLaws.{LawsForDriving}
 use Rattle.weave_drive.specs.Loops.{AppliesBelow, IsApplying, IsCatchingUp}
@@ -217,7 +217,7 @@ still-all-arrived old new on same shard arrived home addressed h =
     still-message old new on shard home addressed.number addressed.message (arrived home addressed (subst (λ (gs : List (List GateEntry)). Contains (addressed_to shard (slice_index_or gs home [])) addressed) same h))
 
 -- if no transaction was in flight and all had arrived, all is processed once a round has changed nothing
-pub catching-end : (laws : LawsForDriving) (shard : ℕ) (old middle new : CoreView) → IsWithinLimits old.script → IsCore old.script old.state → IsQuiet old.state.account → AllArrived old.state.account shard
+pub catching-end : (laws : LawsForDriving) (shard : ℕ) (old middle new : CoreView) → IsWithinLimits old.script → IsCore old.script old.state → NoneInFlight old.state.account → AllArrived old.state.account shard
     → IsCatchingUp shard old middle → AppliesRound old.script.gates shard old.script.gates middle.state new.state false → AppliesAll shard old.state.account new.state.account
 catching-end laws shard old middle new limits core quiet arrived a b = record {
   same_gates = b.same_gates ∙ a.same_gates;

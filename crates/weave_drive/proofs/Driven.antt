@@ -1,5 +1,7 @@
 -- Driving (running allowed steps, each of which leaves a core) composes, keeps cores, and only extends accounts.
--- Used by `answer`, `apply_all`, `apply_channel`, `apply_round`, `deliver_all`, `deliver_to`, `drive_all` and 16 more.
+-- Used by `answer`, `apply_all`, `apply_channel`, `apply_round`, `deliver_all`, `deliver_to`, `drive_all`,
+-- `end_flight`, `end_flights`, `look`, `make_ready`, `nudge`, `nudge_all`, `step`, `visit`, Applications, Deliveries,
+-- Going, Nudging, Quiet, Reading, Replied and Stays.
 use Rattle.std.proofs.Common.{◌≡◌, ℕ, ◌≤◌, List, [], ◌∷◌, ◌++◌, fold, IsTrue, refl, sym, ap, subst, ◌∙◌, arith}
 use Rattle.std.proofs.lemmas.Bool.{lt-ltb, ltb-true}
 use Rattle.std.proofs.lemmas.List.Sums.{fold-append}

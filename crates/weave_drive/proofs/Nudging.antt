@@ -24,7 +24,7 @@ use Rattle.weave_entries.specs.declared.gate_log.GateDeed.TheVariants as gate
 use Rattle.weave_entries.specs.declared.message.Addressed.{Addressed}
 use Rattle.weave_entries.specs.GateReplay.{addressed_to, clock_after, clock_of, flight_of, low_mark, messages_by, next_number, next_stamp, nop_message, running_of, stamps_by, stamps_of, to_shard}
 use Rattle.weave_account.specs.declared.account.Account.{Account}
-use Rattle.weave_account.specs.Account.{gate_log}
+use Rattle.weave_account.specs.Account.{gate_log, NoneInFlight}
 use Rattle.weave_account.specs.GoesOn.{GoesOn}
 use Rattle.weave_account.specs.IsAccount.{IsAccount}
 use Rattle.step_rules.specs.CoreState.{CoreState, with_gate_deed}
@@ -32,7 +32,6 @@ use Rattle.step_rules.specs.Entries.{after_hear, with_nop}
 use Rattle.step_rules.specs.IsCore.{IsCore}
 use Rattle.step_rules.specs.Trace.{is_ok, state_after}
 use Rattle.weaver_core.specs.Cores.{CoreView, DoesStep}
-use Rattle.drive_rules.specs.Heads.{IsQuiet}
 use Rattle.drive_rules.specs.Readiness.{IsPassed}
 use Rattle.weave_drive.specs.Driving.{Drives}
 use Rattle.weave_drive.specs.LowerLaws.{LawsForDriving}
@@ -72,7 +71,7 @@ last-sent {A = A} xs x n is =
     at-end [] x = refl
     at-end (y ∷ xs) x = at-end xs x
 
-module _ (laws : LawsForDriving) (script : Script) (limits : IsWithinLimits script) (old : CoreState) (core : IsCore script old) (quiet : IsQuiet old.account)
+module _ (laws : LawsForDriving) (script : Script) (limits : IsWithinLimits script) (old : CoreState) (core : IsCore script old) (quiet : NoneInFlight old.account)
     (home g shard notice : ℕ) (home-inside : home < script.gates) (g-inside : g < script.gates)
     (notice-is : notice ≡ length (old.notices ++ clock_of home (gate_log old.account home) ∷ [])) where
   said : Clock
@@ -134,7 +133,7 @@ module _ (laws : LawsForDriving) (script : Script) (limits : IsWithinLimits scri
   }
 
 -- if a quiet core does `say` of a home, then `hear` and `nop` of g, g has sent after each stamp of that home
-pub nudge-done : (laws : LawsForDriving) (old first second third : CoreView) (home g shard notice : ℕ) (a b c : StepAnswer) → AreCores old first → IsQuiet old.state.account → home < old.script.gates → g < old.script.gates
+pub nudge-done : (laws : LawsForDriving) (old first second third : CoreView) (home g shard notice : ℕ) (a b c : StepAnswer) → AreCores old first → NoneInFlight old.state.account → home < old.script.gates → g < old.script.gates
     → notice ≡ length first.state.notices → DoesStep (Say home) old first a → DoesStep (Hear g notice) first second b → DoesStep (Nop g shard) second third c → Nudges home g shard old.state.account third.state.account
 nudge-done laws old first second third home g shard notice a b c cores quiet home-inside g-inside notice-is said heard sent =
     let first-is : first.state ≡ state_after old.script old.state (Say home) = said.state_is in

@@ -1,5 +1,6 @@
 -- `judge` and `send` end the flight, and no driving step but the begin of a transaction makes one.
--- Used by `answer`, `end_flight`, `end_flights`, `look`, `make_ready`, `nudge_all`, `visit`, Applications and 2 more.
+-- Used by `answer`, `end_flight`, `end_flights`, `look`, `make_ready`, `nudge_all`, `visit`, Applications, Nudging and
+-- Replied.
 use Rattle.std.proofs.Common.{◌≡◌, ℕ, zero, suc, ◌+◌, ◌<◌, ◌≤◌, Bool, true, false, cond, nat_eq, is_some, ◌==◌, List, [], ◌∷◌, fold, length, Contains, IsTrue, Option, Some, None, inl, inr, refl, sym, ap, subst, ◌∙◌, arith}
 use Rattle.std.specs.Prelude.{slice_index_or}
 use Rattle.std.specs.List.{find}
@@ -22,7 +23,7 @@ use Rattle.weave_entries.specs.declared.store_log.StoreEntry.{StoreEntry}
 use Rattle.weave_entries.specs.GateReplay.{BegunRequest, flight_after, flight_of}
 use Rattle.weave_entries.specs.StoreReplay.{Judgement, judged_by, judgement_of, judgements_of}
 use Rattle.weave_account.specs.declared.account.Account.{Account}
-use Rattle.weave_account.specs.Account.{gate_log}
+use Rattle.weave_account.specs.Account.{gate_log, NoneInFlight}
 use Rattle.step_rules.specs.CoreState.{CoreState}
 use Rattle.step_rules.specs.Answers.{answer_of_judge, answer_of_send}
 use Rattle.step_rules.specs.Entries.{after_judge, after_send, judgement_in_flight, with_judgement}
@@ -30,7 +31,6 @@ use Rattle.step_rules.specs.IsCore.{IsCore}
 use Rattle.step_rules.specs.Requests.{is_judged, ops_in}
 use Rattle.step_rules.specs.Trace.{is_ok, state_after}
 use Rattle.weaver_core.specs.Cores.{CoreView, DoesStep}
-use Rattle.drive_rules.specs.Heads.{IsQuiet}
 use Rattle.weave_drive.specs.Driving.{Drives, DrivesGates, is_driving_deed}
 use Rattle.weave_drive.specs.Loops.{EndsBelow}
 use Rattle.weave_drive.specs.Progress.{AreCores}
@@ -126,7 +126,7 @@ pub drives-quiet-at : (old new : CoreView) → Drives 0 old new → (home : ℕ)
 drives-quiet-at old new d = stays-quiet old.state.account new.state.account (driven-gates 0 old.script old.state new.state d.driven)
 
 -- a quiet core that is driven and begins no request stays quiet at all gatekeepers
-pub drives-quiet : (old new : CoreView) → Drives 0 old new → IsQuiet old.state.account → IsQuiet new.state.account
+pub drives-quiet : (old new : CoreView) → Drives 0 old new → NoneInFlight old.state.account → NoneInFlight new.state.account
 drives-quiet old new d quiet home = drives-quiet-at old new d home (quiet home)
 
 -- The gatekeepers in turn
@@ -146,7 +146,7 @@ ends-next old middle new n m next before drives here = record {
 }
 
 -- when all gatekeepers of the script have none, no transaction is in flight
-pub ends-all : (old new : CoreView) (n : ℕ) → IsCore old.script new.state → old.script.gates ≤ n → EndsBelow n old new → IsQuiet new.state.account
+pub ends-all : (old new : CoreView) (n : ℕ) → IsCore old.script new.state → old.script.gates ≤ n → EndsBelow n old new → NoneInFlight new.state.account
 ends-all old new n core all ends home = elim (cases_lt home n) [
   | inl below ↦ ends.none home below
   | inr over ↦ ap flight_of (past new.state.account.gates home (let many = core.account.gatekeepers.as_many in omega (arith, many, over, all)))

@@ -28,7 +28,7 @@ use Rattle.weave_entries.specs.declared.session_log.SessionEntry.{SessionEntry}
 use Rattle.weave_entries.specs.GateReplay.{BegunRequest, begun_by, begun_in, flight_after, flight_of, has_ended_in, program_begun, program_by, programs_of, stamps_by, stamps_of, tx_by}
 use Rattle.weave_entries.specs.SessionReplay.{begin_by, begins_in, has_begun_in, has_reply_in, replied_in, reply_by}
 use Rattle.weave_account.specs.declared.account.Account.{Account}
-use Rattle.weave_account.specs.Account.{all_begun, gate_log, session_log}
+use Rattle.weave_account.specs.Account.{all_begun, gate_log, session_log, NoneInFlight}
 use Rattle.weave_account.specs.Gatekeepers.{BeginsAs}
 use Rattle.weave_account.specs.GoesOn.{GoesOn}
 use Rattle.weave_account.specs.IsAccount.{IsAccount}
@@ -40,7 +40,6 @@ use Rattle.step_rules.specs.IsCore.{IsCore}
 use Rattle.step_rules.specs.Requests.{finds_flight, has_begun, has_ended, has_reply, is_answered, waits_for_earlier}
 use Rattle.step_rules.specs.Trace.{is_ok, state_after}
 use Rattle.weaver_core.specs.Cores.{CoreView, DoesStep}
-use Rattle.drive_rules.specs.Heads.{IsQuiet}
 use Rattle.weave_drive.specs.Driving.{AreReplied, Drives, is_driving}
 use Rattle.weave_drive.specs.LowerLaws.{LawsForDriving}
 use Rattle.weave_drive.specs.Loops.{AnswersBelow}
@@ -119,7 +118,7 @@ module _ (laws : LawsForDriving) (script : Script) (limits : IsWithinLimits scri
     pub program : (program : Program) → request.work ≡ Look program → flight_of (gate_log new request.gate) ≡ None
 
   -- of a request that hadn't begun
-  begins-new : (state : CoreState) → IsCore script state → IsQuiet state.account → Begins (after_begin state.account r request)
+  begins-new : (state : CoreState) → IsCore script state → NoneInFlight state.account → Begins (after_begin state.account r request)
   begins-new state core quiet = record {
     has = ap (has_begun_in r) (set-there account.sessions request.session _ (session-inside script limits state core r request request-is))
         ∙ ap (list_any (λ (begun : ℕ × Stamp). begun.0 == r)) (flat_map-append (λ (entry : SessionEntry). begin_by entry.deed) (session_log account request.session) _)
@@ -139,7 +138,7 @@ module _ (laws : LawsForDriving) (script : Script) (limits : IsWithinLimits scri
       stamp : Stamp
       stamp = stamp_to_begin state.account request
 
-  begins-by : (state : CoreState) → IsCore script state → IsQuiet state.account → AreReplied script r state.account → (b : Bool) → has_begun state.account r request ≡ b → Begins (state_after script state (Begin r)).account
+  begins-by : (state : CoreState) → IsCore script state → NoneInFlight state.account → AreReplied script r state.account → (b : Bool) → has_begun state.account r request ≡ b → Begins (state_after script state (Begin r)).account
   begins-by state core quiet replied true e =
       let twice : answer_of script state (Begin r) ≡ Twice = ap (for_request (answer_of_begin script state.account r)) request-is ∙ ap (λ b. cond b Twice (cond (waits_for_earlier script state.account r request) Early (cond (finds_flight state.account request) Busy Ok))) e in
       let stays : (state_after script state (Begin r)).account ≡ state.account = account-after script state (Begin r) ∙ ap (λ a. cond {A = Account} (is_ok a) (account_with script state (Begin r)) state.account) twice in
@@ -159,7 +158,7 @@ module _ (laws : LawsForDriving) (script : Script) (limits : IsWithinLimits scri
       no-flight false = refl
 
   -- in a quiet core where all requests before one have replies, `begin` leaves it begun, and no other in flight
-  pub begun-now : (state : CoreState) → IsCore script state → IsQuiet state.account → AreReplied script r state.account → Begins (state_after script state (Begin r)).account
+  pub begun-now : (state : CoreState) → IsCore script state → NoneInFlight state.account → AreReplied script r state.account → Begins (state_after script state (Begin r)).account
   begun-now state core quiet replied = begins-by state core quiet replied (has_begun state.account r request) refl
 
   -- Reply
@@ -196,7 +195,7 @@ module _ (laws : LawsForDriving) (script : Script) (limits : IsWithinLimits scri
           ∙ any-last (λ replied. replied == r) (replied_in (session_log middle request.session)) r (eq-eqb r r refl)
 
   -- in a quiet core a begun transaction was sent
-  pub sent-when-quiet : (state : CoreState) → IsCore script state → IsQuiet state.account → IsTrue (is_change request.work) → has_begun state.account r request ≡ true → is_answered state.account r request request.work ≡ true
+  pub sent-when-quiet : (state : CoreState) → IsCore script state → NoneInFlight state.account → IsTrue (is_change request.work) → has_begun state.account r request ≡ true → is_answered state.account r request request.work ≡ true
   sent-when-quiet state core quiet change begun = by request.work change (laws.sent script state.account limits core.account r request request-is change begun ∙ ap (λ o. not (is_some_and (λ (flight : BegunRequest). flight.request == r) o)) (quiet request.gate))
     where
       by : (work : Work) → IsTrue (is_change work) → has_ended_in r (gate_log state.account request.gate) ≡ true → is_answered state.account r request work ≡ true
@@ -315,7 +314,7 @@ module _ (laws : LawsForDriving) (script : Script) (limits : IsWithinLimits scri
   -- Answered
 
   -- if it has its reply, as all before it had, and none is in flight, all below the next number are answered
-  pub answered-next : (old new : Account) → GoesOn old new → AreReplied script r old → IsQuiet new → has_reply new r request ≡ true → (n : ℕ) → n ≡ r + 1 → AreAnsweredBelow script n new
+  pub answered-next : (old new : Account) → GoesOn old new → AreReplied script r old → NoneInFlight new → has_reply new r request ≡ true → (n : ℕ) → n ≡ r + 1 → AreAnsweredBelow script n new
   answered-next old new on replied quiet has n n-is = record {
     quiet = quiet;
     replied = λ q asked below asked-is. elim (cases_eq q r) [
@@ -337,7 +336,7 @@ module _ (laws : LawsForDriving) (old first : CoreView) (r : ℕ) (request : Req
       (begun-now laws old.script cores.limits r request request-is old.state cores.before answered.quiet answered.replied)
 
   -- a program's begin leaves the core quiet
-  pub first-quiet : is_change request.work ≡ false → IsQuiet first.state.account
+  pub first-quiet : is_change request.work ≡ false → NoneInFlight first.state.account
   first-quiet look g = elim (cases_eq g request.gate) [
     | inl same ↦ subst (λ k. flight_of (gate_log first.state.account k) ≡ None) (sym same) (by request.work refl look)
     | inr other ↦ first-begins.others g other
@@ -367,7 +366,7 @@ module _ (laws : LawsForDriving) (old first : CoreView) (r : ℕ) (request : Req
     middle-core = subst (λ s. IsCore s middle.state) did.script_is (drives-core 0 first middle (subst (λ s. IsCore s first.state) (sym did.script_is) cores.after) drives)
 
     -- once the flight at its gatekeeper has ended there is none
-    pub middle-quiet : flight_of (gate_log middle.state.account request.gate) ≡ None → IsQuiet middle.state.account
+    pub middle-quiet : flight_of (gate_log middle.state.account request.gate) ≡ None → NoneInFlight middle.state.account
     middle-quiet ended g = elim (cases_eq g request.gate) [
       | inl same ↦ subst (λ k. flight_of (gate_log middle.state.account k) ≡ None) (sym same) ended
       | inr other ↦ drives-quiet-at first middle drives g (first-begins.others g other)
@@ -377,7 +376,7 @@ module _ (laws : LawsForDriving) (old first : CoreView) (r : ℕ) (request : Req
     middle-begun = still-begun first.state.account middle.state.account middle-on r request first-begins.has
 
     -- once the core is quiet, a begun transaction counts as answered
-    pub middle-sent : IsTrue (is_change request.work) → IsQuiet middle.state.account → is_answered middle.state.account r request request.work ≡ true
+    pub middle-sent : IsTrue (is_change request.work) → NoneInFlight middle.state.account → is_answered middle.state.account r request request.work ≡ true
     middle-sent change quiet = sent-when-quiet laws old.script cores.limits r request request-is middle.state middle-core quiet change middle-begun
 
     -- a program that has no next vertex to read counts as answered
@@ -385,7 +384,7 @@ module _ (laws : LawsForDriving) (old first : CoreView) (r : ℕ) (request : Req
     middle-read look whole = read-when-whole laws old.script cores.limits r request request-is middle.state.account (subst (λ s. HasNoNextVertex s r middle.state.account) (drives.script_is ∙ did.script_is) whole) look
 
     -- in a quiet core, once a request counts as answered, `reply` leaves all requests up to it answered
-    pub last-answered : (last : CoreView) (b : StepAnswer) → IsQuiet middle.state.account → is_answered middle.state.account r request request.work ≡ true
+    pub last-answered : (last : CoreView) (b : StepAnswer) → NoneInFlight middle.state.account → is_answered middle.state.account r request request.work ≡ true
         → DoesStep (Reply r) middle last b → Drives 0 middle last → AreAnsweredBelow old.script (r + 1) last.state.account
     last-answered last b quiet ended replied on-drives =
         let same : middle.script ≡ old.script = drives.script_is ∙ did.script_is in
@@ -405,7 +404,7 @@ begins-below r = lt-ltb r (r + 1) (omega arith)
 -- The loop
 
 -- a core driven to where none is in flight and the first n requests have replies has answered these requests
-pub answers-from : (upto n : ℕ) (old new : CoreView) → Drives upto old new → IsQuiet new.state.account → AreReplied new.script n new.state.account → AnswersBelow upto n old new
+pub answers-from : (upto n : ℕ) (old new : CoreView) → Drives upto old new → NoneInFlight new.state.account → AreReplied new.script n new.state.account → AnswersBelow upto n old new
 answers-from upto n old new drives quiet replied = record {
   drives = drives;
   answered = record { quiet = quiet; replied = subst (λ (s : Script). AreReplied s n new.state.account) drives.script_is replied };

@@ -20,14 +20,14 @@ use Rattle.weave_entries.specs.GateReplay.{BegunRequest, addressed_to, channel_o
 use Rattle.weave_entries.specs.SessionReplay.{has_begun_in}
 use Rattle.weave_entries.specs.ShardReplay.{arrived_at, first_unready}
 use Rattle.weave_account.specs.declared.account.Account.{Account}
-use Rattle.weave_account.specs.Account.{gate_log, reads_of, session_log, shard_log, stamp_of}
+use Rattle.weave_account.specs.Account.{gate_log, reads_of, session_log, shard_log, stamp_of, NoneInFlight}
 use Rattle.weave_account.specs.Gatekeepers.{BeginEachOnce}
 use Rattle.weave_account.specs.GoesOn.{GoesOn}
 use Rattle.weave_account.specs.IsAccount.{IsAccount}
 use Rattle.step_rules.specs.CoreState.{CoreState}
 use Rattle.step_rules.specs.IsCore.{IsCore, IsStepOf}
 use Rattle.step_rules.specs.Trace.{state_after}
-use Rattle.drive_rules.specs.Heads.{IsQuiet, AllArrived, AllProcessed, CanApply}
+use Rattle.drive_rules.specs.Heads.{AllArrived, AllProcessed, CanApply}
 use Rattle.drive_rules.specs.Readiness.{IsPassed}
 use Rattle.drive_rules.specs.Links.{link_count}
 
@@ -55,7 +55,7 @@ pub record LawsForDriving : Type 0 where
       → sent_as addressed.number (channel_of shard (gate_log account home)) ≡ Some addressed.message
   -- no_shard_is_stuck
   pub all_processed : (script : Script) (account : Account) → IsWithinLimits script → IsAccount script account
-      → IsQuiet account
+      → NoneInFlight account
       → (shard : ℕ) → AllArrived account shard → ((home : ℕ) → ¬ CanApply account shard home)
       → AllProcessed account shard
   -- known_clocks_may_be_heard

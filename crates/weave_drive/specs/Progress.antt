@@ -16,11 +16,11 @@ use Rattle.weave_entries.specs.declared.message.Addressed.{Addressed}
 use Rattle.weave_entries.specs.GateReplay.{BegunRequest, addressed_to, channel_of, program_begun, stamps_of}
 use Rattle.weave_entries.specs.ShardReplay.{arrived_at, first_unready, processed_count}
 use Rattle.weave_account.specs.declared.account.Account.{Account}
-use Rattle.weave_account.specs.Account.{gate_log, reads_of, shard_log}
+use Rattle.weave_account.specs.Account.{gate_log, reads_of, shard_log, NoneInFlight}
 use Rattle.step_rules.specs.CoreState.{CoreState}
 use Rattle.step_rules.specs.IsCore.{IsCore}
 use Rattle.weaver_core.specs.Cores.{CoreView}
-use Rattle.drive_rules.specs.Heads.{IsQuiet, AllArrived, AllProcessed, CanApply}
+use Rattle.drive_rules.specs.Heads.{AllArrived, AllProcessed, CanApply}
 use Rattle.drive_rules.specs.Links.{link_count}
 use Rattle.weave_drive.specs.Driving.{AreReplied}
 
@@ -150,5 +150,5 @@ pub record ReadsOnward (script : Script) (r home : ℕ) (old new : Account) (mor
 
 -- no transaction is in flight, and each request below n has its reply
 pub record AreAnsweredBelow (script : Script) (n : ℕ) (account : Account) : Type 0 where
-  pub quiet : IsQuiet account
+  pub quiet : NoneInFlight account
   pub replied : AreReplied script n account

@@ -3,8 +3,7 @@ ghost use Rattle.std.specs.Prelude.{◌≡◌, ◌+◌, ◌<◌, ◌≤◌, true
 ghost use Rattle.program_defs.specs.Works as works;
 ghost use Rattle.report_rules.specs.Lookups.{request_at};
 ghost use Rattle.weave_entries.specs.GateReplay.{flight_of};
-ghost use Rattle.weave_account.specs.Account.{gate_log};
-ghost use Rattle.drive_rules.specs.Heads.{IsQuiet};
+ghost use Rattle.weave_account.specs.Account.{gate_log, NoneInFlight};
 ghost use Rattle.weave_drive.specs.Driving.{AreReplied, Drives, DrivesGates, IsDriven};
 ghost use Rattle.weave_drive.specs.Progress.{AreAnsweredBelow, IsReading, HasNoNextVertex};
 ghost use Rattle.weave_drive.specs.Staying.{ReportStays};
@@ -45,7 +44,7 @@ fn end_request(
 ) -> Result<(), AllocError>
     requires home { home < core.old.script.gates }
     requires reading { change ≡ false → IsReading core.old.script request home core.old.state.account }
-    requires quiet { change ≡ false → IsQuiet core.old.state.account }
+    requires quiet { change ≡ false → NoneInFlight core.old.state.account }
     ensures drives { Drives 0 core.old core.new }
     ensures sent { OnOk result (change ≡ true → flight_of (gate_log core.new.state.account home) ≡ None) }
     ensures read { OnOk result (change ≡ false → HasNoNextVertex core.old.script request core.new.state.account) }

@@ -1,6 +1,7 @@
 //! Messages that arrived are processed.
 ghost use Rattle.std.specs.Prelude.{◌<◌, IfOk, OnOk};
-ghost use Rattle.drive_rules.specs.Heads.{AllArrived, IsQuiet};
+ghost use Rattle.weave_account.specs.Account.{NoneInFlight};
+ghost use Rattle.drive_rules.specs.Heads.{AllArrived};
 ghost use Rattle.weave_drive.specs.Driving.{Drives};
 ghost use Rattle.weave_drive.specs.Progress.{AppliesChannel, AppliesAll, AppliesRound};
 
@@ -55,7 +56,7 @@ fn apply_round(alloc: Global, core: &mut Core, shard: u32) -> Result<bool, Alloc
 // All that arrived at the shard is processed.
 pub(crate) fn apply_all(alloc: Global, core: &mut Core, shard: u32) -> Result<(), AllocError>
     requires shard { shard < core.old.script.shards }
-    requires quiet { IsQuiet core.old.state.account }
+    requires quiet { NoneInFlight core.old.state.account }
     requires arrived { AllArrived core.old.state.account shard }
     ensures drives { Drives 0 core.old core.new }
     ensures applies { OnOk result (AppliesAll shard core.old.state.account core.new.state.account) }

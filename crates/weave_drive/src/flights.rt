@@ -1,8 +1,7 @@
 //! Transactions in flight are judged and sent.
 ghost use Rattle.std.specs.Prelude.{◌≡◌, ◌<◌, None, OnOk};
 ghost use Rattle.weave_entries.specs.GateReplay.{flight_of};
-ghost use Rattle.weave_account.specs.Account.{gate_log};
-ghost use Rattle.drive_rules.specs.Heads.{IsQuiet};
+ghost use Rattle.weave_account.specs.Account.{gate_log, NoneInFlight};
 ghost use Rattle.weave_drive.specs.Driving.{Drives};
 
 use crate::lower_laws::the_crates_below_keep_their_laws;
@@ -25,7 +24,7 @@ pub(crate) fn end_flight(alloc: Global, core: &mut Core, gate: u32) -> Result<()
 // All flights end.
 pub(crate) fn end_flights(alloc: Global, core: &mut Core) -> Result<(), AllocError>
     ensures drives { Drives 0 core.old core.new }
-    ensures quiet { OnOk result (IsQuiet core.new.state.account) }
+    ensures quiet { OnOk result (NoneInFlight core.new.state.account) }
 {
     the_crates_below_keep_their_laws();
     let gates = core.script().gates;

@@ -1,6 +1,6 @@
 //! A program reads its vertices.
 ghost use Rattle.std.specs.Prelude.{◌<◌, length, IfOk, OnOk};
-ghost use Rattle.drive_rules.specs.Heads.{IsQuiet};
+ghost use Rattle.weave_account.specs.Account.{NoneInFlight};
 ghost use Rattle.weave_drive.specs.Driving.{Drives};
 ghost use Rattle.weave_drive.specs.Progress.{IsReading, HasNoNextVertex, ReadsOnward};
 
@@ -15,7 +15,7 @@ use weaver_core::Core;
 // The program's next vertex is visited, or its shard becomes ready: whether there was one.
 fn visit(alloc: Global, core: &mut Core, home: u32, request: u32) -> Result<bool, AllocError>
     requires reading { IsReading core.old.script request home core.old.state.account }
-    requires quiet { IsQuiet core.old.state.account }
+    requires quiet { NoneInFlight core.old.state.account }
     ensures drives { Drives 0 core.old core.new }
     ensures visits { IfOk result
         (ReadsOnward core.old.script request home core.old.state.account core.new.state.account) }
@@ -40,7 +40,7 @@ pub(crate) fn look(
     request: u32,
 ) -> Result<(), AllocError>
     requires reading { IsReading core.old.script request home core.old.state.account }
-    requires quiet { IsQuiet core.old.state.account }
+    requires quiet { NoneInFlight core.old.state.account }
     ensures drives { Drives 0 core.old core.new }
     ensures whole { OnOk result (HasNoNextVertex core.old.script request core.new.state.account) }
 {

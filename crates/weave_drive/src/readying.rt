@@ -1,6 +1,6 @@
 //! A shard becomes ready for a program.
 ghost use Rattle.std.specs.Prelude.{◌<◌, ℕ, OnOk};
-ghost use Rattle.drive_rules.specs.Heads.{IsQuiet};
+ghost use Rattle.weave_account.specs.Account.{NoneInFlight};
 ghost use Rattle.weave_drive.specs.Driving.{Drives};
 ghost use Rattle.weave_drive.specs.Progress.{MakesReady, Nudges};
 
@@ -18,7 +18,7 @@ fn nudge(alloc: Global, core: &mut Core, home: u32, gate: u32, shard: u32) -> Re
     requires home { home < core.old.script.gates }
     requires gate { gate < core.old.script.gates }
     requires shard { shard < core.old.script.shards }
-    requires quiet { IsQuiet core.old.state.account }
+    requires quiet { NoneInFlight core.old.state.account }
     ensures drives { Drives 0 core.old core.new }
     ensures nudges { OnOk result (Nudges home gate shard core.old.state.account core.new.state.account) }
 {
@@ -34,7 +34,7 @@ fn nudge(alloc: Global, core: &mut Core, home: u32, gate: u32, shard: u32) -> Re
 fn nudge_all(alloc: Global, core: &mut Core, home: u32, shard: u32) -> Result<(), AllocError>
     requires home { home < core.old.script.gates }
     requires shard { shard < core.old.script.shards }
-    requires quiet { IsQuiet core.old.state.account }
+    requires quiet { NoneInFlight core.old.state.account }
     ensures drives { Drives 0 core.old core.new }
     ensures nudges { OnOk result ((gate : ℕ) → gate < core.old.script.gates
         → Nudges home gate shard core.old.state.account core.new.state.account) }
@@ -56,7 +56,7 @@ pub(crate) fn make_ready(
 ) -> Result<(), AllocError>
     requires home { home < core.old.script.gates }
     requires shard { shard < core.old.script.shards }
-    requires quiet { IsQuiet core.old.state.account }
+    requires quiet { NoneInFlight core.old.state.account }
     ensures drives { Drives 0 core.old core.new }
     ensures ready { OnOk result (MakesReady core.old.script home shard core.old.state.account core.new.state.account) }
 {

@@ -1,6 +1,7 @@
 -- The replay of a store's log with one more entry, and what a verdict says.
--- Used by `the_store_replay_goes_on` and `verdicts_say_what_was_judged`.
-use Rattle.std.proofs.Common.{◌≡◌, ℕ, ◌+◌, Bool, true, false, cond, List, [], ◌∷◌, ◌++◌, length, filter, Contains, IsTrue, Option, None, Some, Ok, Err, refl, sym, ap, ◌∙◌}
+-- Used by `the_store_replay_goes_on`, `verdicts_count_what_is_named`, `verdicts_say_what_was_judged` and 5 crates
+-- above.
+use Rattle.std.proofs.Common.{◌≡◌, ◌⊎◌, inl, inr, ℕ, ◌+◌, Bool, true, false, cond, List, [], ◌∷◌, ◌++◌, length, map, filter, Contains, IsTrue, Option, None, Some, Ok, Err, refl, sym, ap, ◌∙◌}
 use Rattle.std.specs.List.{find}
 use Rattle.std.proofs.lemmas.List.{length-append, map-append, reverse-append}
 use Rattle.std.proofs.lemmas.List.Elements.{filter-append}
@@ -16,10 +17,29 @@ use Rattle.vector_stamp.specs.declared.clock.Stamp.{Stamp}
 use Rattle.vector_stamp.specs.Order.{stamp_before, unordered}
 use Rattle.vector_stamp.specs.Precedence.{GivenPair, precedes}
 use Rattle.weave_entries.specs.declared.store_log.StoreEntry.{StoreEntry}
+use Rattle.weave_entries.specs.declared.store_log.StoreDeed.{StoreDeed}
+use Rattle.weave_entries.specs.declared.store_log.StoreDeed.TheVariants.{Judged}
 use Rattle.weave_entries.specs.declared.verdict.Counted.{Counted}
 use Rattle.weave_entries.specs.declared.verdict.Verdict.TheVariants.{Committed, Conflict, Refused}
 use Rattle.weave_entries.specs.StoreReplay.{Commit, judged_by, judgements_of, commit_by, commits_of, names_vertex, count_naming, last_naming, graph_committed, graph_with_commit}
 use Rattle.weave_entries.specs.StoreRule.{LastCommit, lasts_of, asked_of, counts_of, conflict_or, verdict_by, verdict_on}
+
+-- One deed
+
+-- a deed commits nothing, or this one transaction
+pub commit-cases : (deed : StoreDeed) → (commit_by deed ≡ []) ⊎ ((commit : Commit) × (commit_by deed ≡ commit ∷ []))
+commit-cases (Judged request stamp ops asked (Committed number answers counts)) = inr (record { request = request; stamp = stamp; ops = ops }, refl)
+commit-cases (Judged request stamp ops asked (Conflict v newer)) = inl refl
+commit-cases (Judged request stamp ops asked (Refused op reason at)) = inl refl
+
+-- a judgement is its author's
+pub judged-author : (author : ℕ) (deed : StoreDeed) → (judged_by author deed).author ≡ author
+judged-author author (Judged request stamp ops asked verdict) = refl
+
+-- the vertices counted are those that were named
+pub vertices-counted : (commits : List Commit) (names : List Name) → map (λ (counted : Counted). counted.vertex) (map (λ (v : Name). record { vertex = v; before = count_naming v commits }) names) ≡ names
+vertices-counted commits [] = refl
+vertices-counted commits (v ∷ names) = ap (λ (vs : List Name). v ∷ vs) (vertices-counted commits names)
 
 -- One more entry, and one more commit
 

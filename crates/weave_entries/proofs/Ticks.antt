@@ -1,4 +1,5 @@
--- The own count of a gatekeeper is the number of its ticks in the epoch, and its events are told apart by epoch and own count.
+-- The own count of a gatekeeper is the number of its ticks in the epoch, and its events are told apart by epoch and
+-- own count.
 -- Used by `stamps_rise`.
 use Rattle.std.proofs.Common.{◌≡◌, ℕ, ◌+◌, ◌<◌, ◌≤◌, true, nat_eq, nat_lt, List, [], ◌∷◌, ◌++◌, count_by, get_or, Contains, IsTrue, Option, None, Some, ◌⊎◌, inl, inr, refl, sym, ap, subst, ◌∙◌, arith}
 use Rattle.std.specs.List.{AllPairs}

@@ -1,6 +1,6 @@
 -- The rule by which the store judges a transaction, over the commits before it and the pairs of the oracle (validation
 -- by the stamp of the last update, Weaver, PVLDB 9(11) 2016).
-use Rattle.std.specs.Prelude.{◌≡◌, ◌≢◌, ℕ, ◌+◌, List, [], map, filter, length, All, Option, None, Some, Ok, Err}
+use Rattle.std.specs.Prelude.{◌≡◌, ◌≢◌, ℕ, ◌+◌, ◌^◌, List, [], map, filter, length, All, Option, None, Some, Ok, Err}
 use Rattle.std.specs.List.{find, filter_map}
 use Rattle.std.specs.Option.{option_map}
 use Rattle.weave_data.specs.declared.name.Name.{Name}
@@ -21,6 +21,10 @@ use Rattle.weave_entries.specs.declared.store_log.StoreDeed.TheVariants.{Judged}
 use Rattle.weave_entries.specs.Logs.{AtEachEntry}
 use Rattle.weave_entries.specs.OracleReplay.{oracle_entry_of}
 use Rattle.weave_entries.specs.StoreReplay.{Judgement, Commit, judgements_of, commits_of, count_naming, last_naming, graph_committed}
+
+-- a transaction that is judged has fewer operations than this: each names two vertices at most
+abbrev pub ops_bound : ℕ
+ops_bound = 2 ^ 31
 
 -- a named vertex with the last commit that names it
 pub record LastCommit : Type 0 where

@@ -7,7 +7,7 @@
 mod faults;
 mod memory_sink;
 mod memory_source;
-mod planned;
+mod planned_failures;
 mod reading;
 mod sink;
 mod source;

@@ -5,7 +5,7 @@ ghost use Rattle.weave_io.specs.Stall.{IsStall};
 ghost use Rattle.weave_io.specs.Told.{Appends};
 
 use crate::faults::Failed;
-use crate::planned::fails_next;
+use crate::planned_failures::fails_next;
 use crate::sink::Sink;
 use std::alloc::Global;
 use std::marker::Model;

@@ -4,7 +4,7 @@ ghost use Rattle.weave_io.specs.Counts.{HasRisen, one_more};
 ghost use Rattle.weave_io.specs.Told.{Takes, Tells};
 
 use crate::faults::Failed;
-use crate::planned::fails_next;
+use crate::planned_failures::fails_next;
 use crate::source::Source;
 use std::marker::Model;
 

@@ -5,13 +5,13 @@ use Rattle.std.proofs.lemmas.List.{append-nil}
 use Rattle.weave_data.proofs.Members.{has_none}
 use Rattle.program_defs.specs.declared.script.Script.{Script}
 use Rattle.weave_account.specs.declared.account.Account.{Account}
-use Rattle.weave_account.specs.Account.{gate_log, session_log, shard_log}
+use Rattle.weave_account.specs.Account.{gate_log, session_log, shard_log, NoneInFlight}
 use Rattle.weave_account.specs.GoesOn.{GoesOn}
-use Rattle.hands_account.proofs.Places.{whole}
+use Rattle.weave_account.proofs.GoesOn.{whole}
 use Rattle.step_rules.specs.CoreState.{CoreState}
 use Rattle.weaver_core.specs.declared.split.Split.{Split}
 use Rattle.weaver_core.specs.Cores.{CoreView}
-use Rattle.weaver_core.specs.Splitting.{account_of, state_of, NoneInFlight}
+use Rattle.weaver_core.specs.Splitting.{account_of, state_of}
 use Rattle.weaver_workers.specs.Phases.{phase_end}
 use Rattle.workers_account.specs.Pairs.{AddsOpenPairs, GainBelow}
 use Rattle.weave_phase.specs.Parts.{PartsGoOn}

@@ -2,7 +2,7 @@
 use Rattle.std.specs.Prelude.{◌≡◌, ℕ}
 use Rattle.weave_account.specs.GoesOn.{GoesOn}
 use Rattle.weaver_core.specs.Cores.{CoreView}
-use Rattle.weaver_core.specs.Splitting.{NoneInFlight}
+use Rattle.weave_account.specs.Account.{NoneInFlight}
 use Rattle.workers_account.specs.Pairs.{AddsOpenPairs, GainBelow}
 
 -- The core is of the same script. Its logs went on: no transaction is in flight there, requests before `upto` alone

@@ -1,7 +1,7 @@
 //! A phase of a script, run by workers on threads.
 ghost use Rattle.std.specs.Prelude.{ℕ, ◌<◌, ◌≤◌, AllPairs, Contains, IfOk, length};
 ghost use Rattle.weave_data.specs.Limits.{most_sessions};
-ghost use Rattle.weaver_core.specs.Splitting.{NoneInFlight};
+ghost use Rattle.weave_account.specs.Account.{NoneInFlight};
 ghost use Rattle.weaver_workers.specs.Phases.{phase_end, phase_start};
 ghost use Rattle.weaver_workers.specs.Workers.{HasPhase};
 ghost use Rattle.workers_account.specs.Ready.{IsAnsweredUpTo};

@@ -2,7 +2,6 @@
 -- Used by RepliesRead, ReportAgain and ReportRead.
 use Rattle.std.proofs.Common.{◌≡◌, Bool, true, false, ◌&&◌, ◌||◌, cond, inl, inr, List, [], ◌∷◌, refl, sym, ap, ◌∙◌, subst}
 use Rattle.std.specs.Prelude.{Option, Some, None, Ok, codes}
-use Rattle.std.specs.Fmt.{decimal}
 use Rattle.std.specs.List.{AllByRecursion}
 use Rattle.std.specs.Str.{bytes_eq}
 use Rattle.std.proofs.lemmas.Bool.{and_parts, or_cases}
@@ -18,13 +17,13 @@ use Rattle.weave_report.specs.declared.fault.ReportCause.TheVariants as cause
 use Rattle.report_rules.specs.declared.report.StepAnswer.{StepAnswer}
 use Rattle.report_rules.specs.declared.report.StepAnswer.TheVariants as step
 use Rattle.weave_data.specs.Steps.{◌>>=◌}
-use Rattle.weave_report.specs.ReadingFields.{name_in, read_names, small_number_in}
-use Rattle.weave_report.specs.ReadingStates.{is_state_form, read_state, is_reached_form, is_found_form, is_walk_form, is_answer_form, shown_in, reached_in, read_found, walk_in, answer_in, bare_answer, is_step_form, step_answer_in}
+use Rattle.weave_report.specs.ReadingFields.{read_names}
+use Rattle.weave_report.specs.ReadingStates.{is_state_form, is_reached_form, is_found_form, is_walk_form, is_answer_form, shown_in, reached_in, read_found, walk_in, answer_in, bare_answer, is_step_form, step_answer_in}
 use Rattle.report_rules.specs.ReportOf.{has_form_for}
-use Rattle.weave_report.specs.ReportText.{state_words, answer_words, step_answer_words}
+use Rattle.weave_report.specs.ReportText.{answer_words, step_answer_words}
 use Rattle.weave_report.specs.TextOf.{IsName, IsTypedAnswer, IsTypedStepAnswer}
 use Rattle.weave_data.proofs.Steps.{bind_ok, ok_is}
-use Rattle.weave_report.proofs.ReadSteps.{chosen, then_ok, is_word, or_cause_read}
+use Rattle.weave_report.proofs.ReadSteps.{chosen, then_ok, is_word, or_cause_read, left_out}
 use Rattle.weave_report.proofs.FieldsRead.{name_read, name_again, names_read, names_again, small_number_read, small_number_again}
 use Rattle.weave_report.proofs.StatesRead.{state_read, state_again, no_words}
 use Rattle.weave_report.specs.TextLaws.{TextLaws}
@@ -94,10 +93,6 @@ module _ (laws : TextLaws) where
               told = λ i. is_word word (codes "none") none.0 i ∷ (no_words laws) words none.1 i;
             })
       ]
-    where
-      left_out : (x y : Bool) → (x || y) ≡ true → x ≡ false → y ≡ true
-      left_out true y e k = absurd cc
-      left_out false y e k = e
 
   -- words that are read as a program's answer are its words; it has the program's form, and its fields are valid
   pub answer_read : (program : Program) (words : List Word) (answer : Answer) → is_answer_form program words ≡ true → answer_in program words ≡ Ok answer → IsAnswer program words answer

@@ -1,6 +1,7 @@
 -- Steps that were read, one after another.
--- Used by AnswersRead, FieldsRead, RepliesRead, ReportAgain, ReportRead, RequestsRead, 2 more and crate weave_script.
-use Rattle.std.proofs.Common.{◌≡◌, Bool, true, false, cond, ◌⊎◌, inl, inr, refl, ap, ◌∙◌}
+-- Used by AnswersRead, FieldsRead, RepliesRead, ReportAgain, ReportRead, RequestsRead, StampsRead, StatesRead and
+-- crate weave_script.
+use Rattle.std.proofs.Common.{◌≡◌, ◌||◌, Bool, true, false, cond, ◌⊎◌, inl, inr, refl, ap, ◌∙◌}
 use Rattle.std.specs.Prelude.{Option, Some, None, Ok, Err}
 use Rattle.std.specs.Str.{bytes_eq}
 use Rattle.std.proofs.lemmas.Slice.Eq.{bytes_eq-Decides}
@@ -9,6 +10,11 @@ use Rattle.weave_text.specs.Lines.{Word}
 use Rattle.weave_report.specs.declared.fault.ReportCause.{ReportCause}
 use Rattle.weave_data.specs.Steps.{◌>>=◌}
 use Rattle.weave_report.specs.ReadingFields.{ReadResult, or_cause}
+
+-- if one of two tests passes and the first fails, the second passes
+pub left_out : (x y : Bool) → (x || y) ≡ true → x ≡ false → y ≡ true
+left_out true y e k = absurd cc
+left_out false y e k = e
 
 module _ {A : Type 0} where
   -- what is refused is not read

@@ -9,7 +9,7 @@ use Rattle.std.proofs.lemmas.Bool.{cond-true, cond-false, and_parts, lt-ltb, le-
 use Rattle.std.proofs.lemmas.List.{length-map, map-append}
 use Rattle.vector_stamp.specs.declared.clock.Stamp.{Stamp}
 use Rattle.weave_data.specs.declared.name.Name.{Name}
-use Rattle.weave_text.specs.Lines.{Line}
+use Rattle.weave_text.specs.Lines.{Line, Word}
 use Rattle.graph_ops.specs.declared.op.Reason.{Reason}
 use Rattle.graph_ops.specs.declared.tx.Got.{Got}
 use Rattle.program_defs.specs.declared.program.Answer.{Answer}
@@ -22,6 +22,7 @@ use Rattle.weave_report.specs.declared.read.parts.Commit.{Commit}
 use Rattle.weave_report.specs.declared.read.parts.Place.{Place}
 use Rattle.weave_report.specs.declared.read.parts.Place.TheVariants.{Replies, Pairs, Answers, Ended}
 use Rattle.weave_report.specs.declared.read.parts.Reading.{Reading}
+use Rattle.weave_report.specs.declared.read.parts.ReplyLine.{ReplyLine}
 use Rattle.weave_report.specs.declared.read.parts.ReplyLine.TheVariants.{Whole, Committed}
 use Rattle.report_rules.specs.declared.report.Pair.{Pair}
 use Rattle.report_rules.specs.declared.report.Reply.{Reply}
@@ -31,9 +32,10 @@ use Rattle.report_rules.specs.declared.report.Report.{Report}
 use Rattle.report_rules.specs.declared.report.StepAnswer.{StepAnswer}
 use Rattle.program_defs.specs.Works.{is_look, ops_of}
 use Rattle.weave_data.specs.Steps.{◌>>=◌}
-use Rattle.weave_report.specs.ReadingFields.{ReadResult, name_in, read_names, read_number, reason_in, small_number_in, read_stamp, this_number_in}
-use Rattle.weave_report.specs.ReadingStates.{answer_in, is_answer_form, is_step_form, step_answer_in}
-use Rattle.weave_report.specs.ReadingReplies.{any_named, read_begun, committed_in, conflict_in, finished_by, finished_in, get_numbers, kind_named, named_from, program_named, refused_in, unbegun_in}
+use Rattle.weave_data.proofs.Lists.{get-here}
+use Rattle.weave_report.specs.ReadingFields.{ReadResult}
+use Rattle.weave_report.specs.ReadingStates.{is_answer_form, is_step_form}
+use Rattle.weave_report.specs.ReadingReplies.{read_begun, committed_in, conflict_in, finished_by, finished_in, get_numbers, program_in, refused_in, transaction_in, unbegun_in}
 use Rattle.weave_report.specs.Reading.{reading, with_reply_read, behind_commit, behind_reply, commit_reply, pair_in, order_in, did_in, next_get, after_got, after_report_line, report_start}
 use Rattle.report_rules.specs.ReportOf.{MatchesWork, IsReplyOf, IsPairOf, IsReportOf, is_request_of, is_stamp_of, has_form_for, numbers_of_gets}
 use Rattle.weave_report.specs.ReportText.{answer_words, begun_text, did_line, got_line, kind_text, name_at, order_line, pair_line, reason_text, reply_lines, report_lines, stamp_text, step_answer_words}
@@ -120,10 +122,6 @@ module _ (laws : TextLaws) where
       through (Ok next) e each = each next e
       through (Err why) e each = absurd cc
 
-  slice_at_end : {A : Type 0} (xs : List A) (x : A) (ys : List A) → slice_get (xs ++ x ∷ ys) (length xs) ≡ Some x
-  slice_at_end [] x ys = refl
-  slice_at_end (y ∷ xs) x ys = slice_at_end xs x ys
-
   -- the answers of a commit's `get`s
   gots_again : (script : Script) (report : Report) (commit : Commit) (before answers : List Got) → commit.gets ≡ map (λ (got : Got). got.op) before ++ map (λ (got : Got). got.op) answers → AllByRecursion IsTypedGot answers
       → (after_kept laws) script (behind_commit report commit before) (map got_line answers) ≡ Ok (reading (with_reply_read report (commit_reply commit (before ++ answers))) Replies)
@@ -134,7 +132,7 @@ module _ (laws : TextLaws) where
   gots_again script report commit before (got ∷ answers) gets h =
       let op_of : Got → ℕ = λ got. got.op in
       let fewer : length before < length commit.gets = omega (arith, ap length gets, length-append (map op_of before) (map op_of (got ∷ answers)), length-map before op_of, length-map answers op_of) in
-      let next : next_get commit before ≡ Some got.op = ap (λ gets. slice_get gets (length before)) gets ∙ ap (λ n. slice_get (map op_of before ++ map op_of (got ∷ answers)) n) (sym (length-map before op_of)) ∙ slice_at_end (map op_of before) got.op (map op_of answers) in
+      let next : next_get commit before ≡ Some got.op = ap (λ gets. slice_get gets (length before)) gets ∙ ap (λ n. slice_get (map op_of before ++ map op_of (got ∷ answers)) n) (sym (length-map before op_of)) ∙ get-here (map op_of before) got.op (map op_of answers) in
       let regrouped : commit.gets ≡ map op_of (before ++ got ∷ []) ++ map op_of answers =
       gets ∙ sym (append_assoc (map op_of before) (got.op ∷ []) (map op_of answers)) ∙ ap (λ front. front ++ map op_of answers) (sym (map-append op_of before (got ∷ []))) in
       ap (λ next. (after_kept laws) script next (map got_line (got ∷ answers))) (cond-true (nat_lt (length before) (length commit.gets)) _ _ (lt-ltb (length before) (length commit.gets) fewer))
@@ -145,51 +143,61 @@ module _ (laws : TextLaws) where
 
   -- a reply's line, and those of its `get`s
   module _ (script : Script) (report : Report) (r : ℕ) (h : IsReadable script) where
+    -- a line's words after `tx`, or after `prog`
+    abbrev words_in : Bool → List Word → ReadResult ReplyLine
+    words_in false words = transaction_in script words
+    words_in true words = program_in script words
+
+    -- after a reply's line, if its words are read so
+    line_again : (program : Bool) (words : Bool → List Word) (line : ReplyLine) (more : List Line) → is_program script r ≡ program → words_in program (words program) ≡ Ok line
+        → (after_kept laws) script (reading report Replies) ((kind_text (is_program script r) ∷ words (is_program script r)) ∷ more) ≡ (after_kept laws) script (behind_reply report line) more
+    line_again program words line more kind e = ap (λ program. (after_kept laws) script (reading report Replies) ((kind_text program ∷ words program) ∷ more)) kind ∙ by program (words program) e
+      where
+        by : (program : Bool) (words : List Word) → words_in program words ≡ Ok line
+            → (after_kept laws) script (reading report Replies) ((kind_text program ∷ words) ∷ more) ≡ (after_kept laws) script (behind_reply report line) more
+        by false words e = ap (λ one. one >>= (λ line. Ok (behind_reply report line)) >>= λ next. (after_kept laws) script next more) e
+        by true words e = ap (λ one. one >>= (λ line. Ok (behind_reply report line)) >>= λ next. (after_kept laws) script next more) e
+
+    -- the kind of a request is that of its work
+    kind_is : (request : Request) (work : Work) → request_at script r ≡ Some request → request.work ≡ work → is_program script r ≡ is_look work
+    kind_is request work there is = ap (λ (o : Option Request). option_map_or (λ (request : Request). is_look request.work) o false) there ∙ ap is_look is
+
+    -- each state, by its words
     reply_cases : (stamp : Option Stamp) (state : ReplyState) (request : Request) (work : Work) → request_at script r ≡ Some request → request.work ≡ work
         → MatchesWork script work stamp state → IsTrue (is_none_or (is_stamp_of script) stamp) → IsTypedReplyState state
         → (after_kept laws) script (reading report Replies) (reply_lines script (record { request = r; stamp = stamp; state = state })) ≡ Ok (reading (with_reply_read report (record { request = r; stamp = stamp; state = state })) Replies)
     reply_cases None told.Unbegun request (Change ops) there work can of typed =
-        let within = within_place script.requests r request there in
-        let kind : is_program script r ≡ false = ap (λ (o : Option Request). option_map_or (λ (request : Request). is_look request.work) o false) there ∙ ap is_look work in
-        ap (λ program. (after_kept laws) script (reading report Replies) ((kind_text program ∷ name_at script r ∷ codes "unbegun" ∷ []) ∷ [])) kind
-        ∙ ap (λ one. one >>= (λ line. Ok (behind_reply report line)) >>= λ next. Ok next) (unbegun_again false script r h within kind)
+        let kind = kind_is request (Change ops) there work in
+        line_again false (λ program. name_at script r ∷ codes "unbegun" ∷ []) _ [] kind (unbegun_again false script r h (within_place script.requests r request there) kind)
     reply_cases None told.Unbegun request (Look program) there work can of typed =
-        let within = within_place script.requests r request there in
-        let kind : is_program script r ≡ true = ap (λ (o : Option Request). option_map_or (λ (request : Request). is_look request.work) o false) there ∙ ap is_look work in
-        ap (λ program. (after_kept laws) script (reading report Replies) ((kind_text program ∷ name_at script r ∷ codes "unbegun" ∷ []) ∷ [])) kind
-        ∙ ap (λ one. one >>= (λ line. Ok (behind_reply report line)) >>= λ next. Ok next) (unbegun_again true script r h within kind)
+        let kind = kind_is request (Look program) there work in
+        line_again true (λ program. name_at script r ∷ codes "unbegun" ∷ []) _ [] kind (unbegun_again true script r h (within_place script.requests r request there) kind)
     reply_cases (Some stamp) told.Begun request (Change ops) there work can of typed =
-        let within = within_place script.requests r request there in
-        let kind : is_program script r ≡ false = ap (λ (o : Option Request). option_map_or (λ (request : Request). is_look request.work) o false) there ∙ ap is_look work in
-        ap (λ program. (after_kept laws) script (reading report Replies) ((kind_text program ∷ name_at script r ∷ stamp_text script.gates stamp ∷ begun_text program ∷ []) ∷ [])) kind
-        ∙ ap (λ one. one >>= (λ line. Ok (behind_reply report line)) >>= λ next. Ok next) (begun_again false script r stamp h within kind of)
+        let kind = kind_is request (Change ops) there work in
+        line_again false (λ program. name_at script r ∷ stamp_text script.gates stamp ∷ begun_text program ∷ []) _ [] kind
+        (begun_again false script r stamp h (within_place script.requests r request there) kind of)
     reply_cases (Some stamp) told.Begun request (Look program) there work can of typed =
-        let within = within_place script.requests r request there in
-        let kind : is_program script r ≡ true = ap (λ (o : Option Request). option_map_or (λ (request : Request). is_look request.work) o false) there ∙ ap is_look work in
-        ap (λ program. (after_kept laws) script (reading report Replies) ((kind_text program ∷ name_at script r ∷ stamp_text script.gates stamp ∷ begun_text program ∷ []) ∷ [])) kind
-        ∙ ap (λ one. one >>= (λ line. Ok (behind_reply report line)) >>= λ next. Ok next) (begun_again true script r stamp h within kind of)
+        let kind = kind_is request (Look program) there work in
+        line_again true (λ program. name_at script r ∷ stamp_text script.gates stamp ∷ begun_text program ∷ []) _ [] kind
+        (begun_again true script r stamp h (within_place script.requests r request there) kind of)
     reply_cases (Some stamp) (told.Committed number answers) request (Change ops) there work can of typed =
-        let within = within_place script.requests r request there in
-        let kind : is_program script r ≡ false = ap (λ (o : Option Request). option_map_or (λ (request : Request). is_look request.work) o false) there ∙ ap is_look work in
+        let kind = kind_is request (Change ops) there work in
         let commit : Commit = record { request = r; stamp = stamp; number = number; gets = get_numbers script r } in
         let ops_are : get_numbers script r ≡ numbers_of_gets 1 ops = ap (λ (o : Option Request). numbers_of_gets 1 (option_map_or (λ (request : Request). ops_of request.work) o [])) there ∙ ap (λ work. numbers_of_gets 1 (ops_of work)) work in
-        ap (λ program. (after_kept laws) script (reading report Replies) ((kind_text program ∷ name_at script r ∷ stamp_text script.gates stamp ∷ codes "committed" ∷ decimal number ∷ []) ∷ map got_line answers)) kind
-        ∙ ap (λ one. one >>= (λ line. Ok (behind_reply report line)) >>= λ next. (after_kept laws) script next (map got_line answers)) (committed_again script r stamp number h within kind of typed.0)
+        line_again false (λ program. name_at script r ∷ stamp_text script.gates stamp ∷ codes "committed" ∷ decimal number ∷ []) (Committed commit) (map got_line answers) kind
+        (committed_again script r stamp number h (within_place script.requests r request there) kind of typed.0)
         ∙ gots_again script report commit [] answers (ops_are ∙ sym can) typed.1
     reply_cases (Some stamp) (told.Conflict vertex newer) request (Change ops) there work can of typed =
-        let within = within_place script.requests r request there in
-        let kind : is_program script r ≡ false = ap (λ (o : Option Request). option_map_or (λ (request : Request). is_look request.work) o false) there ∙ ap is_look work in
-        ap (λ program. (after_kept laws) script (reading report Replies) ((kind_text program ∷ name_at script r ∷ stamp_text script.gates stamp ∷ codes "conflict" ∷ vertex ∷ name_at script newer ∷ []) ∷ [])) kind
-        ∙ ap (λ one. one >>= (λ line. Ok (behind_reply report line)) >>= λ next. Ok next) (conflict_again script r stamp vertex newer h within kind of typed (request_within script newer can))
+        let kind = kind_is request (Change ops) there work in
+        line_again false (λ program. name_at script r ∷ stamp_text script.gates stamp ∷ codes "conflict" ∷ vertex ∷ name_at script newer ∷ []) _ [] kind
+        (conflict_again script r stamp vertex newer h (within_place script.requests r request there) kind of typed (request_within script newer can))
     reply_cases (Some stamp) (told.Refused op reason at) request (Change ops) there work can of typed =
-        let within = within_place script.requests r request there in
-        let kind : is_program script r ≡ false = ap (λ (o : Option Request). option_map_or (λ (request : Request). is_look request.work) o false) there ∙ ap is_look work in
-        ap (λ program. (after_kept laws) script (reading report Replies) ((kind_text program ∷ name_at script r ∷ stamp_text script.gates stamp ∷ codes "refused" ∷ decimal op ∷ reason_text reason ∷ codes "at" ∷ decimal at ∷ []) ∷ [])) kind
-        ∙ ap (λ one. one >>= (λ line. Ok (behind_reply report line)) >>= λ next. Ok next) (refused_again script r stamp op reason at h within kind of typed.0 typed.1)
+        let kind = kind_is request (Change ops) there work in
+        line_again false (λ program. name_at script r ∷ stamp_text script.gates stamp ∷ codes "refused" ∷ decimal op ∷ reason_text reason ∷ codes "at" ∷ decimal at ∷ []) _ [] kind
+        (refused_again script r stamp op reason at h (within_place script.requests r request there) kind of typed.0 typed.1)
     reply_cases (Some stamp) (told.Finished answer) request (Look program) there work can of typed =
-        let kind : is_program script r ≡ true = ap (λ (o : Option Request). option_map_or (λ (request : Request). is_look request.work) o false) there ∙ ap is_look work in
-        ap (λ program. (after_kept laws) script (reading report Replies) ((kind_text program ∷ name_at script r ∷ stamp_text script.gates stamp ∷ codes "done" ∷ answer_words answer) ∷ [])) kind
-        ∙ ap (λ one. one >>= (λ line. Ok (behind_reply report line)) >>= λ next. Ok next) (finished_again script r request program stamp answer h there work of can typed)
+        line_again true (λ program. name_at script r ∷ stamp_text script.gates stamp ∷ codes "done" ∷ answer_words answer) _ [] (kind_is request (Look program) there work)
+        (finished_again script r request program stamp answer h there work of can typed)
     reply_cases None told.Begun request work there w can of typed = absurd can
     reply_cases None (told.Committed number answers) request work there w can of typed = absurd can
     reply_cases None (told.Conflict vertex newer) request work there w can of typed = absurd can

@@ -8,7 +8,7 @@ use Rattle.std.specs.Str.{bytes_eq}
 use Rattle.std.proofs.lemmas.Bool.{and_parts, and_from, ltb-true, ltb-false}
 use Rattle.std.proofs.lemmas.List.{map-append}
 use Rattle.std.proofs.lemmas.List.Concat.{flat_map-append}
-use Rattle.weave_data.proofs.Lists.{all-push}
+use Rattle.weave_data.proofs.Lists.{all-push, length-step}
 use Rattle.weave_text.specs.Cutting.{is_empty, is_skipped, kept_lines, words_of}
 use Rattle.weave_text.specs.Lines.{Bytes, Word, Line}
 use Rattle.graph_ops.specs.Operations.{is_get}
@@ -28,9 +28,9 @@ use Rattle.report_rules.specs.declared.report.ReplyState.TheVariants as told
 use Rattle.report_rules.specs.declared.report.Report.{Report}
 use Rattle.report_rules.specs.declared.report.StepAnswer.{StepAnswer}
 use Rattle.weave_data.specs.Steps.{◌>>=◌}
-use Rattle.weave_report.specs.ReadingFields.{ReadResult, name_in, read_names, this_number_in}
+use Rattle.weave_report.specs.ReadingFields.{ReadResult, this_number_in}
 use Rattle.weave_report.specs.ReadingStates.{is_step_form, step_answer_in}
-use Rattle.weave_report.specs.ReadingReplies.{any_named, named_from, got_in, ops_of_request, program_in, transaction_in}
+use Rattle.weave_report.specs.ReadingReplies.{ops_of_request, program_in, transaction_in}
 use Rattle.weave_report.specs.Reading.{reading, with_reply_read, with_pair, with_order, with_answer, commit_reply, behind_commit, after_first, behind_reply, pair_in, order_in, after_pairs, after_replies, next_get, after_got, did_in, after_answers, after_report_line_at, after_report_line, after_any_line, behind_line, after_lines, whole_report, Refusal, report_start}
 use Rattle.report_rules.specs.ReportOf.{IsReportOf, IsReplyOf, IsPairOf, is_request_of, numbers_of_gets}
 use Rattle.weave_report.specs.ReportText.{did_line, got_line, kind_text, name_at, order_line, pair_line, reply_lines, report_lines, stamp_text}
@@ -315,10 +315,6 @@ module _ (laws : TextLaws) where
   take_next zero (y ∷ xs) x e = let same : y ≡ x = cc in ap (λ x. x ∷ []) same
   take_next (suc n) (y ∷ xs) x e = ap (λ xs. y ∷ xs) (take_next n xs x e)
 
-  length_push : {A : Type 0} (xs : List A) (x : A) → length (xs ++ x ∷ []) ≡ suc (length xs)
-  length_push [] x = refl
-  length_push (y ∷ xs) x = ap suc (length_push xs x)
-
   gots_lead : (script : Script) (report : Report) (commit : Commit) (answers : List Got) (line : Line) (o : Option ℕ) (next : Reading) → HasDistinctNames script → IsRead script report → HasReplies report → AnswersFirst script commit answers
       → next_get commit answers ≡ o → after_got o report commit answers line ≡ Ok next → LeadsTo script (reply_part script report ++ (commit_line laws) script commit ∷ map got_line answers ++ line ∷ []) next
   gots_lead script report commit answers line None next tells h place first k e = absurd (err_is_not cause.Line next e)
@@ -327,7 +323,7 @@ module _ (laws : TextLaws) where
       let got = (got_read laws) op line one.0 one.1 in
       let all = answers ++ one.0 ∷ [] in
       let numbers : map (λ (got : Got). got.op) all ≡ take (length all) commit.gets =
-      map-append (λ (got : Got). got.op) answers (one.0 ∷ []) ∙ (λ i. first.numbers i ++ got.number i ∷ []) ∙ sym (take_next (length answers) commit.gets op k) ∙ ap (λ n. take n commit.gets) (sym (length_push answers one.0)) in
+      map-append (λ (got : Got). got.op) answers (one.0 ∷ []) ∙ (λ i. first.numbers i ++ got.number i ∷ []) ∙ sym (take_next (length answers) commit.gets op k) ∙ ap (λ n. take n commit.gets) (sym (length-step answers one.0)) in
       let typed = all-push IsTypedGot answers one.0 first.typed (got.typed (get_is_small script commit answers op tells first.of k)) in
       let front = reply_part script report in
       let lines : front ++ (commit_line laws) script commit ∷ map got_line all ≡ front ++ (commit_line laws) script commit ∷ map got_line answers ++ line ∷ [] =
@@ -370,7 +366,7 @@ module _ (laws : TextLaws) where
           typed_pairs = h.typed_pairs;
           order = h.order;
           typed_answers = all-push IsTypedStepAnswer report.answers answer h.typed_answers k.typed;
-          few_answers = omega (arith, length_push report.answers answer, k.small);
+          few_answers = omega (arith, length-step report.answers answer, k.small);
         };
         place = tt;
         told = ap (λ answers. front ++ map did_line answers) (enumerate-push 1 report.answers answer ∙ ap (λ (n : ℕ). enumerate_from 1 report.answers ++ (n, answer) ∷ []) number)

@@ -12,8 +12,7 @@ use Rattle.vector_stamp.specs.declared.clock.Stamp.{Stamp}
 use Rattle.vector_stamp.specs.Order.{has_64_bits}
 use Rattle.program_defs.specs.declared.script.Script.{Script}
 use Rattle.weave_report.specs.declared.fault.ReportCause.TheVariants as cause
-use Rattle.weave_data.specs.Steps.{◌>>=◌}
-use Rattle.weave_report.specs.ReadingFields.{count_in, counts_from, eight_counts, stamp_with_counts, stamp_parts, read_stamp}
+use Rattle.weave_report.specs.ReadingFields.{count_in, counts_from, eight_counts, stamp_parts, read_stamp}
 use Rattle.report_rules.specs.ReportOf.{is_stamp_of}
 use Rattle.weave_report.specs.ReportText.{stamp_text}
 use Rattle.weave_data.proofs.Steps.{bind_ok, ok_is}
@@ -167,7 +166,7 @@ module _ (laws : TextLaws) where
   three_parts gates (a ∷ b ∷ c ∷ []) stamp e = (a, b, c, refl, e)
   three_parts gates (a ∷ b ∷ c ∷ d ∷ parts) stamp e = absurd (err_is_not cause.Stamp stamp e)
 
-  -- a word that is read as a stamp is this stamp's text, and the stamp is one of the script's
+  -- a word that is read as a stamp is this stamp's text, and the stamp has the form of the script's
   pub stamp_read : (script : Script) (word : Word) (stamp : Stamp) → read_stamp script.gates word ≡ Ok stamp → (word ≡ stamp_text script.gates stamp) × IsTrue (is_stamp_of script stamp)
   stamp_read script word stamp e =
       let gates = script.gates in
@@ -213,7 +212,7 @@ module _ (laws : TextLaws) where
       let parts = and_parts (fits count) (list_all fits counts) h in
       and_from _ _ (laws.decimal_lacks 44 count refl (ltb-true count (2 ^ 64) parts.0)) (counts_lack_comma counts parts.1)
 
-  -- counts that are shown are cut again
+  -- counts joined by commas have no colon, and are cut at the commas into the same counts
   cut_again : (counts : List ℕ) → 0 < length counts → list_all fits counts ≡ true
       → (is_absent_from 58 (joined_texts (44 ∷ []) (map decimal counts)) ≡ true) × (pieces_of 44 (joined_texts (44 ∷ []) (map decimal counts)) ≡ map decimal counts)
   cut_again [] some h = absurd (omega arith)

@@ -22,7 +22,7 @@ use Rattle.weave_report.specs.ReadingStates.{CutText, cut_behind, cut_first, is_
 use Rattle.weave_report.specs.ReportText.{property_text, edge_text, content_words, state_words}
 use Rattle.weave_report.specs.TextOf.{IsName, IsTypedMap, IsTypedEdge, IsTypedRecord, IsTypedState}
 use Rattle.weave_data.proofs.Steps.{bind_ok, ok_is}
-use Rattle.weave_report.proofs.ReadSteps.{err_is_not, passed, chosen, then_ok, is_word}
+use Rattle.weave_report.proofs.ReadSteps.{err_is_not, passed, chosen, then_ok, is_word, left_out}
 use Rattle.weave_report.proofs.FieldsRead.{name_read, name_again}
 use Rattle.weave_report.proofs.KeysInOrder.{rising-push, rising-last}
 use Rattle.weave_report.specs.TextLaws.{TextLaws}
@@ -405,10 +405,6 @@ module _ (laws : TextLaws) where
             let absent = and_parts (bytes_eq word (codes "absent")) (is_empty items) (left_out (bytes_eq word (codes "record")) (bytes_eq word (codes "absent") && is_empty items) form h.0) in
             (subst IsTypedState same tt, (λ i. is_word word (codes "absent") absent.0 i ∷ no_words items absent.1 i) ∙ ap state_words same)
       ]
-    where
-      left_out : (x y : Bool) → (x || y) ≡ true → x ≡ false → y ≡ true
-      left_out true y e k = absurd cc
-      left_out false y e k = e
 
   -- the words of a valid state have the form of one and are read as it
   pub state_again : (state : State) → IsTypedState state → (is_state_form (state_words state) ≡ true) × (read_state (state_words state) ≡ Ok state)

@@ -1,4 +1,5 @@
 -- Texts of reports that are read, and texts that are refused at their first bad line, computed.
+-- Used by nothing: worked examples.
 use Rattle.std.proofs.Common.{◌≡◌, ℕ, [], ◌∷◌, ◌++◌, Some, None, refl}
 use Rattle.std.specs.Prelude.{codes, Ok, Err}
 use Rattle.vector_stamp.specs.declared.clock.Stamp.{Stamp}

@@ -1,5 +1,6 @@
 -- Texts of a script and a report: they are read as both, and what is read is a text of both.
--- Used by `checks_are_of_one_report`, `checks_are_read`, `printed_checks_come_back` and 3 more.
+-- Used by `checks_are_of_one_report`, `checks_are_read`, `printed_checks_come_back`, `script_names_are_distinct`,
+-- CheckFaults and CheckTold.
 use Rattle.std.proofs.Common.{◌≡◌, ℕ, ◌+◌, ◌≤◌, true, List, [], ◌∷◌, ◌++◌, map, length, Option, Some, None, Ok, Err, refl, sym, ap, ◌∙◌, subst, append_assoc, append-nil, arith}
 use Rattle.std.specs.Prelude.{Result, IsTrue, nat_lt, codes}
 use Rattle.std.specs.List.{AllByRecursion, list_all}

@@ -1,4 +1,5 @@
 -- Worked texts: what the definition says of them.
+-- Used by nothing: worked examples.
 use Rattle.std.proofs.Common.{◌≡◌, refl, ℕ, [], ◌∷◌, Ok, Err, codes}
 use Rattle.std.specs.Prelude.{Result, Some}
 use Rattle.weave_script.specs.declared.fault.Cause.{Cause}

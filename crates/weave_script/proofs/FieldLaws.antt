@@ -1,5 +1,6 @@
 -- A name or a number is read only from its one word, and that word is read as it.
--- Used by CheckFaults, CheckLaws, CheckTold, HeadTexts, HeaderLaws, Reached, ReadAgain, RequestLaws and 2 more.
+-- Used by CheckFaults, CheckLaws, CheckTold, HeadTexts, HeaderLaws, Reached, ReadAgain, RequestLaws, StepLaws and
+-- TextLaws.
 use Rattle.std.proofs.Common.{◌≡◌, ℕ, ◌≤◌, ◌<◌, ◌^◌, Ok, Err, ap, ◌∙◌, subst}
 use Rattle.std.specs.Prelude.{nat_lt}
 use Rattle.std.specs.Fmt.{decimal}

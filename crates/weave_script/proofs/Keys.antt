@@ -7,7 +7,7 @@ use Rattle.std.specs.Ordering.{is_eq, match_ordering}
 use Rattle.weave_data.proofs.Lists.{none-of_both}
 use Rattle.weave_data.specs.Names.{name_cmp, same_name, one_name}
 use Rattle.weave_data.specs.Pairs.{at_key, put}
-use Rattle.graph_ops.proofs.Vertices.{itself}
+use Rattle.graph_ops.proofs.Vertices.{same_name-refl}
 
 -- whether two names are the same doesn't depend on which comes first
 pub same_both_ways : (a b : List ℕ) → same_name a b ≡ same_name b a
@@ -16,8 +16,8 @@ same_both_ways a b = go (same_name a b) refl (same_name b a) refl
     go : (s : Bool) → same_name a b ≡ s → (t : Bool) → same_name b a ≡ t → s ≡ t
     go true h true k = refl
     go false h false k = refl
-    go true h false k = sym (subst (λ c. same_name c a ≡ true) (one_name a b h) (itself a)) ∙ k
-    go false h true k = sym h ∙ subst (λ c. same_name c b ≡ true) (one_name b a k) (itself b)
+    go true h false k = sym (subst (λ c. same_name c a ≡ true) (one_name a b h) (same_name-refl a)) ∙ k
+    go false h true k = sym h ∙ subst (λ c. same_name c b ≡ true) (one_name b a k) (same_name-refl b)
 
 module _ {X : Type 0} where
   kept_or_new : (q_is_k q_is_e : Bool) (v : X) (old : X) (rest : Option X) → (q_is_k ≡ true → q_is_e ≡ true → ⊥)
@@ -42,7 +42,7 @@ module _ {X : Type 0} where
       apart : same_name q k ≡ true → same_name q e.0 ≡ true → ⊥
       apart a b =
           let same : k ≡ e.0 = sym (one_name q k a) ∙ one_name q e.0 b in
-          let both : is_eq Greater ≡ true = sym (ap is_eq h) ∙ subst (λ c. same_name k c ≡ true) same (itself k) in
+          let both : is_eq Greater ≡ true = sym (ap is_eq h) ∙ subst (λ c. same_name k c ≡ true) same (same_name-refl k) in
           absurd cc
 
   -- after a value was put at a key it is there, and at each other key is what was there before

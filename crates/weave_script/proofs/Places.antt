@@ -9,7 +9,7 @@ use Rattle.program_defs.specs.declared.script.Request.{Request}
 use Rattle.weave_script.specs.ScriptLines.{name_of_request}
 use Rattle.weave_script.specs.Scripts.{IsName, IsRequest, request_names}
 use Rattle.weave_script.specs.Steps.{place_of}
-use Rattle.graph_ops.proofs.Vertices.{itself}
+use Rattle.graph_ops.proofs.Vertices.{same_name-refl}
 
 -- none of these requests has the name
 abbrev pub IsFree : Name → List Request → Type 0
@@ -65,7 +65,7 @@ found_at : (k : ℕ) (requests : List Request) (j : ℕ) → IsDistinct same_nam
 unfolding IsDistinct
 found_at k [] j h small = absurd (omega arith)
 found_at k (request ∷ requests) zero h small =
-    ap (λ b. cond b (Some k) (position_from (λ (r : Request). same_name r.name request.name) (k + 1) requests)) (itself request.name) ∙ ap (λ n. Some n) (omega arith)
+    ap (λ b. cond b (Some k) (position_from (λ (r : Request). same_name r.name request.name) (k + 1) requests)) (same_name-refl request.name) ∙ ap (λ n. Some n) (omega arith)
 found_at k (request ∷ requests) (suc j) h small =
     ap (λ b. cond b (Some k) (position_from (λ (r : Request). same_name r.name (name_of_request requests j)) (k + 1) requests)) (all_nth request.name requests j (omega arith) h.0)
     ∙ found_at (k + 1) requests j h.1 (omega arith) ∙ ap (λ n. Some n) (omega arith)

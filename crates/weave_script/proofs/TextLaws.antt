@@ -1,5 +1,6 @@
 -- What is read of a text is its script; each short text of a script is read as it; no text is of two scripts.
--- Used by `printed_scripts_come_back`, `texts_are_of_one_script`, `texts_are_read`, CheckLaws, CheckTold and HeadTexts.
+-- Used by `printed_scripts_come_back`, `texts_are_of_one_script`, `texts_are_read`, CheckLaws, CheckTold and
+-- HeadTexts.
 use Rattle.std.proofs.Common.{◌≡◌, ℕ, suc, ◌≤◌, Bool, true, false, cond, List, [], ◌∷◌, length, Ok, Err, refl, sym, ap, ◌∙◌}
 use Rattle.std.specs.Prelude.{Result, nat_lt}
 use Rattle.std.proofs.lemmas.Bool.{cond-false, le-ltb, ltb-false}

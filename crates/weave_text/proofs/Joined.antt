@@ -1,5 +1,6 @@
 -- Lines, words and pieces that were joined are cut into themselves, and what was cut is joined into itself.
--- Used by `clean_lines_come_back`, `cut_texts_are_joined`, `joined_pieces_come_back`, `lines_are_few` and 3 more.
+-- Used by `clean_lines_come_back`, `cut_texts_are_joined`, `joined_pieces_come_back`, `lines_are_few`,
+-- `lines_follow_one_another`, `words_lack_other_bytes` and Clean.
 use Rattle.std.proofs.Common.{◌≡◌, ℕ, suc, Bool, true, false, not, ◌&&◌, ◌==◌, ◌<◌, ◌≤◌, cond, List, [], ◌∷◌, ◌++◌, map, length, refl, sym, ap, ◌∙◌, append_assoc, arith}
 use Rattle.std.specs.List.{list_all, onto_first}
 use Rattle.std.proofs.lemmas.Bool.{and_parts, cond-true, cond-false, eqb-true, eq-eqb}

@@ -1,5 +1,6 @@
 -- If a session gets one more entry, it goes on together with its log, and the table of a core's sessions has the entry.
--- Used by `begin_next`, `begun`, `first_clients`, `first_unanswered`, `put`, `replied`, `reply_to_one` and 3 more.
+-- Used by `begin_next`, `begun`, `first_clients`, `first_unanswered`, `put`, `replied`, `reply_to_one`, `reserve`,
+-- `take` and Unanswered.
 use Rattle.std.proofs.Common.{arith, ◌≡◌, ℕ, ◌+◌, ◌<◌, List, [], ◌∷◌, ◌++◌, length, map, get_or, AllPairs, Option, Some, refl, sym, ap, subst, ◌∙◌}
 use Rattle.std.specs.Prelude.{slice_get, slice_set}
 use Rattle.std.proofs.lemmas.List.{map-append}

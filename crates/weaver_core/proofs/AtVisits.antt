@@ -5,6 +5,7 @@ use Rattle.std.specs.Prelude.{◌||◌, slice_get, slice_set, if◌then◌else�
 use Rattle.std.specs.List.{list_any}
 use Rattle.std.proofs.lemmas.List.{map-append}
 use Rattle.weave_data.specs.declared.name.Name.{Name}
+use Rattle.weave_data.proofs.Images.{made-back}
 use Rattle.vector_stamp.specs.declared.clock.Stamp.{Stamp}
 use Rattle.vector_stamp.specs.Precedence.{GivenPair, precedes}
 use Rattle.vector_stamp.specs.Seeing.{last_seen, seen_of}
@@ -33,18 +34,14 @@ if_ok_on_three (Err e) P Q R S T go p q r s = tt
 -- The oracle's log, by what a judge's log has more
 
 module _ (back : (entry : OracleEntry) → oracle_entry_of (settled_entry entry) ≡ entry) where
-  each-back : (log : List OracleEntry) → map oracle_entry_of (map settled_entry log) ≡ log
-  each-back [] = refl
-  each-back (entry ∷ log) = λ i. back entry i ∷ each-back log i
-
   -- a log of the oracle that goes on by these settled entries goes on by the oracle's entries of them
   pub oracle-more : (old new : List OracleEntry) (more : List SettledEntry) → map settled_entry new ≡ map settled_entry old ++ more → new ≡ old ++ map oracle_entry_of more
   oracle-more old new more is =
-      sym (each-back new) ∙ ap (map oracle_entry_of) is ∙ map-append oracle_entry_of (map settled_entry old) more ∙ ap (λ log. log ++ map oracle_entry_of more) (each-back old)
+      sym (made-back oracle_entry_of settled_entry back new) ∙ ap (map oracle_entry_of) is ∙ map-append oracle_entry_of (map settled_entry old) more ∙ ap (λ log. log ++ map oracle_entry_of more) (made-back oracle_entry_of settled_entry back old)
 
   -- logs of the oracle with the same settled entries are the same
   pub oracle-same : (old new : List OracleEntry) → map settled_entry new ≡ map settled_entry old → new ≡ old
-  oracle-same old new is = sym (each-back new) ∙ ap (map oracle_entry_of) is ∙ each-back old
+  oracle-same old new is = sym (made-back oracle_entry_of settled_entry back new) ∙ ap (map oracle_entry_of) is ∙ made-back oracle_entry_of settled_entry back old
 
 -- A visit is marked exactly if the oracle made an entry
 

@@ -1,5 +1,5 @@
 -- A program that is begun has read nothing, and is running.
--- Used by `begin_program`, AfterSteps and Waiting.
+-- Used by `begin_program`, AfterSteps, StepValues and Waiting.
 use Rattle.std.proofs.Common.{◌≡◌, ◌≢◌, ℕ, ◌<◌, ◌≤◌, ◌-◌, Bool, true, false, List, [], ◌∷◌, ◌++◌, map, take, filter, AllPairs, Contains, None, Some, inl, inr, refl, sym, ap, subst, ◌∙◌, arith}
 use Rattle.std.specs.Prelude.{◌==◌, cond, if◌then◌else◌}
 use Rattle.std.specs.List.{find, flat_map, list_any}
@@ -75,6 +75,14 @@ flat-none f (x ∷ xs) none = (λ i. none x (has_head x xs) i ++ flat-none f xs 
 
 -- A request that has no stamp was read for by no one
 
+-- a session has at most as many replies as begun requests
+pub few-replied : (session : SessionState) → replied_count session ≤ session.begun
+few-replied s = by s.waits
+  where
+    by : (b : Bool) → (if b then s.begun - 1 else s.begun) ≤ s.begun
+    by true = omega arith
+    by false = omega arith
+
 module _ (script : Script) (account : Account) (is : IsAccount script account) (r : ℕ) (none : stamp_of account r ≡ None) where
   -- a program that was begun has a stamp
   begun-not : (home : ℕ) (b : BegunRequest) → Contains (programs_of (gate_log account home)) b → b.request ≢ r
@@ -143,13 +151,6 @@ module _ (stay : StayLaws) (sessions : SessionLaws) (rise : (script : Script) (s
   unstamped : stamp_of account r ≡ None
   unstamped = sym (are.core.account.sessions.stamps r request look.request_is) ∙ ap (option_map (λ (begun : ℕ × Stamp). begun.1)) no-begin
 
-  few-begun : (session-state : SessionState) → replied_count session-state ≤ session-state.begun
-  few-begun s = by s.waits
-    where
-      by : (b : Bool) → (if b then s.begun - 1 else s.begun) ≤ s.begun
-      by true = omega arith
-      by false = omega arith
-
   -- so it has no reply
   no-reply : has_reply_in r session ≡ false
   no-reply =
@@ -158,7 +159,7 @@ module _ (stay : StayLaws) (sessions : SessionLaws) (rise : (script : Script) (s
       let place = place-of requests r (among script r request look.request_is) in
       let state = session_of requests session in
       let past = ltb-false place.0 state.begun (sym (begun-is sessions request.session requests session right (rise script request.session) place.0 r place.1) ∙ new) in
-      let less = few-begun state in
+      let less = few-replied state in
       reply-is sessions request.session requests session right (rise script request.session) place.0 r place.1 ∙ le-ltb place.0 (replied_count state) (omega (arith, past, less))
 
   module _ (is-next : IsAccount script next) where

@@ -1,6 +1,7 @@
 -- The laws of the crates below that several steps cite. Each lemma takes them as a record, made by the function that
 -- calls the laws.
--- Used by `finish`, `first_unanswered`, `visit`, BeginDone, CanVisit, FinishDone, FirstUnanswered and 3 more.
+-- Used by `finish`, `first_unanswered`, `visit`, BeginDone, CanVisit, FinishDone, FirstUnanswered, JudgeDone,
+-- ReplyDone and Unordered.
 use Rattle.std.proofs.Common.{◌≡◌, ◌≢◌, ◌⊎◌, ℕ, ◌<◌, AllPairs, List, length, map, take, Contains, Some}
 use Rattle.std.specs.Prelude.{◌↔◌, IsSomeAnd}
 use Rattle.weave_data.specs.Names.{shard_of}

@@ -1,6 +1,6 @@
 -- If the store and the oracle did `judge` with an answer, the machines did this step, with the same answer.
 -- Used by `judge`.
-use Rattle.std.proofs.Common.{◌≡◌, ◌≢◌, ◌⊎◌, ℕ, ◌<◌, ◌^◌, List, [], ◌∷◌, ◌++◌, length, Contains, IsTrue, Option, None, Some, inl, inr, refl, sym, ap, subst, ◌∙◌, arith}
+use Rattle.std.proofs.Common.{◌≡◌, ◌≢◌, ◌⊎◌, ℕ, ◌<◌, List, [], ◌∷◌, ◌++◌, length, Contains, IsTrue, Option, None, Some, inl, inr, refl, sym, ap, subst, ◌∙◌, arith}
 use Rattle.std.specs.Prelude.{is_some, ◌==◌, IsSome, IsSomeAnd, if◌then◌else◌}
 use Rattle.std.proofs.lemmas.Bool.{eq-eqb}
 use Rattle.std.proofs.lemmas.List.Elements.{All-from_recursion, Contains-append_cases, Contains-get_or}
@@ -25,7 +25,7 @@ use Rattle.weave_entries.specs.declared.store_log.StoreEntry.{StoreEntry}
 use Rattle.weave_entries.specs.GateReplay.{BegunRequest, begun_in, flight_of}
 use Rattle.weave_entries.specs.OracleReplay.{pairs_of_log}
 use Rattle.weave_entries.specs.StoreReplay.{Judgement, commits_of, judgement_of, judgements_of}
-use Rattle.weave_entries.specs.StoreRule.{stamps_judged}
+use Rattle.weave_entries.specs.StoreRule.{stamps_judged, ops_bound}
 use Rattle.backing_store.specs.Commits.{stamps_kept}
 use Rattle.weave_account.specs.declared.account.Account.{Account}
 use Rattle.weave_account.specs.Account.{IsBegunStamp, all_begun, begun_stamps, gate_log}
@@ -100,7 +100,7 @@ module _ (script : Script) (gates : GateTable) (store : List StoreEntry) (oracle
       ]
     ]
 
-    few : (o : Option Request) → request_at script flight.request ≡ o → length (ops_in o) < 2 ^ 31
+    few : (o : Option Request) → request_at script flight.request ≡ o → length (ops_in o) < ops_bound
     few None is = omega arith
     few (Some request) is = let most = are.limits.few_ops flight.request request is in omega (arith, most)
 

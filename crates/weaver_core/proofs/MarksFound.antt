@@ -12,7 +12,7 @@ use Rattle.weave_data.proofs.Members.{any_from, any_has, cut_at, find_has, find_
 use Rattle.weave_data.proofs.Ordered.{find_by_key}
 use Rattle.weave_data.specs.Names.{one_name, same_name, shard_of}
 use Rattle.weave_data.specs.declared.name.Name.{Name}
-use Rattle.graph_ops.proofs.Vertices.{itself}
+use Rattle.graph_ops.proofs.Vertices.{same_name-refl}
 use Rattle.vector_stamp.specs.declared.clock.Stamp.{Stamp}
 use Rattle.vector_stamp.specs.Precedence.{GivenPair, precedes}
 use Rattle.vector_stamp.specs.Seeing.{last_seen}
@@ -37,6 +37,7 @@ use Rattle.weave_entries.specs.OracleRules.{IsRightEntry, IsRightFrom}
 use Rattle.weave_entries.specs.ShardReplay.{Update, Visit, updates_of, visit_by, visits_of}
 use Rattle.weave_entries.specs.StoreReplay.{Commit, Judgement, commit_by, commits_naming, commits_of, count_naming, judged_by, judgement_of, judgements_of, names_vertex}
 use Rattle.weave_entries.specs.StoreRule.{counts_of}
+use Rattle.weave_entries.proofs.StoreLogs.{commit-cases}
 use Rattle.weave_account.specs.declared.account.Account.{Account}
 use Rattle.weave_account.specs.Account.{all_begun, commits_in, shard_log, stamp_of}
 use Rattle.weave_account.specs.IsAccount.{IsAccount}
@@ -83,12 +84,6 @@ last-got (suc (suc n)) (x ∷ updates) u e = let rest = last-got (suc n) updates
 
 -- The commits that name a vertex
 
--- an entry is one commit, or none
-commit-parts : (deed : StoreDeed) → (commit_by deed ≡ []) ⊎ ((c : Commit) × (commit_by deed ≡ c ∷ []))
-commit-parts (Judged r stamp ops asked (Committed number answers counts)) = inr (record { request = r; stamp = stamp; ops = ops }, refl)
-commit-parts (Judged r stamp ops asked (Conflict v newer)) = inl refl
-commit-parts (Judged r stamp ops asked (Refused op reason at)) = inl refl
-
 -- this commit is the one of this place, from 0, among those that name the vertex
 record CommitAt (v : Name) (log : List StoreEntry) (n : ℕ) (c : Commit) : Type 0 where
   before : List StoreEntry
@@ -130,7 +125,7 @@ module _ (v : Name) where
 
   commit-at : (log : List StoreEntry) (n : ℕ) (c : Commit) → slice_get (naming log) n ≡ Some c → CommitAt v log n c
   commit-at [] n c at = absurd (none-some c at)
-  commit-at (entry ∷ log) n c at = elim (commit-parts entry.deed) [
+  commit-at (entry ∷ log) n c at = elim (commit-cases entry.deed) [
     | inl none ↦ later entry log (λ k. k) (λ others. ap length (none-naming entry none others)) n c (commit-at log n c (ap (λ (cs : List Commit). slice_get cs n) (sym (none-naming entry none log)) ∙ at))
     | inr one ↦ first-step entry log one.0 c one.1 (names_vertex v one.0) refl n (ap (λ (cs : List Commit). slice_get cs n) (sym (more-naming entry one.0 one.1 (names_vertex v one.0) refl log)) ∙ at) (λ m e. commit-at log m c e)
   ]
@@ -176,7 +171,7 @@ counted-commit script account before author (Judged r stamp ops asked (Committed
     let one : Commit = record { request = r; stamp = stamp; ops = ops } in
     let from = map_has (counted-at (commits_of before)) (named_by ops) counted (subst (λ (cs : List Counted). Contains cs counted) judges.verdict.counts_are h) in
     let vertex : from.0 ≡ counted.vertex = ap (λ (k : Counted). k.vertex) from.2 in
-    let named : IsTrue (names_vertex from.0 one) = any_from (λ (other : Name). same_name other from.0) (named_by ops) from.0 from.1 (itself from.0) in
+    let named : IsTrue (names_vertex from.0 one) = any_from (λ (other : Name). same_name other from.0) (named_by ops) from.0 from.1 (same_name-refl from.0) in
     (one, (refl, (refl, (subst (λ (v : Name). IsTrue (names_vertex v one)) vertex named, ap (λ (k : Counted). k.before) (sym from.2) ∙ ap (λ (v : Name). count_naming v (commits_of before)) vertex))))
 counted-commit script account before author (Judged r stamp ops asked (Conflict v newer)) counted judges h = absurd (has_none counted h)
 counted-commit script account before author (Judged r stamp ops asked (Refused op reason at)) counted judges h = absurd (has_none counted h)
@@ -263,7 +258,7 @@ module _ (script : Script) (account : Account) (is : IsAccount script account)
       (and_from (visit.settled && nat_lt 0 visit.updates) (same_visit (visit.request, visit.vertex, visit.updates - 1) (visit.request, visit.vertex, n))
       (and_from visit.settled (nat_lt 0 visit.updates) settled (lt-ltb 0 visit.updates (omega (arith, updates))))
       (and_from ((visit.request == visit.request) && same_name visit.vertex visit.vertex) (visit.updates - 1 == n)
-      (and_from (visit.request == visit.request) (same_name visit.vertex visit.vertex) (eq-eqb visit.request visit.request refl) (itself visit.vertex))
+      (and_from (visit.request == visit.request) (same_name visit.vertex visit.vertex) (eq-eqb visit.request visit.request refl) (same_name-refl visit.vertex))
       (eq-eqb (visit.updates - 1) n (omega (arith, updates)))))
 
   -- An entry that a commit asked for

@@ -13,7 +13,7 @@ use Rattle.weave_entries.specs.declared.store_log.StoreEntry.{StoreEntry}
 use Rattle.weave_entries.specs.GateReplay.{flight_of}
 use Rattle.weave_entries.specs.SessionReplay.{IsSessionLog}
 use Rattle.weave_account.specs.declared.account.Account.{Account}
-use Rattle.weave_account.specs.Account.{gate_log, session_log}
+use Rattle.weave_account.specs.Account.{gate_log, session_log, NoneInFlight}
 use Rattle.weave_account.specs.Sessions.{requests_of_session}
 use Rattle.step_rules.specs.CoreState.{CoreState}
 use Rattle.step_rules.specs.IsCore.{IsCore}
@@ -21,7 +21,7 @@ use Rattle.weaver_core.specs.Sessions.{AreNumbered, ClientTable, SessionValues, 
 use Rattle.weaver_core.specs.Cores.{AreOf, MachinesView, machines_of}
 use Rattle.weaver_core.specs.GateTable.{AreGatesInOrder, GateTable, log_of_gate}
 use Rattle.weaver_core.specs.ShardTable.{AreShardsInOrder, ShardTable, log_of_shard}
-use Rattle.weaver_core.specs.Splitting.{AreAllByLog, ArePartsFor, AreValuesByLog, CanBeJoined, IsClientByLog, NoneInFlight, account_of, state_of}
+use Rattle.weaver_core.specs.Splitting.{AreAllByLog, ArePartsFor, AreValuesByLog, CanBeJoined, IsClientByLog, account_of, state_of}
 use Rattle.weaver_core.specs.declared.client.Client.{Client}
 use Rattle.weaver_core.specs.declared.split.Split.{Split}
 use Rattle.weaver_core.proofs.Tables.{image-at}

@@ -1,4 +1,4 @@
--- The pairs that are found by events and places are those of the account.
+-- Of an entry of the oracle that no visit asked for, the pairs that are found are those placed in the account.
 -- Used by Unordered.
 use Rattle.std.proofs.Common.{◌≡◌, ℕ, List, [], ◌∷◌, Contains, Option, None, Some, refl, sym, ap, ◌∙◌}
 use Rattle.std.specs.Prelude.{slice_get}
@@ -66,7 +66,7 @@ module _ (account : Account) (request_of : Stamp → Option ℕ) (requests : (ev
         by None = refl
         by (Some r) = ap (option_and_then (λ (q : ℕ). option_map (joined r q) (option_or (vertex_asked account.store later place) (vertex_visited account.shards event later)))) is
 
-    -- the pairs of an entry
+    -- the pairs found of an entry that no visit asked for are those placed in the account
     pub entry-placed : (entry : SettledEntry) → ((event : Stamp) → vertex_visited account.shards event entry.later ≡ None) → ((event : Stamp) → Contains (entry.later ∷ entry.earlier) event → IsBegunStamp account event) → pairs_found request_of account.store None entry ≡ placed_by account entry
     entry-placed entry unvisited begun =
         ap (pairs_before request_of account.store None entry) (requests entry.later (begun entry.later (has_head entry.later entry.earlier)))

@@ -1,5 +1,7 @@
 -- What follows from a clause on a result, for each value that it can have.
--- Used by `apply`, `apply_in`, `arrive`, `begin`, `begin_change`, `begin_in`, `collect`, `deliver` and 22 more.
+-- Used by `apply`, `apply_in`, `arrive`, `begin`, `begin_change`, `begin_in`, `collect`, `deliver`, `finish`, `hear`,
+-- `judge`, `nop`, `other_step`, `raise`, `raise_at`, `reply`, `reply_in`, `reply_to_change`, `reply_to_program`,
+-- `report`, `send`, `state_of`, `state_of_begun`, `step`, `unordered`, `visit` and `visit_with`.
 use Rattle.std.proofs.Common.{◌≡◌, ℕ, ◌<◌, ◌≤◌, not, nat_lt, Result, Ok, Err, IfOk, IfErr, OnOk, OnErr, refl, ap}
 use Rattle.std.proofs.lemmas.Bool.{le-ltb, lt-ltb}
 use Rattle.gatekeeper.specs.Answers.{IsRefusedWhere}
@@ -16,25 +18,10 @@ pub if_ok_two : {A E : Type 0} (result : Result A E) (P R Q : A → Type 0) → 
 if_ok_two (Ok a) P R Q go p r = go a p r
 if_ok_two (Err e) P R Q go p r = tt
 
--- what follows from what holds on success holds on success
-pub on_ok_map : {A E : Type 0} (result : Result A E) (P Q : Type 0) → (P → Q) → OnOk result P → OnOk result Q
-on_ok_map (Ok a) P Q go p = go p
-on_ok_map (Err e) P Q go p = tt
-
--- and what follows from what holds after an error holds after an error
-pub on_err_map : {A E : Type 0} (result : Result A E) (P Q : Type 0) → (P → Q) → OnErr result P → OnErr result Q
-on_err_map (Ok a) P Q go p = tt
-on_err_map (Err e) P Q go p = go p
-
 -- and so does what follows from two things that hold after an error
 pub on_err_both : {A E : Type 0} (result : Result A E) (P R Q : Type 0) → (P → R → Q) → OnErr result P → OnErr result R → OnErr result Q
 on_err_both (Ok a) P R Q go p r = tt
 on_err_both (Err e) P R Q go p r = go p r
-
--- what is known anyway is known after an error
-pub on_err_known : {A E : Type 0} (result : Result A E) (P : Type 0) → P → OnErr result P
-on_err_known (Ok a) P p = tt
-on_err_known (Err e) P p = p
 
 -- one of two clauses gives it, whichever way a call ends
 pub either_way : {A E : Type 0} (result : Result A E) (P : A → Type 0) (R X : Type 0) → ((a : A) → P a → X) → (R → X) → IfOk result P → OnErr result R → X

@@ -1,8 +1,10 @@
 -- Machines of which only the values of the sessions differ.
--- Used by `begin_change`, `begin_program`, `other_step`, `reply_to_change`, `reply_to_program`, `step` and 2 more.
+-- Used by `begin_change`, `begin_program`, `other_step`, `reply_to_change`, `reply_to_program`, `step`, `visit_with`
+-- and VisitWith.
 use Rattle.std.proofs.Common.{◌≡◌, ℕ, zero, suc, ◌<◌, List, [], ◌∷◌, length, Option, refl, sym, ap, subst, ◌∙◌}
 use Rattle.std.specs.Prelude.{slice_set, Result, OnErr}
 use Rattle.std.proofs.lemmas.List.{get_or-set_same, set-get_or}
+use Rattle.weave_data.proofs.Results.{on_err_map}
 use Rattle.program_defs.specs.declared.script.Script.{Script}
 use Rattle.program_defs.specs.declared.script.Step.{Step}
 use Rattle.report_rules.specs.declared.report.StepAnswer.{StepAnswer}
@@ -13,7 +15,6 @@ use Rattle.step_rules.specs.Trace.{state_after}
 use Rattle.weaver_core.specs.Sessions.{SessionValues, no_values, values_at, with_running}
 use Rattle.weaver_core.specs.Cores.{AreOf, AreSameMachines, MachinesFrame, IsFrameOf, MachinesDo, MachinesView}
 use Rattle.weaver_core.specs.declared.walks.Running.{Running}
-use Rattle.weaver_core.proofs.Results.{on_err_map}
 
 -- of equal machines nothing but the values may differ
 pub are-same : (old new : MachinesView) → new ≡ old → AreSameMachines old new

@@ -52,14 +52,8 @@ use Rattle.weaver_core.proofs.ProgramsSet.{stamp-replied}
 use Rattle.weaver_core.proofs.Turns.{Rule, place-of, reply-is}
 use Rattle.weaver_core.proofs.ValuesStay.{if-program, replies-stay, values-set}
 use Rattle.weaver_core.proofs.Waiting.{last-waits, none-waits, open-waits, session-laws, stamp-waits, waits-more}
+use Rattle.weaver_core.proofs.BegunProgram.{few-replied}
 use Rattle.step_rules.proofs.SessionTurns.{requests-same}
-
-few-replied : (session : SessionState) → replied_count session ≤ session.begun
-few-replied s = by s.waits
-  where
-    by : (b : Bool) → (if b then s.begun - 1 else s.begun) ≤ s.begun
-    by true = omega arith
-    by false = omega arith
 
 -- a program waits after its begin, and a transaction doesn't
 program-after : (script : Script) (log : List SessionEntry) (entry : SessionEntry) (r : ℕ) (stamp : Stamp) (request : Request) → entry.deed ≡ Begun r stamp → request_at script r ≡ Some request → program_waiting script (log ++ entry ∷ []) ≡ (if is_look request.work then Some (r, stamp) else None)

@@ -1,5 +1,5 @@
 -- What the machines do at `judge`. No public contract cites this.
-use Rattle.std.specs.Prelude.{◌≡◌, ◌≢◌, ◌⊎◌, ◌<◌, ◌^◌, ℕ, List, [], ◌∷◌, ◌++◌, length, All, IsSome, None, Some, is_some, true}
+use Rattle.std.specs.Prelude.{◌≡◌, ◌≢◌, ◌⊎◌, ◌<◌, ℕ, List, [], ◌∷◌, ◌++◌, length, All, IsSome, None, Some, is_some, true}
 use Rattle.vector_stamp.specs.declared.clock.Stamp.{Stamp}
 use Rattle.vector_stamp.specs.Coherence.{AreCoherent}
 use Rattle.vector_stamp.specs.Order.{id_of}
@@ -15,7 +15,7 @@ use Rattle.weave_entries.specs.declared.verdict.Verdict.{Verdict}
 use Rattle.weave_entries.specs.GateReplay.{BegunRequest, flight_of}
 use Rattle.weave_entries.specs.OracleReplay.{pairs_of_log}
 use Rattle.weave_entries.specs.StoreReplay.{commits_of, judgement_of}
-use Rattle.weave_entries.specs.StoreRule.{entries_of_settling, settled_if, stamps_judged}
+use Rattle.weave_entries.specs.StoreRule.{entries_of_settling, settled_if, stamps_judged, ops_bound}
 use Rattle.backing_store.specs.Commits.{asked_at, judged_entry, stamps_kept, verdict_at}
 use Rattle.step_rules.specs.Requests.{ops_in}
 use Rattle.weaver_core.specs.GateTable.{GateTable, gate_log_at}
@@ -28,7 +28,7 @@ ops_in_flight script flight = ops_in (request_at script flight.request)
 pub record CanBeJudged (script : Script) (store : List StoreEntry) (oracle : List OracleEntry)
     (flight : BegunRequest) : Type 0 where
   pub there : IsSome (request_at script flight.request)
-  pub few : length (ops_in_flight script flight) < 2 ^ 31
+  pub few : length (ops_in_flight script flight) < ops_bound
   pub new : All (λ (judged : Stamp). id_of judged ≢ id_of flight.stamp) (stamps_judged store)
   pub coherent : AreCoherent (flight.stamp ∷ stamps_kept (commits_of store) ++ ends_of (pairs_of_log oracle))
 

@@ -18,10 +18,9 @@ use Rattle.report_rules.specs.declared.report.StepAnswer.TheVariants as answer
 use Rattle.weave_entries.specs.declared.session_log.SessionEntry.{SessionEntry}
 use Rattle.weave_entries.specs.declared.session_log.SessionDeed.{SessionDeed}
 use Rattle.weave_entries.specs.declared.session_log.SessionDeed.TheVariants.{Begun, Replied}
-use Rattle.weave_entries.specs.GateReplay.{flight_of}
 use Rattle.weave_entries.specs.SessionReplay.{replied_in, session_of}
 use Rattle.weave_account.specs.declared.account.Account.{Account}
-use Rattle.weave_account.specs.Account.{gate_log, reads_of, session_log}
+use Rattle.weave_account.specs.Account.{reads_of, session_log, NoneInFlight}
 use Rattle.weave_account.specs.Report.{IsReplyInAccount}
 use Rattle.weave_account.specs.Sessions.{requests_of_session}
 use Rattle.step_rules.specs.CoreState.{CoreState}
@@ -92,10 +91,6 @@ account_of split = record {
 -- and with the notices
 abbrev pub state_of : Split → CoreState
 state_of split = record { account = account_of split; notices = split.notices.items }
-
--- no transaction is in flight at any gatekeeper
-abbrev pub NoneInFlight : Account → Type 0
-NoneInFlight account = (home : ℕ) → flight_of (gate_log account home) ≡ None
 
 -- a gatekeeper of this home, made for the script's numbers of gatekeepers and shards
 pub record IsGateFor (script : Script) (home : ℕ) (gate : GateView) : Type 0 where

@@ -9,7 +9,7 @@ ghost use Rattle.report_rules.specs.Lookups.{request_at};
 ghost use Rattle.weave_entries.specs.OracleReplay.{settled_entry};
 ghost use Rattle.weave_entries.specs.ShardReplay.{arrived_at, kept_of, processed_count};
 ghost use Rattle.weave_entries.specs.declared.oracle_log.OracleEntry.{OracleEntry};
-ghost use Rattle.weave_account.specs.Account.{session_log, shard_log};
+ghost use Rattle.weave_account.specs.Account.{session_log, shard_log, NoneInFlight};
 ghost use Rattle.weave_account.specs.Report.{MatchesAccount};
 ghost use Rattle.step_rules.specs.CoreState.{start_state};
 ghost use Rattle.weaver_core.specs.Cores.{AreOf, CanBeGiven, MachinesDo, RepliesToChange, machines_of};
@@ -17,7 +17,7 @@ ghost use Rattle.weaver_core.specs.Sessions.{AreNumbered, HaveRisingReplies, is_
 ghost use Rattle.step_rules.specs.Requests.{has_reply, last_begun};
 ghost use Rattle.weaver_core.specs.Reporting.{AreOfHomes, AreRequestsReplies, all_pairs_found, request_with};
 ghost use Rattle.weaver_core.specs.Marks.{all_visits, mark_of, was_asked};
-ghost use Rattle.weaver_core.specs.Splitting.{AreAllByLog, ArePartsFor, NoneInFlight, RepliesToProgram, state_of};
+ghost use Rattle.weaver_core.specs.Splitting.{AreAllByLog, ArePartsFor, RepliesToProgram, state_of};
 ghost use Rattle.weaver_core.specs.Walks.{IsLook, IsOtherStep, IsRunningIn};
 
 use crate::beginning::begin_in;

@@ -8,13 +8,13 @@ ghost use Rattle.report_rules.specs.PrintedOrder.{IsPrintedOrder};
 ghost use Rattle.report_rules.specs.RightReport.{replies_clause};
 ghost use Rattle.order_witness.specs.Begun.{NonePrecedesItself};
 ghost use Rattle.weave_entries.specs.ShardReplay.{arrived_at, kept_of, processed_count};
-ghost use Rattle.weave_account.specs.Account.{shard_log};
+ghost use Rattle.weave_account.specs.Account.{shard_log, NoneInFlight};
 ghost use Rattle.weave_account.specs.Report.{IsReportOfAccount};
 ghost use Rattle.step_rules.specs.CoreState.{start_state};
 ghost use Rattle.step_rules.specs.IsCore.{IsCore, IsStepOf};
 ghost use Rattle.step_rules.specs.Requests.{has_reply};
 ghost use Rattle.weaver_core.specs.Cores.{DoesStep};
-ghost use Rattle.weaver_core.specs.Splitting.{CanBeJoined, NoneInFlight, state_of};
+ghost use Rattle.weaver_core.specs.Splitting.{CanBeJoined, state_of};
 
 use crate::gates::Gates;
 use crate::machines::Machines;

@@ -1,10 +1,12 @@
 -- What a hold leaves alone: each request for which it made no visit, and which it did not finish.
--- Used by `bring`, `finish`, `programs_left_alone_go_on`, `say_and_hear`, `transact`, `visit`, Calls and 2 more.
+-- Used by `bring`, `finish`, `programs_left_alone_go_on`, `say_and_hear`, `transact`, `visit`, Calls, OwnVisits and
+-- Refusals.
 use Rattle.std.proofs.Common.{◌≡◌, ◌≢◌, inl, inr, ℕ, ◌==◌, List, [], ◌++◌, Contains, ap, ◌∙◌, subst}
 use Rattle.std.specs.Prelude.{filter}
 use Rattle.std.proofs.lemmas.List.{append-nil}
 use Rattle.std.proofs.lemmas.List.Concat.{flat_map-append}
 use Rattle.std.proofs.lemmas.List.Elements.{filter-append}
+use Rattle.weave_data.proofs.RowsSet.{set-none, set-has}
 use Rattle.weave_entries.specs.declared.gate_log.GateEntry.{GateEntry}
 use Rattle.weave_entries.specs.declared.gate_log.GateDeed.TheVariants.{Finished}
 use Rattle.weave_entries.specs.declared.oracle_log.OracleEntry.{OracleEntry}
@@ -21,7 +23,7 @@ use Rattle.weaver_locks.specs.Hands.{made_by, seen_by, with_gate_entries, with_s
 use Rattle.weaver_locks.specs.ShardHolds.{WasAtShard}
 use Rattle.weaver_locks.specs.StoreHolds.{WasAtStore}
 use Rattle.weaver_hands.specs.Leaving.{LeavesAlone, MadeNone, MakesNoVisit}
-use Rattle.weaver_hands.proofs.Sets.{set-alike, set-has, set-none}
+use Rattle.weaver_hands.proofs.Sets.{set-alike}
 
 -- Holds without an entry
 

@@ -21,8 +21,8 @@ use Rattle.weave_entries.specs.GateReplay.{addressed_to, messages_by, to_shard}
 use Rattle.weave_entries.specs.GateRules.{IsChannel}
 use Rattle.weave_entries.specs.ShardReplay.{Arrival, arrival_by, arrivals_of, arrived_at}
 use Rattle.weave_account.specs.Account.{gate_log, shard_log}
+use Rattle.weave_account.proofs.GoesOn.{has-on, flat-on}
 use Rattle.seen_logs.specs.References.{ArrivesAsSeen, ShardRefersAs}
-use Rattle.seen_logs.proofs.Listed.{flat-on, has-on}
 use Rattle.weaver_locks.specs.declared.hand.Hand.{Hand}
 use Rattle.weaver_locks.specs.declared.shared.Shared.{Shared}
 use Rattle.weaver_locks.specs.Hands.{hand_number, seen_by, IsHand}

@@ -17,10 +17,10 @@ use Rattle.weave_entries.specs.GateReplay.{BegunRequest, begun_by, program_by, p
 use Rattle.weave_entries.specs.GateRules.{EndsAs}
 use Rattle.weave_account.specs.declared.account.Account.{Account}
 use Rattle.weave_account.specs.Account.{gate_log}
+use Rattle.weave_account.proofs.GoesOn.{longer}
 use Rattle.seen_logs.specs.Entries.{gate_entries}
 use Rattle.seen_logs.specs.LowerLaws.{LawsForSeenLogs}
 use Rattle.seen_logs.specs.Seen.{entries_since}
-use Rattle.seen_logs.proofs.Listed.{longer}
 use Rattle.weaver_locks.specs.declared.hand.Hand.{Hand}
 use Rattle.weaver_locks.specs.declared.shared.Shared.{Shared}
 use Rattle.weaver_locks.specs.Following.{HasNotBegun}

@@ -71,7 +71,7 @@ module _ (hands : HandLaws) (laws : LawsForSeenLogs) (shared : Shared) (old new 
   abbrev n : ℕ
   n = hand_number old
 
-  -- what the hand's visits for a request in a shard have more
+  -- if a hand's visits for a request in a shard are the old ones and these, its new entries have these
   pub new-visits : (shard r : ℕ) (zs : List Visit)
       → visits_by r (entries_of_author n (shard_log (seen_by new) shard)) ≡ visits_by r (entries_of_author n (shard_log (seen_by old) shard)) ++ zs
       → visits_by r (entries_of_author n (more.shards shard).0) ≡ zs
@@ -80,7 +80,7 @@ module _ (hands : HandLaws) (laws : LawsForSeenLogs) (shared : Shared) (old new 
       (sym (visits-both n r (shard_log (seen_by old) shard) (more.shards shard).0)
       ∙ ap (λ l. visits_by r (entries_of_author n l)) (sym (more.shards shard).1) ∙ is)
 
-  -- its new visits are of its own programs, if each is that shows so
+  -- each new visit of the hand is of a program that it began itself
   abbrev pub OwnNew : Type 0
   OwnNew = (shard : ℕ) (visit : Visit) → Contains (visits_by visit.request (entries_of_author n (more.shards shard).0)) visit
       → VisitsItsOwn n (start_of shared) (seen_by new) (visit_entry visit).deed
@@ -153,11 +153,11 @@ module _ (hands : HandLaws) (laws : LawsForSeenLogs) (shared : Shared) (old new 
           )
     ]
 
-    -- and so they do if it made one visit for its running program, and none for another request
+    -- a hand that visits only its own programs still does if it made one visit, for the program that it runs
     pub on-if-visited : VisitsStay → VisitsOwnPrograms n (start_of shared) (seen_by old) → VisitsOwnPrograms (hand_number new) (start_of shared) (seen_by new)
     on-if-visited stay = on-if-own stay its-own
 
--- after a visit of a program that is running
+-- a hand that visits only its own programs still does after a visit of a program that it runs
 pub on-after-visit : HandLaws → LawsForSeenLogs → VisitsStay → (shared : Shared) (old new : Hand) (was is : Running) (result : Result (Unit {0}) HandFault)
     → IsHand shared old → IsHand shared new → IsRunning shared old was
     → VisitsAs (length shared.gates.items) (length shared.shards.items) old new was is result

@@ -10,11 +10,11 @@ use Rattle.weave_entries.specs.declared.gate_log.GateDeed.TheVariants.{Finished}
 use Rattle.weave_entries.specs.GateReplay.{BegunRequest, is_begun, program_by, programs_of, running_of}
 use Rattle.weave_account.specs.declared.account.Account.{Account}
 use Rattle.weave_account.specs.Account.{gate_log}
+use Rattle.weave_account.proofs.GoesOn.{has-on}
 use Rattle.gatekeeper.specs.declared.fault.GateFault.{GateFault}
 use Rattle.gatekeeper.specs.declared.fault.GateFault.TheVariants.{Busy, Idle, Old, Memory}
 use Rattle.gatekeeper.specs.Answers.{IsRefusedWhere}
 use Rattle.seen_logs.specs.Seen.{entries_since}
-use Rattle.seen_logs.proofs.Listed.{has-on}
 use Rattle.weaver_core.specs.declared.walks.Running.{Running}
 use Rattle.weaver_locks.specs.declared.hand.Hand.{Hand}
 use Rattle.weaver_locks.specs.declared.shared.Shared.{Shared}

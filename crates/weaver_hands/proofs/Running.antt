@@ -30,10 +30,10 @@ use Rattle.weave_entries.specs.ShardRules.{is_settled_by, updates_read}
 use Rattle.weave_account.specs.declared.account.Account.{Account}
 use Rattle.weave_account.specs.Account.{gate_log, shard_log}
 use Rattle.weave_account.specs.GoesOn.{visits_by}
+use Rattle.weave_account.proofs.GoesOn.{has-on, longer, flat-on}
 use Rattle.seen_logs.specs.Entries.{shard_entries}
 use Rattle.seen_logs.specs.LowerLaws.{LawsForSeenLogs}
 use Rattle.seen_logs.specs.Seen.{entries_since, GatesGoOn}
-use Rattle.seen_logs.proofs.Listed.{flat-on, has-on, longer}
 use Rattle.seen_logs.proofs.Onward.{since-on}
 use Rattle.chronicle.specs.Passes.{seen_by_pass}
 use Rattle.weaver_core.specs.declared.walks.Running.{Running}

@@ -5,7 +5,7 @@ use Rattle.std.specs.Prelude.{filter, slice_index_or}
 use Rattle.std.specs.List.{flat_map}
 use Rattle.std.proofs.lemmas.Bool.{both_ways}
 use Rattle.std.proofs.lemmas.List.Elements.{Contains-append_left, Contains-append_right, filter-append}
-use Rattle.weave_data.proofs.Members.{filter_has, has_head, has_none, only}
+use Rattle.weave_data.proofs.Members.{filter_has, has_none, only, no-members}
 use Rattle.weave_data.specs.declared.name.Name.{Name}
 use Rattle.graph_ops.specs.Operations.{State}
 use Rattle.weave_entries.specs.declared.shard_log.ShardDeed.{ShardDeed}
@@ -19,11 +19,6 @@ use Rattle.weaver_locks.specs.declared.hand.Hand.{Hand}
 use Rattle.weaver_locks.specs.Hands.{hand_number, seen_by}
 use Rattle.weaver_hands.specs.Programs.{entries_of_author, own_reads, own_reads_in}
 use Rattle.weaver_hands.proofs.OwnReads.{given, own-among}
-
--- a list without members is empty
-no-members : {A : Type 0} (xs : List A) → ((x : A) → Contains xs x → ⊥) → xs ≡ []
-no-members [] none = refl
-no-members (x ∷ xs) none = absurd (none x (has_head x xs))
 
 -- a visit has the author of its entry
 visit-author : (author : ℕ) (deed : ShardDeed) (visit : Visit) → Contains (visit_by author deed) visit → author ≡ visit.author

@@ -1,27 +1,11 @@
 -- Lists of lists of which one goes on.
 -- Used by Alone and Running.
-use Rattle.std.proofs.Common.{◌≡◌, ◌≢◌, ◌⊎◌, inl, ℕ, zero, suc, ◌<◌, List, [], ◌∷◌, ◌++◌, length, get_or, set, Contains, refl, sym, ap, ◌∙◌, arith}
+use Rattle.std.proofs.Common.{◌≡◌, ◌≢◌, ℕ, zero, suc, ◌<◌, List, [], ◌∷◌, ◌++◌, length, get_or, set, refl, sym, ap, ◌∙◌, arith}
 use Rattle.std.specs.List.{flat_map}
-use Rattle.std.proofs.lemmas.List.{append-nil, append_assoc}
-use Rattle.std.proofs.lemmas.List.Elements.{Contains-append_cases}
+use Rattle.std.proofs.lemmas.List.{append_assoc}
 use Rattle.weave_account.proofs.VisitsStay.{flat-alike}
 
 module _ {A : Type 0} where
-  -- a list of lists with nothing added to one is the same
-  pub set-none : (xss : List (List A)) (place : ℕ) → set xss place (get_or xss place [] ++ []) ≡ xss
-  set-none [] place = refl
-  set-none (xs ∷ xss) zero = ap (λ ys. ys ∷ xss) (append-nil xs)
-  set-none (xs ∷ xss) (suc place) = ap (λ yss. xs ∷ yss) (set-none xss place)
-
-  -- what a list has after one has gone on, it had, or was added
-  pub set-has : (xss : List (List A)) (place k : ℕ) (added : List A) (x : A)
-      → Contains (get_or (set xss place (get_or xss place [] ++ added)) k []) x → Contains (get_or xss k []) x ⊎ Contains added x
-  set-has [] place k added x h = inl h
-  set-has (xs ∷ xss) zero zero added x h = Contains-append_cases xs added x h
-  set-has (xs ∷ xss) zero (suc k) added x h = inl h
-  set-has (xs ∷ xss) (suc place) zero added x h = inl h
-  set-has (xs ∷ xss) (suc place) (suc k) added x h = set-has xss place k added x h
-
   -- each list gives the same after one has gone on, if what was added gives nothing
   pub set-alike : {B : Type 0} (f : List A → B) (xss : List (List A)) (place : ℕ) (added : List A)
       → ((xs : List A) → f (xs ++ added) ≡ f xs) → (k : ℕ)

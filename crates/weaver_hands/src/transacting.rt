@@ -1,6 +1,7 @@
 //! A transaction: begun, judged and sent.
-ghost use Rattle.std.specs.Prelude.{◌<◌, ◌^◌, length};
+ghost use Rattle.std.specs.Prelude.{◌<◌, length};
 ghost use Rattle.std.specs.Option.{ForSome};
+ghost use Rattle.weave_entries.specs.StoreRule.{ops_bound};
 ghost use Rattle.weaver_locks.specs.Following.{HasNotBegun, MayHear};
 ghost use Rattle.weaver_locks.specs.Hands.{IsHand};
 ghost use Rattle.weaver_locks.specs.Locks.{gate_count, shard_count};
@@ -32,7 +33,7 @@ pub fn transact<R: Wait>(
     requires hand { IsHand shared.now hand.old }
     requires gate { gate < gate_count shared.now }
     requires new { HasNotBegun hand.old request }
-    requires few { length ops.now < 2 ^ 31 }
+    requires few { length ops.now < ops_bound }
     requires last { ForSome last (λ heard. MayHear shared.now hand.old heard) }
     ensures hand { IsHand shared.now hand.new }
     ensures done { TransactsAs (shard_count shared.now) hand.old hand.new gate request ops.now last result }

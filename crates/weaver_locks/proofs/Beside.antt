@@ -1,4 +1,5 @@
--- Logs beside the one that a hand was in: it added nothing to those of gatekeepers, and to the oracle's what it asked for.
+-- Logs beside the one that a hand was in: it added nothing to those of gatekeepers, and to the oracle's what it asked
+-- for.
 -- Used by `visit`, Running, ShardArrived, ShardAsked, ShardLeft, ShardVisited, StoreLeft and StoreNew.
 use Rattle.std.proofs.Common.{◌≡◌, ℕ, ◌≤◌, List, [], ◌∷◌, ◌++◌, length, map, get_or, Contains, refl, sym, ap, ◌∙◌, subst}
 use Rattle.weave_entries.specs.declared.gate_log.GateDeed.{GateDeed}
@@ -13,6 +14,7 @@ use Rattle.seen_logs.specs.Seen.{GatesGoOn, IsOwn}
 use Rattle.chronicle.specs.Logs.{Log, entries_of}
 use Rattle.chronicle.specs.Passes.{own_entries, seen_by_pass}
 use Rattle.oracle_lock.specs.Seen.{gates_seen}
+use Rattle.oracle_lock.proofs.Settling.{pairs_back}
 use Rattle.weaver_locks.specs.declared.hand.Hand.{Hand}
 use Rattle.weaver_locks.specs.declared.shared.Shared.{Shared}
 use Rattle.weaver_locks.specs.Going.{AddsToOracle, AllGoOn}
@@ -20,7 +22,7 @@ use Rattle.weaver_locks.specs.Hands.{hand_number, IsHand, seen_by}
 use Rattle.weaver_locks.specs.HoldLaws.{HoldLaws}
 use Rattle.weaver_locks.proofs.Logged.{beyond, none_past, own_adds, past_before, records_on}
 use Rattle.weaver_locks.proofs.Rows.{row_entries, row_own, row_seen}
-use Rattle.weaver_locks.proofs.Seeing.{begins_longer, gate_at, gates_named, mapped_more, oracles_back}
+use Rattle.weaver_locks.proofs.Seeing.{begins_longer, gate_at, gates_named, mapped_more}
 
 module _ (shared : Shared) (old new : Hand) (hand : IsHand shared old) (all : AllGoOn shared.gates.items old.gates.items new.gates.items) where
   abbrev n : ℕ
@@ -73,12 +75,12 @@ module _ (shared : Shared) (old new : Hand) (hand : IsHand shared old) (settled 
 
   -- the hand has seen the oracle's log as it was in the hold, and then what it asked for there
   pub oracle_left : later.oracle ≡ settled ++ asked
-  oracle_left = ap oracle_entries adds.left ∙ oracles_back (settled ++ asked)
+  oracle_left = ap oracle_entries adds.left ∙ pairs_back (settled ++ asked)
 
   -- what the hand had seen of the oracle's log begins what it has seen now
   pub oracle_on : IsBeginningOf sooner.oracle later.oracle
   oracle_on = subst (λ (l : List OracleEntry). IsBeginningOf sooner.oracle l) (sym oracle_left)
-      (begins_longer sooner.oracle settled asked (subst (λ (l : List OracleEntry). IsBeginningOf sooner.oracle l) (oracles_back settled)
+      (begins_longer sooner.oracle settled asked (subst (λ (l : List OracleEntry). IsBeginningOf sooner.oracle l) (pairs_back settled)
       (records_on oracle_entry oracle_pair (λ x. refl) (seen_by_pass old.oracle) (oracle_pairs settled) adds.found)))
 
   -- an entry of the hand's in the oracle's log past what it had seen is one that it asked for
@@ -92,7 +94,7 @@ module _ (shared : Shared) (old new : Hand) (hand : IsHand shared old) (settled 
 
   -- what the hand had seen of the oracle's log begins the log as it was in the hold
   pub oracle_found : IsBeginningOf sooner.oracle settled
-  oracle_found = subst (λ (l : List OracleEntry). IsBeginningOf sooner.oracle l) (oracles_back settled)
+  oracle_found = subst (λ (l : List OracleEntry). IsBeginningOf sooner.oracle l) (pairs_back settled)
       (records_on oracle_entry oracle_pair (λ x. refl) (seen_by_pass old.oracle) (oracle_pairs settled) adds.found)
 
   -- the hand's own entries in the oracle's log are those that it had there, and then what it asked for

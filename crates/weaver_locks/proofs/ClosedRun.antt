@@ -20,18 +20,18 @@ use Rattle.weave_entries.specs.ShardRules.{IsShardLog}
 use Rattle.weave_entries.specs.StoreRule.{IsStoreLog}
 use Rattle.weave_account.specs.declared.account.Account.{Account}
 use Rattle.weave_account.specs.Account.{gate_log, shard_log}
-use Rattle.weave_account.specs.GoesOn.{IsBeginningOf}
 use Rattle.seen_logs.specs.Closed.{AreOfHands}
 use Rattle.seen_logs.specs.Entries.{account_of_logs, gate_entries, gate_entry, gate_pair, oracle_entries, oracle_entry, oracle_pair, shard_entries, shard_entry, shard_pair, store_entries, store_entry, store_pair}
 use Rattle.seen_logs.specs.Seen.{AreLegal, IsSeenByHand, IsWithin, VisitsOwnPrograms}
+use Rattle.seen_logs.proofs.Paired.{list-at}
 use Rattle.chronicle.specs.Logs.{Log}
 use Rattle.chronicle.specs.Passes.{seen_by_pass}
 use Rattle.weaver_locks.specs.declared.hand.Hand.{Hand}
 use Rattle.weaver_locks.specs.Hands.{hand_number, seen_by}
 use Rattle.weaver_locks.specs.Closing.{AreEntriesOfHands, seen_by_number}
-use Rattle.weaver_locks.proofs.Lists.{list_at}
 use Rattle.weaver_locks.specs.ClosingLaws.{ClosingLaws}
 use Rattle.weaver_locks.proofs.ClosedLogs.{IsClosedLog, IsNumbered, entries_of_hands}
+use Rattle.weaver_locks.proofs.Passing.{beginning}
 
 -- there is a hand with this number, and `seen_by_number` gives what it has seen
 pub record IsFound (hands : List Hand) (number : ℕ) : Type 0 where
@@ -58,10 +58,6 @@ find_hand (hand ∷ hands) number c = dite (ℕ_discrete (hand_number hand) numb
     (λ other. found_later hand hands number other (find_hand hands number
     (⊎_elim (λ same. absurd (other same)) (λ more. more) (has_read (hand_number hand) (map hand_number hands) number c))))
 
--- what a list begins, as accounts say it
-beginning : {E : Type 0} (xs ys : List E) → IsPrefix xs ys → IsBeginningOf xs ys
-beginning xs ys p = (p.0, sym p.1)
-
 -- the logs at the start and the closed logs, with what each hand has seen of them
 pub record IsClosedRun (hands : List Hand) (passes : ℕ) (gates_start : List (Log GateDeed)) (store_start : Log StoreDeed)
     (oracle_start : Log OracleDeed) (shards_start : List (Log ShardDeed)) (gates : List (Log GateDeed)) (store : Log StoreDeed)
@@ -82,10 +78,10 @@ module _ (laws : ClosingLaws) (hands : List Hand) (passes : ℕ) (gates_start : 
   closed = account_of_logs gates store oracle shards
 
   gate_at : (logs : List (Log GateDeed)) (k : ℕ) → get_or (map gate_entries logs) k [] ≡ gate_entries (get_or logs k [])
-  gate_at logs k = list_at gate_entries refl logs k
+  gate_at logs k = list-at gate_entries refl logs k
 
   shard_at : (logs : List (Log ShardDeed)) (k : ℕ) → get_or (map shard_entries logs) k [] ≡ shard_entries (get_or logs k [])
-  shard_at logs k = list_at shard_entries refl logs k
+  shard_at logs k = list-at shard_entries refl logs k
 
   -- some hand has seen a whole log
   gate_whole : (k : ℕ) (h : Hand) → get_or (map seen_by_pass h.gates.items) k [] ≡ get_or gates k [] → gate_log (seen_by h) k ≡ gate_log closed k

@@ -1,27 +1,28 @@
 -- What a hand made in each log, and which entries with its number others have seen: for the laws on own entries.
--- Used by `own_entries_of_each_log`, 2 more and crates locks_rows, sessions_account, weaver_hands and workers_account.
+-- Used by `own_entries_of_each_log`, `seen_entries_are_their_authors`, OwnVisits and 5 crates above.
 use Rattle.std.proofs.Common.{◌≡◌, ℕ, eqb, eq-eqb, List, [], map, get_or, sym, ap, ◌∙◌, refl, subst}
 use Rattle.std.specs.List.{Contains, filter}
 use Rattle.std.proofs.lemmas.List.Elements.{Contains-append_left}
-use Rattle.weave_data.proofs.Members.{has_filter}
+use Rattle.weave_data.proofs.Members.{has_filter, has_none}
 use Rattle.weave_entries.specs.declared.gate_log.GateEntry.{GateEntry}
 use Rattle.weave_entries.specs.declared.oracle_log.OracleEntry.{OracleEntry}
 use Rattle.weave_entries.specs.declared.shard_log.ShardEntry.{ShardEntry}
 use Rattle.weave_entries.specs.declared.store_log.StoreEntry.{StoreEntry}
+use Rattle.weave_entries.specs.GateReplay.{BegunRequest, begun_in}
 use Rattle.weave_account.specs.declared.account.Account.{Account}
 use Rattle.weave_account.specs.Account.{gate_log, shard_log}
 use Rattle.weave_account.specs.GoesOn.{IsBeginningOf}
 use Rattle.seen_logs.specs.Seen.{IsWithin}
+use Rattle.seen_logs.proofs.Paired.{list-at}
 use Rattle.weaver_locks.specs.declared.hand.Hand.{Hand}
 use Rattle.weaver_locks.specs.declared.shared.Shared.{Shared}
 use Rattle.weaver_locks.specs.Closing.{entries_by}
 use Rattle.weaver_locks.specs.Hands.{hand_number, made_by, seen_by, IsHand}
-use Rattle.weaver_locks.proofs.Lists.{list_at}
 use Rattle.weaver_locks.proofs.OwnLogs.{made_of_seen}
 
 -- what is made of each list of a row, at a place
 pub row-at : {A : Type 0} (f : List A → List A) → f [] ≡ [] → (row : List (List A)) (k : ℕ) → get_or (map f row) k [] ≡ f (get_or row k [])
-row-at f none row k = list_at f none row k
+row-at f none row k = list-at f none row k
 
 -- the entries of a log with this author, at each place
 module _ (number : ℕ) (account : Account) where
@@ -77,3 +78,7 @@ module _ (one other : Hand) (closed : Account) (within : IsWithin (seen_by other
   seen-shard-made shard e has by =
       subst (λ (l : List ShardEntry). Contains l e) (sym (shard-by (hand_number one) closed shard) ∙ ap (λ (a : Account). shard_log a shard) made)
       (there (λ (x : ShardEntry). x.author) (hand_number one) (shard_log (seen_by other) shard) (shard_log closed shard) (within.shards shard) e has by)
+
+-- a hand that made no entry at gatekeepers began nothing
+pub none-begun : (hand : Hand) → ((home : ℕ) → gate_log (made_by hand) home ≡ []) → (home : ℕ) (begun : BegunRequest) → Contains (begun_in (gate_log (made_by hand) home)) begun → ⊥
+none-begun hand none home begun h = has_none begun (subst (λ (l : List GateEntry). Contains (begun_in l) begun) (none home) h)

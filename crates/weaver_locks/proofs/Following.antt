@@ -1,5 +1,6 @@
 -- What a hand began may be judged, and what was judged may be sent.
--- Used by `begun_stamps_may_be_heard`, `calls_follow_each_other`, 3 more and crate weaver_hands.
+-- Used by `begun_stamps_may_be_heard`, `calls_follow_each_other`, `what_was_begun_goes_on`,
+-- `what_was_not_begun_stays`, Hearing, StoreNew and crate weaver_hands.
 use Rattle.std.proofs.Common.{◌≡◌, ◌≢◌, ◌⊎◌, ℕ, ◌<◌, ◌≤◌, ◌==◌, zero, suc, List, [], ◌∷◌, ◌++◌, length, map, get_or, set, All, AllPairs, Contains, Some, Ok, inl, inr, refl, sym, ap, ◌∙◌, subst, arith, append_assoc, length-append, eq-eqb}
 use Rattle.std.proofs.lemmas.Bool.{cases_lt, eqb-true}
 use Rattle.std.proofs.lemmas.List.{get_or_past, get_or-map, length-map, map-append}
@@ -13,21 +14,20 @@ use Rattle.weave_entries.specs.declared.gate_log.GateDeed.{GateDeed}
 use Rattle.weave_entries.specs.declared.gate_log.GateEntry.{GateEntry}
 use Rattle.weave_entries.specs.declared.gate_log.GateDeed.TheVariants.{BeganTx, BeganProgram, Sent, Nop, Heard, Raised, Finished}
 use Rattle.weave_entries.specs.declared.store_log.StoreEntry.{StoreEntry}
-use Rattle.weave_entries.specs.declared.store_log.StoreDeed.{StoreDeed}
-use Rattle.weave_entries.specs.declared.store_log.StoreDeed.TheVariants.{Judged}
 use Rattle.weave_entries.specs.declared.verdict.Verdict.{Verdict}
 use Rattle.weave_entries.specs.GateReplay.{BegunRequest, begun_by, begun_in, flight_of, program_by, running_of, tx_by, txs_of}
 use Rattle.weave_entries.specs.GateRules.{IsGateLog}
 use Rattle.weave_entries.specs.StoreReplay.{Judgement, judged_by, judgements_of}
 use Rattle.weave_entries.specs.StoreRule.{stamps_judged}
+use Rattle.weave_entries.proofs.StoreLogs.{judged-author}
 use Rattle.weave_account.specs.declared.account.Account.{Account}
 use Rattle.backing_store.specs.Commits.{judged_entry}
 use Rattle.weave_account.specs.Account.{all_begun, gate_log}
 use Rattle.weave_account.specs.Clocks.{IsKnown}
 use Rattle.weave_account.specs.GoesOn.{IsBeginningOf}
+use Rattle.weave_account.proofs.GoesOn.{has-on, flat-on}
 use Rattle.seen_logs.specs.References.{GateRefersAs}
 use Rattle.seen_logs.specs.Seen.{IsWithin}
-use Rattle.seen_logs.proofs.Listed.{flat-on, has-on}
 use Rattle.seen_logs.proofs.MakesAccount.{tx-begun}
 use Rattle.seen_logs.specs.Entries.{gate_entries, gate_entry, gate_pair, gate_pairs, store_entry}
 use Rattle.chronicle.specs.Logs.{Log, entries_of}
@@ -48,10 +48,6 @@ use Rattle.weaver_locks.proofs.Adding.{AddsNone, gate_author}
 use Rattle.weaver_locks.proofs.Passing.{gate_none, stays}
 use Rattle.weaver_locks.proofs.Running.{still_running}
 use Rattle.weaver_locks.proofs.Sending.{flight_goes_on}
-
--- A judgement has the author of its entry
-judged-author : (author : ℕ) (deed : StoreDeed) → (judged_by author deed).author ≡ author
-judged-author author (Judged r stamp ops asked verdict) = refl
 
 -- and a begin the author of its entry
 tx-author : (author : ℕ) (deed : GateDeed) (begun : BegunRequest) → Contains (tx_by author deed) begun → author ≡ begun.author

@@ -1,5 +1,6 @@
 -- A list gone through: what is done, what is left.
--- Used by `bare_gates`, `bare_shards`, `close_row`, `gather`, 10 more and crates hands_rows and locks_rows.
+-- Used by `bare_gates`, `bare_shards`, `close_row`, `gather`, `note_gates`, `note_oracle`, `note_shards`,
+-- `note_store`, ClosedLogs, Closings, OwnLogs, Starting and crates hands_rows and locks_rows.
 use Rattle.std.proofs.Common.{◌≡◌, ℕ, zero, suc, ◌+◌, ◌<◌, drop, List, [], ◌∷◌, ◌++◌, length, map, get_or, set, cond, Bool, true, false, inl, inr, refl, sym, ap, ◌∙◌, subst, arith, append_assoc, length-append}
 use Rattle.std.specs.List.{All, Any, Contains, filter}
 use Rattle.std.proofs.lemmas.Bool.{cases_lt}
@@ -98,12 +99,6 @@ filtered {A} {B} test before f same (x ∷ xs) =
     let P : Bool → Type 0 = λ b. cond b (f x ∷ filter test (map f xs)) (filter test (map f xs)) ≡ map f (cond b (x ∷ filter before xs) (filter before xs)) in
     let one : P (before x) = elim (before x) as P [ true ↦ λ i. f x ∷ rest i | false ↦ rest ] in
     ap (λ (b : Bool). cond b (f x ∷ filter test (map f xs)) (filter test (map f xs))) (same x) ∙ one
-
--- the image of the list at a place
-pub list_at : {A B : Type 0} (f : List A → List B) → f [] ≡ [] → (xss : List (List A)) (i : ℕ) → get_or (map f xss) i [] ≡ f (get_or xss i [])
-list_at f none [] i = sym none
-list_at f none (xs ∷ xss) zero = refl
-list_at f none (xs ∷ xss) (suc i) = list_at f none xss i
 
 module _ {A B C : Type 0} (f : A → C) (g : B → C) where
   -- images so far, and those of what is left: one more, and at the end

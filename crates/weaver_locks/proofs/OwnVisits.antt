@@ -14,8 +14,8 @@ use Rattle.weave_entries.specs.Logs.{AtEachEntry}
 use Rattle.weave_entries.specs.GateReplay.{program_by, programs_of}
 use Rattle.weave_account.specs.declared.account.Account.{Account}
 use Rattle.weave_account.specs.Account.{gate_log, shard_log}
+use Rattle.weave_account.proofs.GoesOn.{has-on, longer, flat-on}
 use Rattle.seen_logs.specs.Seen.{IsOwn, IsWithin, VisitsItsOwn, VisitsOwnPrograms, entries_since}
-use Rattle.seen_logs.proofs.Listed.{flat-on, has-on, longer}
 use Rattle.seen_logs.proofs.Onward.{since-on}
 use Rattle.weaver_locks.specs.declared.hand.Hand.{Hand}
 use Rattle.weaver_locks.specs.declared.shared.Shared.{Shared}
@@ -29,7 +29,7 @@ use Rattle.weaver_locks.proofs.Logged.{beyond}
 
 -- Programs
 
--- the call that begins a program
+-- a hand whose call begins a program has begun it since the start
 pub program-begins : (shared : Shared) (old new : Hand) (gate request : ℕ) (stamp : Stamp) (before : List GateEntry) → IsHand shared old
     → WasAtGate (length shared.shards.items) old new gate before (gate_entry_by old (BeganProgram request stamp) ∷ [])
     → HasBegunProgram shared new gate request stamp
@@ -69,7 +69,7 @@ program-seen shared hand home request stamp h =
 
 -- Visits
 
--- the law of the logs that were seen
+-- visits stay of own programs in logs that go on, if those of the own entries are (law `own_visits_stay`)
 abbrev pub VisitsStay : Type 0
 VisitsStay = (number : ℕ) (start seen next : Account) → IsWithin start seen → IsWithin seen next
     → VisitsOwnPrograms number start seen
@@ -108,7 +108,7 @@ module _ (shared : Shared) (old new : Hand) (is_old : IsHand shared old) (is_new
       subst (λ (m : ℕ). VisitsItsOwn m (start_of shared) (seen_by new) entry.deed) number
       (make.2 entry (subst (λ (l : List ShardEntry). Contains l entry) (new-own k make.0 make.1) mine))))
 
-  -- in a call that adds nothing at shards
+  -- a hand's visits stay of own programs in a call that adds nothing at shards
   pub visits-stay-without : VisitsStay → (made_by new).shards ≡ (made_by old).shards → VisitsItsOwnPrograms shared old → VisitsItsOwnPrograms shared new
   visits-stay-without stay same =
       visits-stay stay (λ k. ([], ap (λ (ls : List (List ShardEntry)). get_or ls k []) same ∙ sym (append-nil (shard_log (made_by old) k)), λ entry h. absurd (has_none entry h)))
@@ -122,7 +122,7 @@ one-more (xs ∷ row) zero (suc k) added = ([], sym (append-nil (get_or row k []
 one-more (xs ∷ row) (suc place) zero added = ([], sym (append-nil xs), λ x h. absurd (has_none x h))
 one-more (xs ∷ row) (suc place) (suc k) added = one-more row place k added
 
--- and in a call at a shard
+-- and in a call at a shard, if what the call adds there is of own programs
 pub visits-stay-at : VisitsStay → (shared : Shared) (old new : Hand) (shard : ℕ) (before added : List ShardEntry) (asked : List OracleEntry)
     → IsHand shared old → IsHand shared new → WasAtShard (length shared.shards.items) old new shard before added asked
     → ((entry : ShardEntry) → Contains added entry → VisitsItsOwn (hand_number new) (start_of shared) (seen_by new) entry.deed)

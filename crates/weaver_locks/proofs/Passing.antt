@@ -1,5 +1,5 @@
 -- Logs that a pass has seen, and to which it added nothing.
--- Used by Following, Leaving and Sending.
+-- Used by ClosedRun, Following, Leaving and Sending.
 use Rattle.std.proofs.Common.{◌≡◌, inl, inr, ℕ, ◌<◌, List, [], ◌∷◌, ◌++◌, length, map, get_or, refl, sym, ap, ◌∙◌, subst, arith}
 use Rattle.std.proofs.lemmas.Bool.{cases_lt}
 use Rattle.std.proofs.lemmas.List.{append-nil, get_or_past, get_or-map, length-map, map-append}

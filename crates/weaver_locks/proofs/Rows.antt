@@ -1,9 +1,10 @@
 -- Passes of a row that go on, place by place.
--- Used by `leave_shard`, Beside, RowAsked, Seeing, ShardAsked, ShardDone, ShardEntered, ShardLeft and 5 more.
+-- Used by `leave_shard`, Beside, RowAsked, Seeing, ShardDone, ShardEntered, ShardLeft, ShardVisited, StoreCommitted,
+-- StoreEntered and StoreLeft.
 use Rattle.std.proofs.Common.{◌≡◌, ◌≢◌, ℕ, zero, suc, ◌<◌, ◌≤◌, List, [], ◌∷◌, ◌++◌, length, map, get_or, set, inl, inr, refl, sym, ap, ◌∙◌, subst, arith}
 use Rattle.std.specs.Prelude.{All}
 use Rattle.std.proofs.lemmas.Bool.{cases_lt}
-use Rattle.std.proofs.lemmas.List.{append-nil, append_assoc, get_or_default}
+use Rattle.std.proofs.lemmas.List.{append_assoc, get_or_default}
 use mathlib.Core.List.{IsPrefix}
 use Rattle.weave_account.specs.GoesOn.{IsBeginningOf}
 use Rattle.chronicle.specs.declared.chronicle.Chronicle.{Chronicle}
@@ -72,10 +73,6 @@ pub set_length : {A : Type 0} (xs : List A) (k : ℕ) (a : A) → length (set xs
 set_length [] k a = refl
 set_length (x ∷ xs) zero a = refl
 set_length (x ∷ xs) (suc k) a = ap suc (set_length xs k a)
-
--- each list is a beginning of itself
-pub nothing_more : {A : Type 0} (l : List A) → IsBeginningOf l l
-nothing_more l = ([], sym (append-nil l))
 
 -- what begins a beginning of a list begins the list
 pub begins_more : {A : Type 0} (a b c : List A) → IsPrefix a b → IsPrefix b c → IsPrefix a c

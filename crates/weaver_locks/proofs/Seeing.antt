@@ -1,34 +1,22 @@
 -- What the passes of a hand have seen, as an account.
--- Used by `visit`, Beside, ShardDone, ShardEntered, ShardLeft, ShardVisited, StoreEntered, StoreLeft and StoreNew.
-use Rattle.std.proofs.Common.{◌≡◌, ◌≢◌, ℕ, zero, suc, List, [], ◌∷◌, ◌++◌, map, get_or, refl, ap, ◌∙◌, subst}
+-- Used by Beside, ShardEntered, ShardLeft, ShardVisited, StoreEntered and StoreLeft.
+use Rattle.std.proofs.Common.{◌≡◌, ℕ, List, [], ◌∷◌, ◌++◌, map, get_or, refl, ap, ◌∙◌, subst}
 use Rattle.std.proofs.lemmas.List.{append_assoc, map-append}
 use Rattle.weave_entries.specs.declared.gate_log.GateEntry.{GateEntry}
 use Rattle.weave_entries.specs.declared.gate_log.GateDeed.{GateDeed}
-use Rattle.weave_entries.specs.declared.oracle_log.OracleEntry.{OracleEntry}
 use Rattle.weave_entries.specs.declared.shard_log.ShardEntry.{ShardEntry}
-use Rattle.weave_entries.specs.declared.store_log.StoreEntry.{StoreEntry}
 use Rattle.weave_account.specs.declared.account.Account.{Account}
 use Rattle.weave_account.specs.Account.{gate_log, shard_log}
 use Rattle.weave_account.specs.GoesOn.{IsBeginningOf}
-use Rattle.seen_logs.specs.Entries.{gate_entries, oracle_entries, oracle_pairs, shard_entries, shard_pairs, store_entries, store_pairs}
+use Rattle.weave_account.proofs.GoesOn.{whole}
+use Rattle.seen_logs.specs.Entries.{gate_entries, shard_entries, shard_pairs}
 use Rattle.seen_logs.specs.Seen.{GatesGoOn}
 use Rattle.chronicle.specs.declared.pass.Pass.{Pass}
 use Rattle.chronicle.specs.Passes.{seen_by_pass}
 use Rattle.oracle_lock.specs.Seen.{gates_seen}
-use Rattle.shard_lock.specs.Notes.{at_place}
 use Rattle.weaver_locks.specs.declared.hand.Hand.{Hand}
 use Rattle.weaver_locks.specs.Hands.{seen_by}
-use Rattle.weaver_locks.proofs.Rows.{image_or, image_twice, nothing_more}
-
--- logs of records come back
-pub stores_back : (log : List StoreEntry) → store_entries (store_pairs log) ≡ log
-stores_back [] = refl
-stores_back (entry ∷ log) = ap (λ (l : List StoreEntry). entry ∷ l) (stores_back log)
-
--- a log of the oracle that is made pairs of and back is as it was
-pub oracles_back : (log : List OracleEntry) → oracle_entries (oracle_pairs log) ≡ log
-oracles_back [] = refl
-oracles_back (entry ∷ log) = ap (λ (l : List OracleEntry). entry ∷ l) (oracles_back log)
+use Rattle.weaver_locks.proofs.Rows.{image_or, image_twice}
 
 -- a log of a shard that is made pairs of and back is as it was
 pub shards_back : (log : List ShardEntry) → shard_entries (shard_pairs log) ≡ log
@@ -50,21 +38,7 @@ gates_named passes = image_twice seen_by_pass gate_entries passes
 -- accounts with the same logs of gatekeepers go on to each other
 pub same_gates : (one two : Account) → one.gates ≡ two.gates → GatesGoOn one two
 same_gates one two is home =
-    subst (λ (l : List (List GateEntry)). IsBeginningOf (get_or one.gates home []) (get_or l home [])) is (nothing_more (get_or one.gates home []))
-
--- a shard's log in its place
-pub placed_here : (number : ℕ) (own : List ShardEntry) → get_or (at_place number own) number [] ≡ own
-unfolding at_place
-placed_here zero own = refl
-placed_here (suc number) own = placed_here number own
-
--- with a shard's own log at its place, there is no log at any other place
-pub placed_there : (number k : ℕ) (own : List ShardEntry) → k ≢ number → get_or (at_place number own) k [] ≡ []
-unfolding at_place
-placed_there zero zero own other = absurd (other refl)
-placed_there zero (suc k) own other = refl
-placed_there (suc number) zero own other = refl
-placed_there (suc number) (suc k) own other = placed_there number k own (λ e. other (ap suc e))
+    subst (λ (l : List (List GateEntry)). IsBeginningOf (get_or one.gates home []) (get_or l home [])) is (whole (get_or one.gates home []))
 
 -- what begins a list begins each that it begins
 pub begins_longer : {A : Type 0} (a b more : List A) → IsBeginningOf a b → IsBeginningOf a (b ++ more)

@@ -10,6 +10,7 @@ use Rattle.weave_entries.specs.declared.shard_log.ShardDeed.{ShardDeed}
 use Rattle.weave_entries.specs.GateReplay.{BegunRequest, running_of}
 use Rattle.weave_account.specs.declared.account.Account.{Account}
 use Rattle.weave_account.specs.Account.{gate_log}
+use Rattle.weave_account.proofs.GoesOn.{whole}
 use Rattle.seen_logs.specs.Seen.{GatesGoOn}
 use Rattle.chronicle.specs.declared.chronicle.Chronicle.{Chronicle}
 use Rattle.chronicle.specs.declared.held.Held.{Held}
@@ -30,7 +31,6 @@ use Rattle.weaver_locks.specs.HoldLaws.{HoldLaws}
 use Rattle.weaver_locks.specs.InShard.{IsInShard}
 use Rattle.weaver_locks.proofs.Beside.{named}
 use Rattle.weaver_locks.proofs.FrameParts.{rest_of, second_of}
-use Rattle.weaver_locks.proofs.Rows.{nothing_more}
 use Rattle.weaver_locks.proofs.Running.{running_now}
 
 module _ (shared : Shared) (old now : Hand) (shard : ℕ) (held : Held NotedShard ShardDeed) (hand : IsHand shared old)
@@ -63,7 +63,7 @@ module _ (shared : Shared) (old now : Hand) (shard : ℕ) (held : Held NotedShar
   -- what the notes have seen of each gatekeeper's log begins what the passes have seen
   pub notes_met : GatesGoOn (of_gates (gates_noted s.notes.gates.items)) (of_gates (gates_seen passes))
   notes_met = subst (λ (l : List (List GateEntry)). GatesGoOn (of_gates (gates_noted s.notes.gates.items)) (of_gates l))
-      (notes_are ∙ ap gates_seen (sym passes_is)) (λ home. nothing_more (get_or (gates_noted s.notes.gates.items) home []))
+      (notes_are ∙ ap gates_seen (sym passes_is)) (λ home. whole (get_or (gates_noted s.notes.gates.items) home []))
 
   -- the shard in the lock is made for as many gatekeepers as there are locks of them
   pub gate_count : s.shard.gates ≡ length locks

@@ -27,6 +27,7 @@ use Rattle.shard_lock.specs.declared.noted_shard.NotedShard.{NotedShard}
 use Rattle.shard_lock.specs.declared.notes.ShardNotes.{ShardNotes}
 use Rattle.shard_lock.specs.Frames.{shard_frame}
 use Rattle.shard_lock.specs.Notes.{at_place, frame_of_shard, ShardIsKept, NotedShardView, seen_by_shard_passes, seen_of_shard}
+use Rattle.shard_lock.proofs.Accounts.{at_number}
 use Rattle.weaver_locks.specs.declared.hand.Hand.{Hand}
 use Rattle.weaver_locks.specs.declared.shared.Shared.{Shared}
 use Rattle.weaver_locks.specs.Hands.{hand_number, IsHand}
@@ -34,7 +35,6 @@ use Rattle.weaver_locks.specs.InShard.{DoesInShard, IsDoneInShard, IsInShard}
 use Rattle.weaver_locks.specs.ShardHolds.{shard_entries_of}
 use Rattle.weaver_locks.proofs.Logged.{beyond}
 use Rattle.weaver_locks.proofs.Rows.{set_here, set_length}
-use Rattle.weaver_locks.proofs.Seeing.{placed_here}
 use Rattle.weaver_locks.proofs.HandParts.{has_shard}
 
 -- a shard's log has these entries more, and all else is as before
@@ -160,7 +160,7 @@ module _ (shared : Shared) (old now : Hand) (shard : ℕ) (held : Held NotedShar
       gates_legal = record { rules = legal.gate_logs; hears = legal.hears };
       store_legal = legal.store_log;
       oracle_legal = legal.oracle_log;
-      shard_legal = subst (IsShardLog G) (placed_here shard (was.shard.log ++ added)) (legal.shard_logs shard);
+      shard_legal = subst (IsShardLog G) (at_number shard (was.shard.log ++ added)) (legal.shard_logs shard);
       refers = refers;
       asks_new = λ next is others cut after a at over marked other rest b of_b same alike.
           absurd (no_visit a (beyond was.shard.log added cut after (visit_entry a) at over));

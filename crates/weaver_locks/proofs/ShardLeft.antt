@@ -16,6 +16,7 @@ use Rattle.weave_account.specs.declared.account.Account.{Account}
 use Rattle.weave_account.specs.Account.{shard_log}
 use Rattle.weave_account.specs.GoesOn.{IsBeginningOf}
 use Rattle.weave_account.specs.Oracle.{seen_last}
+use Rattle.weave_account.proofs.GoesOn.{whole}
 use Rattle.seen_logs.specs.Entries.{shard_entries, shard_entry, shard_pair, shard_pairs, store_entries, store_entry, store_pair}
 use Rattle.seen_logs.specs.References.{ShardRefersAs}
 use Rattle.seen_logs.specs.Seen.{AddsAsSeen, AreLegal, HasAsked, IsOwn, IsSeenByHand, IsWithin, ShardRefersWithin, ShardsGoOn, visit_entry}
@@ -27,6 +28,7 @@ use Rattle.chronicle.specs.Passes.{IsReady, number_of, own_entries, seen_by_pass
 use Rattle.oracle_lock.specs.Seen.{gates_seen, of_gates}
 use Rattle.shard_lock.specs.declared.noted_shard.NotedShard.{NotedShard}
 use Rattle.shard_lock.specs.Notes.{seen_by_shard_passes}
+use Rattle.shard_lock.proofs.Accounts.{at_number}
 use Rattle.weaver_locks.specs.declared.hand.Hand.{Hand}
 use Rattle.weaver_locks.specs.declared.shared.Shared.{Shared}
 use Rattle.weaver_locks.specs.Hands.{hand_number, IsHand, made_by, seen_by, with_shard_entries}
@@ -36,8 +38,8 @@ use Rattle.weaver_locks.specs.Locks.{start_of}
 use Rattle.weaver_locks.specs.ShardHolds.{WasAtShard}
 use Rattle.weaver_locks.proofs.Beside.{gates_made, gates_on, named, no_gate_entry, oracle_added, oracle_made, oracle_on}
 use Rattle.weaver_locks.proofs.Logged.{begin_length, none_past, own_adds, past_before, records_on}
-use Rattle.weaver_locks.proofs.Rows.{image_at, image_or, image_set, nothing_more, row_numbers, row_ready, set_here, set_length, set_there}
-use Rattle.weaver_locks.proofs.Seeing.{begins_longer, placed_here, same_gates, shard_at, shards_back}
+use Rattle.weaver_locks.proofs.Rows.{image_at, image_or, image_set, row_numbers, row_ready, set_here, set_length, set_there}
+use Rattle.weaver_locks.proofs.Seeing.{begins_longer, same_gates, shard_at, shards_back}
 use Rattle.weaver_locks.proofs.HandParts.{has_shard}
 
 module _ (laws : HoldLaws) (shared : Shared) (old new : Hand) (shard : ℕ) (before added : List ShardEntry) (asked : List OracleEntry)
@@ -98,7 +100,7 @@ module _ (laws : HoldLaws) (shared : Shared) (old new : Hand) (shard : ℕ) (bef
   shards_on k = dite (ℕ_discrete k shard)
       (λ same. subst (λ (j : ℕ). IsBeginningOf (shard_log was j) (shard_log next j)) (sym same)
       (subst (λ (l : List ShardEntry). IsBeginningOf (shard_log was shard) l) (sym here) (begins_longer (shard_log was shard) before added found)))
-      (λ other. subst (λ (l : List ShardEntry). IsBeginningOf (shard_log was k) l) (sym (there k other)) (nothing_more (shard_log was k)))
+      (λ other. subst (λ (l : List ShardEntry). IsBeginningOf (shard_log was k) l) (sym (there k other)) (whole (shard_log was k)))
 
   -- the hand has seen no less than it had
   pub within : IsWithin was next
@@ -136,8 +138,8 @@ module _ (laws : HoldLaws) (shared : Shared) (old new : Hand) (shard : ℕ) (bef
   -- the hand has seen all that the entries in this shard's log refer to
   pub refers : ShardRefersWithin many next shard
   refers cut e after at =
-      laws.shard_stays many shard by_passes next (same_gates by_passes next (sym (named shared old new d.hand d.gates_on))) (nothing_more next.store) (nothing_more next.oracle)
-      cut e.author e.deed (d.refers cut e after (placed_here shard (before ++ added) ∙ (sym here ∙ at)))
+      laws.shard_stays many shard by_passes next (same_gates by_passes next (sym (named shared old new d.hand d.gates_on))) (whole next.store) (whole next.oracle)
+      cut e.author e.deed (d.refers cut e after (at_number shard (before ++ added) ∙ (sym here ∙ at)))
 
   adds_at : (k : ℕ) (cut : List ShardEntry) (e : ShardEntry) (after : List ShardEntry) → shard_log next k ≡ cut ++ e ∷ after
       → IsOwn n (shard_log was k) cut e.author → ShardRefersAs next many k cut e.author e.deed

@@ -31,6 +31,7 @@ use Rattle.weave_account.specs.declared.account.Account.{Account}
 use Rattle.weave_account.specs.Account.{shard_log}
 use Rattle.weave_account.specs.GoesOn.{IsBeginningOf}
 use Rattle.weave_account.specs.Oracle.{seen_last}
+use Rattle.weave_account.proofs.GoesOn.{whole}
 use Rattle.seen_logs.specs.Entries.{oracle_entries, oracle_pairs, store_entries, shard_entries, shard_entry, shard_pair, shard_pairs}
 use Rattle.seen_logs.specs.References.{IsAskedAsSeen, OracleRefersAs}
 use Rattle.seen_logs.specs.Seen.{GatesGoOn, OracleRefersWithin, ShardRefersWithin, visit_entry}
@@ -46,11 +47,13 @@ use Rattle.lock_row.specs.Meetings.{AllMet}
 use Rattle.lock_row.proofs.Lists.{written}
 use Rattle.gate_lock.specs.declared.noted_gate.NotedGate.{NotedGate}
 use Rattle.oracle_lock.specs.Seen.{gates_noted, gates_seen, of_gates, oracle_seen, OracleIsKept}
+use Rattle.oracle_lock.proofs.Settling.{pairs_back}
 use Rattle.shard_node.specs.declared.fault.VisitFault.{VisitFault}
 use Rattle.shard_node.specs.Shards.{ShardView}
 use Rattle.shard_lock.specs.declared.noted_shard.NotedShard.{NotedShard}
 use Rattle.shard_lock.specs.Notes.{at_place, ShardIsKept, NotedShardView, seen_by_shard_passes, seen_of_shard}
 use Rattle.shard_lock.specs.Visited.{VisitsOver}
+use Rattle.shard_lock.proofs.Accounts.{at_number}
 use Rattle.weaver_locks.specs.declared.hand.Hand.{Hand}
 use Rattle.weaver_locks.specs.declared.shared.Shared.{Shared}
 use Rattle.weaver_locks.specs.AskLaws.{AskLaws}
@@ -62,8 +65,8 @@ use Rattle.weaver_locks.specs.ShardHolds.{asked_entries, visit_entries}
 use Rattle.weaver_locks.proofs.AskedOnce.{asks_new}
 use Rattle.weaver_locks.proofs.Beside.{oracle_found}
 use Rattle.weaver_locks.proofs.Logged.{beyond, cut_pairs, records_on}
-use Rattle.weaver_locks.proofs.Rows.{all_met_on, begins_more, go_on_twice, image_at, nothing_more}
-use Rattle.weaver_locks.proofs.Seeing.{gates_named, oracles_back, placed_here, same_gates, shard_at, shards_back}
+use Rattle.weaver_locks.proofs.Rows.{all_met_on, begins_more, go_on_twice, image_at}
+use Rattle.weaver_locks.proofs.Seeing.{gates_named, same_gates, shard_at, shards_back}
 use Rattle.weaver_locks.proofs.ShardDone.{follows, GoesBy, goes_by_none, goes_by_one}
 use Rattle.weaver_locks.proofs.StoreCommitted.{call_by}
 use Rattle.weaver_locks.proofs.HandParts.{has_shard}
@@ -312,7 +315,7 @@ module _ (shared : Shared) (old now : Hand) (shard : ℕ) (held : Held NotedShar
     place_is = goes.number ∙ i.place
 
     log_is : shard_log by_notes shard ≡ before ++ added
-    log_is = ap (λ (k : ℕ). get_or (at_place k m.shard.log) shard []) place_is ∙ (placed_here shard m.shard.log ∙ goes.log)
+    log_is = ap (λ (k : ℕ). get_or (at_place k m.shard.log) shard []) place_is ∙ (at_number shard m.shard.log ∙ goes.log)
 
     shard_count : m.shards ≡ H
     shard_count = shards_still ∙ (ap (λ (v : NotedShardView). v.shards) s_is ∙ i.shard_count)
@@ -322,9 +325,9 @@ module _ (shared : Shared) (old now : Hand) (shard : ℕ) (held : Held NotedShar
 
     refers : ShardRefersWithin H by_passes shard
     refers cut e after at = laws.shard_stays H shard by_notes by_passes notes_on
-        (subst (λ (l : List StoreEntry). IsBeginningOf by_notes.store l) store_is (nothing_more by_notes.store))
-        (subst (λ (l : Log OracleDeed). IsBeginningOf by_notes.oracle (oracle_entries l)) one (nothing_more by_notes.oracle))
-        cut e.author e.deed (kept_refers cut e after (log_is ∙ (sym (placed_here shard (before ++ added)) ∙ at)))
+        (subst (λ (l : List StoreEntry). IsBeginningOf by_notes.store l) store_is (whole by_notes.store))
+        (subst (λ (l : Log OracleDeed). IsBeginningOf by_notes.oracle (oracle_entries l)) one (whole by_notes.oracle))
+        cut e.author e.deed (kept_refers cut e after (log_is ∙ (sym (at_number shard (before ++ added)) ∙ at)))
 
     shard_legal : IsShardLog G (before ++ added)
     shard_legal = subst (λ (z : ℕ × List ShardEntry). IsShardLog z.0 z.1) (λ j. ((goes.gates ∙ i.gate_count) j, log_is j)) (kept.legal.shard_logs shard)
@@ -336,7 +339,7 @@ module _ (shared : Shared) (old now : Hand) (shard : ℕ) (held : Held NotedShar
     asked_there : (e : OracleEntry) → Contains asked e → OracleRefersAs (of_gates (gates_seen gates_now)) e.deed
     asked_there e has =
         let log = oracle_entries (seen_by_pass oracle) in
-        let all : log ≡ settled ++ asked = ap oracle_entries oracle_left ∙ oracles_back (settled ++ asked) in
+        let all : log ≡ settled ++ asked = ap oracle_entries oracle_left ∙ pairs_back (settled ++ asked) in
         let cut = cut_at log e (subst (λ (l : List OracleEntry). Contains l e) (sym all) (Contains-append_right settled asked e has)) in
         laws.oracle_stays (oracle_seen (gates_seen gates_now) log) (of_gates (gates_seen gates_now))
         (same_gates (oracle_seen (gates_seen gates_now) log) (of_gates (gates_seen gates_now)) refl) e.deed

@@ -1,7 +1,7 @@
 -- Locks that were opened for machines of legal logs which refer to nothing but themselves.
 -- Used by `new`.
 use Rattle.std.proofs.Common.{◌≡◌, inr, ℕ, ◌<◌, List, [], ◌∷◌, ◌++◌, length, map, get_or, set, refl, sym, ap, ◌∙◌, subst, arith, length-append}
-use Rattle.std.proofs.lemmas.List.{append-nil, get_or-map, length-map, set-get_or}
+use Rattle.std.proofs.lemmas.List.{get_or-map, length-map, set-get_or}
 use Rattle.weave_entries.specs.declared.gate_log.GateDeed.{GateDeed}
 use Rattle.weave_entries.specs.declared.gate_log.GateEntry.{GateEntry}
 use Rattle.weave_entries.specs.declared.oracle_log.OracleEntry.{OracleEntry}
@@ -13,6 +13,7 @@ use Rattle.shard_node.specs.Shards.{ShardView}
 use Rattle.weave_account.specs.declared.account.Account.{Account}
 use Rattle.weave_account.specs.Account.{gate_log, shard_log}
 use Rattle.weave_account.specs.GoesOn.{IsBeginningOf}
+use Rattle.weave_account.proofs.GoesOn.{whole}
 use Rattle.seen_logs.specs.Entries.{account_of_logs, gate_entries, oracle_entries, shard_entries, store_entries}
 use Rattle.seen_logs.specs.Seen.{AreLegal, GateRefersWithin, IsWithin, ShardRefersWithin}
 use Rattle.chronicle.specs.declared.chronicle.Chronicle.{Chronicle}
@@ -42,10 +43,6 @@ was_there : {E : Type 0} (log before after : List E) (entry : E) → log ≡ bef
 was_there {E} log before after entry at =
     let long : length log ≡ length (before ++ entry ∷ after) = ap (λ (l : List E). length l) at in
     omega (arith, long, length-append before (entry ∷ after))
-
--- a list begins itself
-itself : {E : Type 0} (log : List E) → IsBeginningOf log log
-itself log = ([], sym (append-nil log))
 
 -- there are as many notes as locks
 as_many : {M E : Type 0} (locks : List (Chronicle M E)) (notes : List (Note E)) → NoteStarts locks notes → length notes ≡ length locks
@@ -147,9 +144,9 @@ module _ (laws : OpeningLaws) (locks : Locks) (gates : List GateView) (store : L
   part_within : (seen : Account) → seen.gates ≡ account.gates → seen.oracle ≡ oracle → IsBeginningOf seen.store store → seen.shards ≡ []
       → IsWithin seen account
   part_within seen gates_same oracle_same store_begins none = record {
-    gates = λ home. subst (λ (l : List (List GateEntry)). IsBeginningOf (get_or l home []) (gate_log account home)) (sym gates_same) (itself (gate_log account home));
+    gates = λ home. subst (λ (l : List (List GateEntry)). IsBeginningOf (get_or l home []) (gate_log account home)) (sym gates_same) (whole (gate_log account home));
     store = store_begins;
-    oracle = subst (λ (l : List OracleEntry). IsBeginningOf l oracle) (sym oracle_same) (itself oracle);
+    oracle = subst (λ (l : List OracleEntry). IsBeginningOf l oracle) (sym oracle_same) (whole oracle);
     shards = λ k. subst (λ (l : List (List ShardEntry)). IsBeginningOf (get_or l k []) (shard_log account k)) (sym none) (shard_log account k, refl);
   }
 
@@ -158,10 +155,10 @@ module _ (laws : OpeningLaws) (locks : Locks) (gates : List GateView) (store : L
   kept_store =
       let seen : Account = store_seen account.gates oracle store in
       subst (λ (z : List (List GateEntry) × List OracleEntry). StoreIsKept (length shards) z.0 z.1 store) (λ i. (sym gates_are i, sym oracle_is i)) record {
-        refers = λ before entry after at. laws.store_stays account seen (λ home. itself (gate_log account home)) (itself oracle) before entry.author entry.deed
+        refers = λ before entry after at. laws.store_stays account seen (λ home. whole (gate_log account home)) (whole oracle) before entry.author entry.deed
             ((start.refers 0).store_entries before entry after at (inr (was_there store before after entry at)));
         legal = subst (λ (n : ℕ). AreLegal n (length shards) seen) (sym (length-map gates (λ (g : GateView). g.log)))
-            (laws.beginnings (length gates) (length shards) seen account (part_within seen refl refl (itself store) refl) start.legal);
+            (laws.beginnings (length gates) (length shards) seen account (part_within seen refl refl (whole store) refl) start.legal);
       }
 
   -- the same of the oracle, which has seen the gatekeepers' logs at the start
@@ -169,7 +166,7 @@ module _ (laws : OpeningLaws) (locks : Locks) (gates : List GateView) (store : L
   kept_oracle =
       let seen : Account = oracle_seen account.gates oracle in
       subst (λ (l : List (List GateEntry)). OracleIsKept (length shards) l oracle) (sym gates_are) record {
-        refers = λ before entry after at. laws.oracle_stays account seen (λ home. itself (gate_log account home)) entry.deed
+        refers = λ before entry after at. laws.oracle_stays account seen (λ home. whole (gate_log account home)) entry.deed
             ((start.refers 0).oracle_entries before entry after at (inr (was_there oracle before after entry at))).0;
         legal = subst (λ (n : ℕ). AreLegal n (length shards) seen) (sym (length-map gates (λ (g : GateView). g.log)))
             (laws.beginnings (length gates) (length shards) seen account (part_within seen refl refl (store, refl) refl) start.legal);

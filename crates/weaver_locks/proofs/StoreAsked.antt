@@ -16,11 +16,11 @@ use Rattle.gate_lock.specs.declared.noted_gate.NotedGate.{NotedGate}
 use Rattle.oracle_lock.specs.Seen.{AreGateLogs, gates_noted, gates_seen, of_gates}
 use Rattle.store_lock.specs.declared.noted_store.NotedStore.{NotedStore}
 use Rattle.store_lock.specs.Seen.{StoreView}
+use Rattle.weave_account.proofs.GoesOn.{whole}
 use Rattle.weaver_locks.specs.declared.hand.Hand.{Hand}
 use Rattle.weaver_locks.specs.declared.shared.Shared.{Shared}
 use Rattle.weaver_locks.specs.Hands.{IsHand}
 use Rattle.weaver_locks.specs.InStore.{IsInStore}
-use Rattle.weaver_locks.proofs.Rows.{nothing_more}
 
 module _ (shared : Shared) (old now : Hand) (held : Held NotedStore StoreDeed) (hand : IsHand shared old) (i : IsInStore shared old now held)
     (s : StoreView) (s_is : s ≡ machine_of held) (locks : List (Chronicle NotedGate GateDeed)) (locks_is : locks ≡ shared.gates.items)
@@ -42,4 +42,4 @@ module _ (shared : Shared) (old now : Hand) (held : Held NotedStore StoreDeed) (
   pub notes_met : GatesGoOn (of_gates (gates_noted s.gates)) (of_gates (gates_seen passes))
   notes_met = subst (λ (l : List (List GateEntry)). GatesGoOn (of_gates (gates_noted s.gates)) (of_gates l))
       (ap (λ (v : StoreView). gates_noted v.gates) s_is ∙ (i.one ∙ ap gates_seen (sym passes_is)))
-      (λ home. nothing_more (get_or (gates_noted s.gates) home []))
+      (λ home. whole (get_or (gates_noted s.gates) home []))

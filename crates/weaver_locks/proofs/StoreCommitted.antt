@@ -25,6 +25,7 @@ use Rattle.weave_entries.specs.StoreRule.{IsStoreLog}
 use Rattle.backing_store.specs.Commits.{asked_at, judged_entry}
 use Rattle.weave_account.specs.declared.account.Account.{Account}
 use Rattle.weave_account.specs.GoesOn.{IsBeginningOf}
+use Rattle.weave_account.proofs.GoesOn.{whole}
 use Rattle.seen_logs.specs.Entries.{oracle_entries, oracle_pairs, store_pair, store_pairs}
 use Rattle.seen_logs.specs.References.{IsAskedAsSeen}
 use Rattle.seen_logs.specs.Seen.{GatesGoOn, StoreRefersWithin}
@@ -49,7 +50,7 @@ use Rattle.weaver_locks.specs.Hands.{hand_number, IsHand}
 use Rattle.weaver_locks.specs.HoldLaws.{HoldLaws}
 use Rattle.weaver_locks.specs.InStore.{DoesInStore, IsDoneInStore, IsInStore}
 use Rattle.weaver_locks.specs.StoreHolds.{judged_entries, settled_entries}
-use Rattle.weaver_locks.proofs.Rows.{all_met_on, go_on_twice, nothing_more}
+use Rattle.weaver_locks.proofs.Rows.{all_met_on, go_on_twice}
 
 -- What a judgement adds
 
@@ -178,7 +179,7 @@ module _ {F : Type 0} (shared : Shared) (old now : Hand) (held : Held NotedStore
         (λ j. ((ap gates_seen passes_is ∙ (sym i.one ∙ (ap (λ (v : StoreView). gates_noted v.gates) (sym s_is) ∙ ap gates_noted (sym gates_still)))) j, sym back j)) on
 
     oracle_on : IsBeginningOf by_notes.oracle by_passes.oracle
-    oracle_on = subst (λ (l : Log OracleDeed). IsBeginningOf by_notes.oracle (oracle_entries l)) one (nothing_more by_notes.oracle)
+    oracle_on = subst (λ (l : Log OracleDeed). IsBeginningOf by_notes.oracle (oracle_entries l)) one (whole by_notes.oracle)
 
     refers : StoreRefersWithin by_passes
     refers cut e after at = laws.store_stays by_notes by_passes notes_on oracle_on cut e.author e.deed (kept.refers cut e after (log_is ∙ at))

@@ -14,6 +14,7 @@ use Rattle.weave_entries.specs.StoreRule.{IsStoreLog}
 use Rattle.weave_account.specs.declared.account.Account.{Account}
 use Rattle.weave_account.specs.Account.{shard_log}
 use Rattle.weave_account.specs.GoesOn.{IsBeginningOf}
+use Rattle.weave_account.proofs.GoesOn.{whole}
 use Rattle.seen_logs.specs.Entries.{oracle_entries, shard_entries, store_entries, store_entry, store_pair, store_pairs}
 use Rattle.seen_logs.specs.Seen.{AddsAsSeen, AreLegal, IsSeenByHand, IsWithin, OracleRefersWithin, StoreRefersWithin, visit_entry}
 use Rattle.chronicle.specs.declared.pass.Pass.{Pass}
@@ -22,6 +23,7 @@ use Rattle.chronicle.specs.Logs.{Log, entries_of}
 use Rattle.chronicle.specs.Passes.{IsReady, number_of, own_entries, seen_by_pass}
 use Rattle.oracle_lock.specs.Seen.{gates_seen, oracle_seen}
 use Rattle.store_lock.specs.Seen.{store_seen}
+use Rattle.store_lock.proofs.Begun.{pairs-back}
 use Rattle.weaver_locks.specs.declared.hand.Hand.{Hand}
 use Rattle.weaver_locks.specs.declared.shared.Shared.{Shared}
 use Rattle.weaver_locks.specs.Hands.{hand_number, IsHand, made_by, seen_by, with_store_entries}
@@ -31,8 +33,8 @@ use Rattle.weaver_locks.specs.Locks.{start_of}
 use Rattle.weaver_locks.specs.StoreHolds.{WasAtStore}
 use Rattle.weaver_locks.proofs.Beside.{gates_made, gates_on, named, no_gate_entry, oracle_added, oracle_found, oracle_left, oracle_made, oracle_on}
 use Rattle.weaver_locks.proofs.Logged.{own_adds, records_on}
-use Rattle.weaver_locks.proofs.Rows.{nothing_more, row_numbers, row_ready}
-use Rattle.weaver_locks.proofs.Seeing.{begins_longer, same_gates, stores_back}
+use Rattle.weaver_locks.proofs.Rows.{row_numbers, row_ready}
+use Rattle.weaver_locks.proofs.Seeing.{begins_longer, same_gates}
 
 module _ (laws : HoldLaws) (shared : Shared) (old new : Hand) (before added : List StoreEntry) (settled asked : List OracleEntry)
     (d : DoesInStore shared old new.gates.items new.oracle before added settled asked) (shards_is : new.shards.items ≡ old.shards.items)
@@ -53,10 +55,10 @@ module _ (laws : HoldLaws) (shared : Shared) (old new : Hand) (before added : Li
   -- The store's log
 
   left : next.store ≡ before ++ added
-  left = ap store_entries seen_is ∙ stores_back (before ++ added)
+  left = ap store_entries seen_is ∙ pairs-back (before ++ added)
 
   found : IsBeginningOf was.store before
-  found = subst (λ (l : List StoreEntry). IsBeginningOf was.store l) (stores_back before)
+  found = subst (λ (l : List StoreEntry). IsBeginningOf was.store l) (pairs-back before)
       (records_on store_entry store_pair (λ x. refl) (seen_by_pass old.store) (store_pairs before) d.found)
 
   store_on : IsBeginningOf was.store next.store
@@ -72,7 +74,7 @@ module _ (laws : HoldLaws) (shared : Shared) (old new : Hand) (before added : Li
     gates = gates_on shared old new d.hand d.gates_on;
     store = store_on;
     oracle = oracle_on shared old new d.hand settled asked d.oracle_adds;
-    shards = λ k. subst (λ (l : List ShardEntry). IsBeginningOf (shard_log was k) l) (sym (shards_same k)) (nothing_more (shard_log was k));
+    shards = λ k. subst (λ (l : List ShardEntry). IsBeginningOf (shard_log was k) l) (sym (shards_same k)) (whole (shard_log was k));
   }
 
   none_new : {E : Type 0} (one two cut after : List E) (e : E) → one ≡ two → one ≡ cut ++ e ∷ after → length two ≤ length cut → ⊥
@@ -93,7 +95,7 @@ module _ (laws : HoldLaws) (shared : Shared) (old new : Hand) (before added : Li
   by_store = store_seen (gates_seen new.gates.items) (oracle_entries (seen_by_pass new.oracle)) (before ++ added)
 
   refers : StoreRefersWithin next
-  refers cut e after at = laws.store_stays by_store next (same_gates by_store next (sym (named shared old new d.hand d.gates_on))) (nothing_more next.oracle) cut e.author e.deed
+  refers cut e after at = laws.store_stays by_store next (same_gates by_store next (sym (named shared old new d.hand d.gates_on))) (whole next.oracle) cut e.author e.deed
       (d.refers cut e after (sym left ∙ at))
 
   abbrev by_oracle : Account

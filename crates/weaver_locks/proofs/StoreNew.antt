@@ -9,15 +9,15 @@ use Rattle.weave_data.proofs.Members.{cut_at, flat_has, has_cut, has_filter, has
 use Rattle.weave_data.proofs.Ordered.{pairs_cases}
 use Rattle.vector_stamp.specs.declared.clock.Stamp.{Stamp}
 use Rattle.vector_stamp.specs.Order.{id_of}
-use Rattle.weave_entries.specs.GateReplay.{BegunRequest, begun_in, program_by, tx_by, txs_of}
+use Rattle.weave_entries.specs.GateReplay.{BegunRequest, begun_in, tx_by, txs_of}
 use Rattle.weave_entries.specs.declared.gate_log.GateDeed.{GateDeed}
 use Rattle.weave_entries.specs.declared.gate_log.GateEntry.{GateEntry}
 use Rattle.weave_entries.specs.declared.store_log.StoreDeed.{StoreDeed}
-use Rattle.weave_entries.specs.declared.store_log.StoreDeed.TheVariants.{Judged}
 use Rattle.weave_entries.specs.declared.store_log.StoreEntry.{StoreEntry}
 use Rattle.weave_entries.specs.StoreReplay.{Judgement, judged_by, judgements_of}
 use Rattle.weave_entries.specs.StoreRule.{stamps_judged}
 use Rattle.weave_entries.proofs.OwnStamps.{tx-begun}
+use Rattle.weave_entries.proofs.StoreLogs.{judged-author}
 use Rattle.weave_account.specs.Account.{all_begun, gate_log}
 use Rattle.weave_account.specs.GoesOn.{IsBeginningOf}
 use Rattle.weave_account.proofs.SeenIds.{IdsDiffer}
@@ -29,6 +29,7 @@ use Rattle.chronicle.specs.Passes.{own_entries, seen_by_pass}
 use Rattle.oracle_lock.specs.Seen.{gates_noted, of_gates}
 use Rattle.store_lock.specs.declared.noted_store.NotedStore.{NotedStore}
 use Rattle.store_lock.specs.Seen.{StoreView}
+use Rattle.store_lock.proofs.Begun.{pairs-back}
 use Rattle.weaver_locks.specs.declared.hand.Hand.{Hand}
 use Rattle.weaver_locks.specs.declared.shared.Shared.{Shared}
 use Rattle.weaver_locks.specs.Hands.{hand_number, IsHand, made_by, seen_by}
@@ -37,7 +38,6 @@ use Rattle.weaver_locks.specs.InStore.{IsInStore}
 use Rattle.weaver_locks.proofs.Beside.{gates_on, named}
 use Rattle.weaver_locks.proofs.Following.{SeenIds}
 use Rattle.weaver_locks.proofs.Logged.{cut_pairs, inside, records_on}
-use Rattle.weaver_locks.proofs.Seeing.{stores_back}
 
 -- what is in the image of a beginning is in that of the whole
 pub still_there : {A B : Type 0} (f : A → List B) (a b : List A) → IsBeginningOf a b → (x : B) → Contains (flat_map f a) x
@@ -55,9 +55,6 @@ in_all (log ∷ logs) zero begun h = has_flat begun_in (log ∷ logs) log begun 
 in_all (log ∷ logs) (suc home) begun h =
     let from = flat_has begun_in logs begun (in_all logs home begun h) in
     has_flat begun_in (log ∷ logs) from.0 begun (has_tail log logs from.0 from.1) from.2
-
-judged_author : (author : ℕ) (deed : StoreDeed) → (judged_by author deed).author ≡ author
-judged_author author (Judged request stamp ops asked verdict) = refl
 
 module _ (laws : HoldLaws) (shared : Shared) (old now : Hand) (held : Held NotedStore StoreDeed) (hand : IsHand shared old)
     (i : IsInStore shared old now held) (s : StoreView) (s_is : s ≡ machine_of held) where
@@ -94,9 +91,9 @@ module _ (laws : HoldLaws) (shared : Shared) (old now : Hand) (held : Held Noted
           → Contains (seen_by old).store e
       seen_own e cut after at mine =
           let had = seen_by_pass old.store in
-          let split = cut_pairs store_entry store_pair (λ x. refl) (store_pairs was.store) cut after e (stores_back was.store ∙ at) in
+          let split = cut_pairs store_entry store_pair (λ x. refl) (store_pairs was.store) cut after e (pairs-back was.store ∙ at) in
           let low = laws.hand.store_places (hand_number old) had (store_pairs was.store) (store_pairs cut) (store_pairs after) (store_pair e) i.found i.own_is split mine in
-          let on : IsBeginningOf (seen_by old).store was.store = subst (λ (l : List StoreEntry). IsBeginningOf (seen_by old).store l) (stores_back was.store)
+          let on : IsBeginningOf (seen_by old).store was.store = subst (λ (l : List StoreEntry). IsBeginningOf (seen_by old).store l) (pairs-back was.store)
           (records_on store_entry store_pair (λ x. refl) had (store_pairs was.store) i.found) in
           let within = inside (seen_by old).store on.0 cut after e (sym on.1 ∙ at)
           (omega (arith, low, length-map cut store_pair, length-map had store_entry)) in
@@ -125,7 +122,7 @@ module _ (laws : HoldLaws) (shared : Shared) (old now : Hand) (held : Held Noted
           (in_all logs as_seen.home first (tx-begun (get_or logs as_seen.home []) first as_seen.begun))
           (in_all logs begun.0 tx (tx-begun (get_or logs begun.0 []) tx begun_here))) [
             | inl is ↦
-                let mine : (entry.0).author ≡ hand_number old = sym (judged_author (entry.0).author (entry.0).deed) ∙ ap (λ (b : BegunRequest). b.author) is in
+                let mine : (entry.0).author ≡ hand_number old = sym (judged-author (entry.0).author (entry.0).deed) ∙ ap (λ (b : BegunRequest). b.author) is in
                 let has = made_own entry.0 (seen_own entry.0 cut.before cut.after cut.is mine) mine in
                 let there = has_map (λ (j : Judgement). j.stamp) (judgements_of (made_by old).store) its
                 (has_map (λ (e : StoreEntry). judged_by e.author e.deed) (made_by old).store entry.0 has) in

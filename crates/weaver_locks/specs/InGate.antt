@@ -1,4 +1,4 @@
--- A hand that is in the lock of a gatekeeper. Only the contracts of entering and leaving cite this.
+-- A hand that is in the lock of a gatekeeper. No public contract cites this.
 use Rattle.std.specs.Prelude.{◌≡◌, ◌≢◌, ℕ, ◌<◌, List, [], ◌++◌, map, length, slice_index_or, All}
 use mathlib.Core.List.{IsPrefix}
 use Rattle.weave_entries.specs.declared.gate_log.GateDeed.{GateDeed}

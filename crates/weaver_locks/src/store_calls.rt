@@ -1,8 +1,9 @@
 //! The call of one hold of the store, with the oracle's within it.
-ghost use Rattle.std.specs.Prelude.{◌≡◌, ◌≢◌, ◌<◌, ◌^◌, ℕ, length, All, Contains};
+ghost use Rattle.std.specs.Prelude.{◌≡◌, ◌≢◌, ◌<◌, ℕ, length, All, Contains};
 ghost use Rattle.vector_stamp.specs.declared.clock.Stamp.{Stamp};
 ghost use Rattle.vector_stamp.specs.Order.{id_of};
 ghost use Rattle.weave_entries.specs.GateReplay.{txs_of};
+ghost use Rattle.weave_entries.specs.StoreRule.{ops_bound};
 ghost use Rattle.backing_store.specs.Commits.{stamps_judged};
 ghost use Rattle.weave_account.specs.Account.{gate_log};
 ghost use Rattle.weaver_locks.specs.Hands.{hand_number, made_by, seen_by, IsHand};
@@ -31,7 +32,7 @@ impl Shared {
         ops: &[Op],
     ) -> Result<Verdict, AllocError>
         requires hand { IsHand self.now hand.old }
-        requires few { length ops.now < 2 ^ 31 }
+        requires few { length ops.now < ops_bound }
         requires begun { (home : ℕ) × Contains (txs_of (gate_log (seen_by hand.old) home))
             (record { author = hand_number hand.old; request = request; stamp = stamp }) }
         requires new { All (λ (judged : Stamp). id_of judged ≢ id_of stamp) (stamps_judged (made_by hand.old).store) }

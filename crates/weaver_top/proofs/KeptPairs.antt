@@ -1,11 +1,9 @@
 -- The pairs that the report of logs lists come first in the report of logs that go on from them.
 -- Used by Loaded.
-use Rattle.std.proofs.Common.{◌≡◌, ◌≢◌, ℕ, List, [], ◌∷◌, ◌++◌, Contains, IsTrue, Option, Some, None, inl, inr, refl, sym, ap, subst, ◌∙◌}
+use Rattle.std.proofs.Common.{◌≡◌, ◌≢◌, ℕ, List, [], ◌∷◌, ◌++◌, Contains, IsTrue, Option, Some, inl, inr, refl, sym, ap, subst, ◌∙◌}
 use Rattle.std.specs.Prelude.{not, ◌==◌}
-use Rattle.std.specs.List.{AllByRecursion, cons_option, filter_map, find}
-use Rattle.std.specs.Option.{option_map}
-use Rattle.std.proofs.lemmas.Bool.{cases_eq, eqb-true}
-use Rattle.weave_data.proofs.Members.{find_has}
+use Rattle.std.specs.List.{AllByRecursion, cons_option, filter_map}
+use Rattle.std.proofs.lemmas.Bool.{cases_eq}
 use Rattle.vector_stamp.specs.declared.clock.Stamp.{Stamp}
 use Rattle.vector_stamp.specs.Order.{id_of}
 use Rattle.vector_stamp.specs.Precedence.{GivenPair, Precedes}
@@ -20,6 +18,8 @@ use Rattle.weave_account.specs.Account.{all_begun, pairs_in, stamp_of}
 use Rattle.weave_account.specs.GoesOn.{IsBeginningOf}
 use Rattle.weave_account.specs.Pairs.{ArePairsOf, IsPairInAccount}
 use Rattle.weave_account.specs.Report.{IsReportOfAccount, MatchesAccount}
+use Rattle.weave_account.proofs.PlacedPairs.{are-append}
+use Rattle.weave_account.proofs.RepliesClause.{begun-there}
 
 -- The printed order: of the pairs it is the stamps that count
 
@@ -69,18 +69,6 @@ PairsAreOne script account =
 abbrev pub PairsStay : Account → Account → Type 0
 PairsStay account next = (pair : Pair) (given : GivenPair) → IsPairInAccount account pair given → IsPairInAccount next pair given
 
-begun-there : (account : Account) (r : ℕ) (stamp : Stamp) → stamp_of account r ≡ Some stamp
-    → (begun : BegunRequest) × Contains (all_begun account) begun × (begun.request ≡ r) × (begun.stamp ≡ stamp)
-begun-there account r stamp e = at (find (λ (begun : BegunRequest). begun.request == r) (all_begun account)) refl e
-  where
-    at : (o : Option BegunRequest) → find (λ (begun : BegunRequest). begun.request == r) (all_begun account) ≡ o
-        → option_map (λ (begun : BegunRequest). begun.stamp) o ≡ Some stamp
-        → (begun : BegunRequest) × Contains (all_begun account) begun × (begun.request ≡ r) × (begun.stamp ≡ stamp)
-    at None is e = cc
-    at (Some begun) is e =
-        let has = find_has (λ (begun : BegunRequest). begun.request == r) (all_begun account) begun is in
-        (begun, has.0, eqb-true begun.request r has.1, cc)
-
 module _ (account : Account) (differ : IdsDiffer account) where
   -- one stamp is of one request
   same-request : (r s : ℕ) (stamp : Stamp) → stamp_of account r ≡ Some stamp → stamp_of account s ≡ Some stamp → r ≡ s
@@ -118,13 +106,6 @@ cut account (pair ∷ pairs) (given ∷ givens) more are =
     let rest = cut account pairs givens more are.1 in
     record { back = rest.back; back_are = rest.back_are }
 
-joined : (account : Account) (pairs back : List Pair) (givens more : List GivenPair) → ArePairsOf account pairs givens → ArePairsOf account back more
-    → ArePairsOf account (pairs ++ back) (givens ++ more)
-joined account [] back [] more are then_are = then_are
-joined account [] back (given ∷ givens) more are then_are = absurd are
-joined account (pair ∷ pairs) back [] more are then_are = absurd are
-joined account (pair ∷ pairs) back (given ∷ givens) more are then_are = (are.0, joined account pairs back givens more are.1 then_are)
-
 all-stay : (account next : Account) → PairsStay account next → (pairs : List Pair) (givens : List GivenPair) → ArePairsOf account pairs givens → ArePairsOf next pairs givens
 all-stay account next stay [] [] are = tt
 all-stay account next stay [] (given ∷ givens) are = absurd are
@@ -143,7 +124,7 @@ module _ (script : Script) (account next : Account) (stay : PairsStay account ne
       let pairs = first.pairs ++ rest.back in
       let are : ArePairsOf next pairs (pairs_in next) =
       subst (λ givens. ArePairsOf next pairs givens) (sym begins.1)
-      (joined next first.pairs rest.back (pairs_in account) begins.0 (all-stay account next stay first.pairs (pairs_in account) is.pairs) rest.back_are) in
+      (are-append next first.pairs rest.back (pairs_in account) begins.0 (all-stay account next stay first.pairs (pairs_in account) is.pairs) rest.back_are) in
       let alike = given-alike next differ (stamp_at second) pairs second.pairs (pairs_in next) are too.matches.pairs in
       let again : IsReportOfAccount script next (record second { pairs = pairs }) =
       record {

@@ -6,7 +6,7 @@ pub mod PhaseEnds
 pub mod OnThreads
 pub mod Headline
 pub mod Tracing
-pub mod Refused
+pub mod RefusalAnswers
 pub mod Refusals
 pub mod Verdicts
 pub mod GoingOn

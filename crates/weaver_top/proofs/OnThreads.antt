@@ -13,10 +13,9 @@ use Rattle.weave_entries.specs.declared.gate_log.GateDeed.TheVariants.{BeganTx, 
 use Rattle.weave_entries.specs.declared.gate_log.GateEntry.{GateEntry}
 use Rattle.weave_entries.specs.GateReplay.{BegunRequest, begun_by, flight_of}
 use Rattle.weave_account.specs.declared.account.Account.{Account}
-use Rattle.weave_account.specs.Account.{gate_log}
+use Rattle.weave_account.specs.Account.{gate_log, NoneInFlight}
 use Rattle.weave_account.specs.IsAccount.{IsAccount}
 use Rattle.weaver_core.specs.Cores.{CoreView}
-use Rattle.weaver_core.specs.Splitting.{NoneInFlight}
 use Rattle.weaver_workers.specs.Phases.{phase_end, phase_start}
 use Rattle.weaver_workers.specs.Workers.{HasPhase}
 use Rattle.weave_phase.specs.Pairs.{AddsOpenPairs, GainBelow}

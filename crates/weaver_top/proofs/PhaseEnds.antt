@@ -1,16 +1,14 @@
 -- The phases of a run end one after another, and with the last requests it is a run by phases.
 -- Used by `end_next`, `end_phases`, `report_of`, `run` and OnThreads.
-use Rattle.std.proofs.Common.{◌≡◌, ℕ, zero, suc, ◌+◌, ◌<◌, ◌≤◌, ◌==◌, ◌⊎◌, Bool, true, false, cond, nat_le, nat_lt, List, [], ◌∷◌, length, replicate, get_or, Contains, IsTrue, Option, None, Some, inl, inr, refl, sym, ap, subst, ◌∙◌, arith}
+use Rattle.std.proofs.Common.{◌≡◌, ℕ, zero, suc, ◌+◌, ◌<◌, ◌≤◌, ◌⊎◌, Bool, true, false, cond, nat_le, nat_lt, List, [], ◌∷◌, length, replicate, get_or, Contains, IsTrue, Some, inl, inr, refl, sym, ap, subst, ◌∙◌, arith}
 use Rattle.std.specs.Prelude.{count_by, slice_get}
-use Rattle.std.specs.List.{find, list_any}
-use Rattle.std.specs.Option.{option_map}
-use Rattle.std.proofs.lemmas.Bool.{cases_eq, eqb-true, le-leb, leb-false, leb-true, lt-ltb, ltb-true}
+use Rattle.std.specs.List.{list_any}
+use Rattle.std.proofs.lemmas.Bool.{cases_eq, le-leb, leb-false, leb-true, lt-ltb, ltb-true}
 use Rattle.std.proofs.lemmas.List.Elements.{Contains-append_cases}
 use Rattle.std.proofs.lemmas.Option.{slice_get_within}
 use Rattle.std.proofs.lemmas.List.Sums.{count_by-le-length, sum_by-cons}
 use Rattle.weave_data.proofs.Images.{flat-has}
-use Rattle.weave_data.proofs.Members.{any_has, find_has, has_none, only}
-use Rattle.vector_stamp.specs.declared.clock.Stamp.{Stamp}
+use Rattle.weave_data.proofs.Members.{any_has, has_none, only}
 use Rattle.vector_stamp.specs.Order.{id_of}
 use Rattle.program_defs.specs.declared.script.Request.{Request}
 use Rattle.program_defs.specs.declared.script.Script.{Script}
@@ -22,7 +20,7 @@ use Rattle.weave_entries.specs.declared.gate_log.GateDeed.TheVariants.{BeganTx, 
 use Rattle.weave_entries.specs.declared.gate_log.GateEntry.{GateEntry}
 use Rattle.weave_entries.specs.GateReplay.{BegunRequest, begun_by}
 use Rattle.weave_account.specs.declared.account.Account.{Account}
-use Rattle.weave_account.specs.Account.{all_begun, gate_log, stamp_of}
+use Rattle.weave_account.specs.Account.{all_begun, gate_log}
 use Rattle.weave_account.specs.Clocks.{is_raised, raises_to}
 use Rattle.weave_account.specs.IsAccount.{IsAccount}
 use Rattle.weave_account.specs.NoLogs.{no_logs}
@@ -30,6 +28,7 @@ use Rattle.weave_account.specs.Phases.{EndsPhase}
 use Rattle.step_rules.specs.Requests.{has_reply}
 use Rattle.weave_drive.specs.Driving.{AreReplied, DrivesGates, is_driving_deed}
 use Rattle.weave_account.proofs.Replying.{place-of, has-all as at-home}
+use Rattle.weave_account.proofs.RepliesClause.{begun-there}
 use Rattle.weaver_top.specs.LowerLaws.{LawsForCommands}
 use Rattle.weaver_top.specs.PhaseByPhase.{EndsAt, HasEnded, IsRunUpTo, IsWholeRun, RunsBelow}
 use Rattle.weaver_top.proofs.Onward.{adds-through, runs-same}
@@ -260,7 +259,7 @@ module _ (laws : LawsForCommands) (script : Script) (limits : IsWithinLimits scr
     pairs = λ earlier later r in-account stamp early. elim (ended.pairs earlier later in-account) [
       | inl before ↦ before
       | inr added ↦
-          (let from = stamped account r later stamp in
+          (let from = begun-there account r later stamp in
           elim (cases_eq (added.begun).request r) [
             | inl same ↦
                 (let its = there-below script.requests r (subst (λ k. k < length script.requests) same (all-below (length script.requests) account deeds added.begun added.there)) in
@@ -270,17 +269,6 @@ module _ (laws : LawsForCommands) (script : Script) (limits : IsWithinLimits scr
           ])
     ];
   }
-    where
-      stamped : (account : Account) (r : ℕ) (stamp : Stamp) → stamp_of account r ≡ Some stamp
-          → (b : BegunRequest) × Contains (all_begun account) b × (b.request ≡ r) × (b.stamp ≡ stamp)
-      stamped account r stamp e = at (find (λ (b : BegunRequest). b.request == r) (all_begun account)) refl e
-        where
-          at : (o : Option BegunRequest) → find (λ (b : BegunRequest). b.request == r) (all_begun account) ≡ o → option_map (λ (b : BegunRequest). b.stamp) o ≡ Some stamp
-              → (b : BegunRequest) × Contains (all_begun account) b × (b.request ≡ r) × (b.stamp ≡ stamp)
-          at None found e = cc
-          at (Some b) found e =
-              let has = find_has (λ (b : BegunRequest). b.request == r) (all_begun account) b found in
-              (b, has.0, eqb-true b.request r has.1, cc)
 
   -- with the last requests it is a whole run
   pub whole : (bound : ℕ) (account last : Account) → IsRunUpTo script (length script.phases) bound account → EndsAt script (length script.requests) account last → IsWholeRun script last

@@ -1,5 +1,5 @@
--- The line that `check` has to write for a right report, and for one that breaks a clause; and small transactions can
--- be numbered.
+-- The line that `check` has to write for a right report, and for one that breaks a clause; and operations can be
+-- numbered if each transaction of a script has at most 64.
 -- Used by `judged_summary` and `verdict_for`.
 use Rattle.std.proofs.Common.{◌≡◌, ℕ, ◌≤◌, ◌^◌, true, List, [], ◌∷◌, length, IsTrue, refl, arith}
 use Rattle.std.specs.List.{AllByRecursion, list_all}
@@ -36,6 +36,6 @@ all_numbered : (requests : List Request) → AllByRecursion (λ (request : Reque
 all_numbered [] few = refl
 all_numbered (request ∷ requests) few = and_from (judgement.is_numbered_work request.work) _ (numbered_work request.work few.0) (all_numbered requests few.1)
 
--- a script whose transactions have at most 64 operations each can number them
+-- if each transaction of a script has at most 64 operations, its operations can be numbered
 pub numbered : (script : Script) → AllByRecursion (λ (request : Request). length (ops_of request.work) ≤ 64) script.requests → IsTrue (judgement.has_numbered_operations script)
 numbered script few = all_numbered script.requests few

@@ -40,7 +40,7 @@ no-tx author (Raised epoch) tells = refl
 no-tx author (Finished r) tells = refl
 
 -- nor a program
-no-begin : (author : ℕ) (deed : GateDeed) → IsTrue (is_telling deed) → begun_by author deed ≡ []
+pub no-begin : (author : ℕ) (deed : GateDeed) → IsTrue (is_telling deed) → begun_by author deed ≡ []
 no-begin author (Heard clock) tells = refl
 no-begin author (Nop shard number stamp low) tells = refl
 no-begin author (BeganTx r stamp) tells = absurd cc

@@ -1,6 +1,7 @@
 -- A worker that reads for its program goes on with its session. Also: the home of a running program is a gatekeeper,
 -- and facts on answers.
--- Used by `go_client`, `go_session`, `look_on`, `read_all`, `read_next`, 5 more and crate workers_account.
+-- Used by `go_client`, `go_session`, `look_on`, `read_all`, `read_next`, `read_or_nudge`, `try_change`, `try_next`,
+-- Deeds, StillKept and crate workers_account.
 use Rattle.std.proofs.Common.{◌≡◌, inl, inr, ℕ, ◌<◌, ◌≤◌, List, [], drop, length, map, Contains, Option, Some, Result, Ok, Err, refl, sym, ap, ◌∙◌, subst}
 use Rattle.std.specs.Prelude.{IfOk}
 use Rattle.std.proofs.Math.Seq.{drop-nil}

@@ -1,18 +1,22 @@
 -- In a call at one gatekeeper or shard that begins nothing a hand only carries, at that one alone; and a gatekeeper
 -- that was told a clock has heard it.
--- Used by `apply_all`, `apply_channel`, `apply_head`, `apply_round`, `bring_all`, `bring_from` and 18 more.
+-- Used by `apply_all`, `apply_channel`, `apply_head`, `apply_round`, `bring_all`, `bring_from`, `bring_one`,
+-- `go_gate`, `go_shard`, `hear`, `hear_news`, `hear_others`, `is_known`, `known_to`, `listen`, `nudge`, `nudge_gate`,
+-- `search`, `search_up`, `send_empty`, `send_to_all`, `tell`, `turn_gate` and `turn_shard`.
 use Rattle.std.proofs.Common.{◌≡◌, ◌≢◌, ℕ, ◌+◌, ◌<◌, arith, inl, inr, true, false, List, [], ◌∷◌, ◌++◌, zero, suc, length, get_or, set, Result, Ok, Err, refl, sym, ap, ◌∙◌, subst}
 use Rattle.std.specs.Prelude.{◌⊎◌, Bool, Contains, OnOk, Option, Some, None}
 use Rattle.std.proofs.lemmas.Bool.{cases_lt}
 use Rattle.std.proofs.lemmas.List.{append-nil, get_or-set_other, get_or-set_same, length-map}
 use Rattle.std.proofs.lemmas.List.Elements.{Contains-append_left, Contains-append_right}
 use Rattle.weave_data.proofs.Members.{has_head}
+use Rattle.weave_data.proofs.RowsSet.{set-none}
 use Rattle.vector_stamp.specs.declared.clock.Clock.{Clock}
 use Rattle.weave_entries.specs.declared.gate_log.GateEntry.{GateEntry}
 use Rattle.weave_entries.specs.declared.gate_log.GateDeed.TheVariants.{Heard}
 use Rattle.weave_entries.specs.declared.shard_log.ShardEntry.{ShardEntry}
 use Rattle.weave_account.specs.declared.account.Account.{Account}
 use Rattle.weave_account.specs.Account.{gate_log, shard_log}
+use Rattle.weave_account.proofs.GoesOn.{onward}
 use Rattle.weave_entries.specs.GateReplay.{clock_of}
 use Rattle.weaver_locks.specs.declared.hand.Hand.{Hand}
 use Rattle.weaver_locks.specs.declared.shared.Shared.{Shared}
@@ -28,16 +32,10 @@ use Rattle.weaver_hands.specs.declared.messages.Pulled.{Pulled}
 use Rattle.weaver_hands.specs.declared.messages.Pulled.TheVariants.{Unsent, Known, New}
 use Rattle.weaver_hands.specs.Telling.{NopsAs, TellsClock, TellsAs}
 use Rattle.weaver_workers.specs.Carrying.{is_telling, AreTold, CarriesAtGate, CarriesAtShard, HasHeard, HasSaid, HasTold, IsAtGate, IsAtNoOtherShard, IsAtShard, IsUpToDate, IsUpToDateBelow, OnlyCarries}
-use Rattle.seen_logs.proofs.Within.{onward}
 use Rattle.weaver_workers.proofs.Carried.{at-gate, nothing-at-gate, one-passes}
 use Rattle.weaver_workers.proofs.Called.{applied, carries-on, carries-start, pulled, sent-empty, told}
 
 -- Holds without an entry
-
-set-none : {A : Type 0} (xss : List (List A)) (place : ℕ) → set xss place (get_or xss place [] ++ []) ≡ xss
-set-none [] place = refl
-set-none (xs ∷ xss) zero = ap (λ ys. ys ∷ xss) (append-nil xs)
-set-none (xs ∷ xss) (suc place) = ap (λ yss. xs ∷ yss) (set-none xss place)
 
 none-at-gate : {shards : ℕ} (old new : Hand) (gate : ℕ) (before : List GateEntry) → WasAtGate shards old new gate before []
     → MadeNone old new

@@ -1,10 +1,8 @@
 -- A client's worker asks the oracle for no requests but those that its hand began since the start.
 -- Used by `workers_follow_their_sessions`.
-use Rattle.std.proofs.Common.{◌≡◌, ℕ, List, [], ◌∷◌, ◌++◌, length, drop, map, Contains, Ok, Some, inl, inr, refl, sym, ap, subst, ◌∙◌, append_assoc}
-use Rattle.std.specs.List.{flat_map}
+use Rattle.std.proofs.Common.{◌≡◌, ℕ, List, [], ◌∷◌, ◌++◌, length, drop, map, Contains, inl, inr, refl, sym, ap, subst, ◌∙◌, append_assoc}
 use Rattle.std.proofs.lemmas.List.{append-nil, append_cancel_left}
-use Rattle.std.proofs.lemmas.List.Concat.{flat_map-append}
-use Rattle.std.proofs.lemmas.List.Elements.{Contains-append_cases, Contains-append_left, Contains-append_right}
+use Rattle.std.proofs.lemmas.List.Elements.{Contains-append_cases, Contains-append_right}
 use Rattle.std.proofs.Math.Seq.{drop-append_seam}
 use Rattle.weave_data.proofs.Members.{flat_has, has_flat, has_head, has_none, map_has, only}
 use Rattle.vector_stamp.specs.declared.clock.Stamp.{Stamp}
@@ -16,7 +14,7 @@ use Rattle.weave_entries.specs.declared.gate_log.GateDeed.TheVariants.{BeganTx}
 use Rattle.weave_entries.specs.declared.oracle_log.OracleEntry.{OracleEntry}
 use Rattle.weave_entries.specs.declared.verdict.Verdict.{Verdict}
 use Rattle.weave_entries.specs.declared.verdict.Verdict.TheVariants.{Committed, Conflict, Refused}
-use Rattle.weave_entries.specs.GateReplay.{BegunRequest, begun_by, begun_in, program_by, programs_of, tx_by}
+use Rattle.weave_entries.specs.GateReplay.{BegunRequest, begun_by, begun_in}
 use Rattle.weave_entries.specs.OracleReplay.{oracle_entry_of, pairs_of_log, settled_entry}
 use Rattle.weave_entries.specs.ShardRules.{entries_of_visit}
 use Rattle.weave_entries.proofs.OwnStamps.{program-begun}
@@ -24,7 +22,7 @@ use Rattle.backing_store.specs.Commits.{asked_at, entries_added}
 use Rattle.weave_account.specs.declared.account.Account.{Account}
 use Rattle.weave_account.specs.Account.{gate_log}
 use Rattle.weave_account.specs.GoesOn.{IsBeginningOf}
-use Rattle.hands_account.proofs.Places.{has-on, onward, whole}
+use Rattle.weave_account.proofs.GoesOn.{whole, onward, has-on}
 use Rattle.seen_logs.specs.Seen.{entries_since}
 use Rattle.weaver_locks.specs.declared.hand.Hand.{Hand}
 use Rattle.weaver_locks.specs.declared.shared.Shared.{Shared}

@@ -1,5 +1,6 @@
 -- What began at the gatekeepers of a phase's closed logs is what the sessions' logs say began, with the same stamps.
--- Used by ByLog, Ended, Follows, Idle, OpenPairs, Programs, 2 more and crates sessions_account and weave_phase.
+-- Used by ByLog, Ended, Follows, Idle, OpenPairs, Programs, ReadyClients, Visited and crates sessions_account and
+-- weave_phase.
 use Rattle.std.proofs.Common.{◌≡◌, ◌≢◌, ℕ, ◌==◌, List, [], ◌∷◌, ◌++◌, length, map, get_or, Contains, IsTrue, Option, None, Some, ◌⊎◌, inl, inr, refl, sym, ap, subst, ◌∙◌, arith}
 use Rattle.std.specs.Prelude.{slice_get, IsSomeAnd}
 use Rattle.std.specs.List.{filter, find, range_with_len}
@@ -28,7 +29,7 @@ use Rattle.weave_account.specs.GoesOn.{IsBeginningOf}
 use Rattle.weave_account.specs.Sessions.{requests_of_session}
 use Rattle.weave_account.proofs.Beginning.{all-in}
 use Rattle.weave_account.proofs.Replying.{has-all}
-use Rattle.hands_account.proofs.Places.{has-on}
+use Rattle.weave_account.proofs.GoesOn.{has-on}
 use Rattle.weaver_core.specs.declared.client.Client.{Client}
 use Rattle.weaver_core.specs.Sessions.{log_of_client, requests_in}
 use Rattle.weaver_locks.specs.declared.hand.Hand.{Hand}

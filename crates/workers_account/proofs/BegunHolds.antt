@@ -2,7 +2,6 @@
 -- a hand that begins nothing has, too.
 -- Used by BegunTurns and crate sessions_account.
 use Rattle.std.proofs.Common.{◌≡◌, ◌≢◌, ℕ, ◌==◌, Bool, List, [], ◌∷◌, ◌++◌, length, Contains, inl, inr, refl, sym, ap, subst, ◌∙◌, arith}
-use Rattle.std.specs.Prelude.{IsTrue}
 use Rattle.std.specs.List.{filter}
 use Rattle.std.proofs.lemmas.Bool.{cases_eq}
 use Rattle.std.proofs.lemmas.List.{append-nil, get_or-set_other, length-append}
@@ -20,12 +19,15 @@ use Rattle.weave_entries.specs.Logs.{AtEachEntry}
 use Rattle.weave_account.specs.declared.account.Account.{Account}
 use Rattle.weave_account.specs.Account.{gate_log}
 use Rattle.weave_account.specs.GoesOn.{IsBeginningOf}
+use Rattle.weave_account.proofs.GoesOn.{onward}
 use Rattle.seen_logs.specs.Seen.{GatesGoOn, IsOwn}
-use Rattle.hands_account.proofs.Places.{earlier-place, less-or, onward}
+use Rattle.seen_logs.proofs.Onward.{earlier-place}
+use Rattle.hands_account.proofs.Places.{less-or}
 use Rattle.weaver_locks.specs.declared.hand.Hand.{Hand}
 use Rattle.weaver_locks.specs.GateHolds.{gate_entry_by, WasAtGate}
 use Rattle.weaver_locks.specs.Hands.{hand_number, made_by, seen_by}
-use Rattle.weaver_workers.specs.Carrying.{is_telling, OnlyCarries}
+use Rattle.weaver_workers.specs.Carrying.{OnlyCarries}
+use Rattle.weaver_workers.proofs.OnlyCarried.{no-begin}
 use Rattle.workers_account.specs.Begins.{BeginsInTurn, IsBegunInTurn}
 use Rattle.workers_account.proofs.BegunPlaces.{not-none, one-own, own-among, went-on}
 use Rattle.workers_account.proofs.OwnLogs.{OwnGates}
@@ -74,16 +76,6 @@ module _ (script : Script) (session home : ℕ) (before : List GateEntry) where
     begins-later (Heard clock) begins = tt
     begins-later (Raised epoch) begins = tt
     begins-later (Finished r) begins = tt
-
--- a clock or an empty message begins none
-telling-begins-none : (author : ℕ) (deed : GateDeed) → IsTrue (is_telling deed) → begun_by author deed ≡ []
-telling-begins-none author (Heard clock) tells = refl
-telling-begins-none author (Nop shard number stamp low) tells = refl
-telling-begins-none author (BeganTx r stamp) tells = absurd cc
-telling-begins-none author (BeganProgram r stamp) tells = absurd cc
-telling-begins-none author (Sent r messages) tells = refl
-telling-begins-none author (Raised epoch) tells = refl
-telling-begins-none author (Finished r) tells = refl
 
 -- What a hand made that begins nothing
 
@@ -153,7 +145,7 @@ none-carried old new only = record {
   gains = λ home. (let gains = only.gates home in record {
     added = gains.added;
     log = gains.log;
-    none = λ entry h. telling-begins-none entry.author entry.deed (gains.pass entry h);
+    none = λ entry h. no-begin entry.author entry.deed (gains.pass entry h);
   });
 }
 

@@ -8,7 +8,8 @@ use Rattle.std.proofs.lemmas.List.Elements.{filter-append}
 use Rattle.weave_data.proofs.Members.{has_cut, has_filter, has_last, has_none}
 use Rattle.weave_account.specs.GoesOn.{IsBeginningOf}
 use Rattle.seen_logs.specs.Seen.{IsOwn}
-use Rattle.hands_account.proofs.Places.{in-back, in-front, less-or}
+use Rattle.seen_logs.proofs.Placed.{in-front}
+use Rattle.hands_account.proofs.Places.{in-back, less-or}
 use Rattle.workers_account.proofs.OwnSince.{own-gained}
 
 -- a list of one has one place

@@ -19,8 +19,8 @@ use Rattle.weave_account.specs.declared.account.Account.{Account}
 use Rattle.weave_account.specs.Account.{gate_log}
 use Rattle.weave_account.specs.GoesOn.{IsBeginningOf}
 use Rattle.weave_account.specs.Sessions.{requests_of_session}
+use Rattle.weave_account.proofs.GoesOn.{whole, onward}
 use Rattle.seen_logs.specs.Seen.{GatesGoOn}
-use Rattle.hands_account.proofs.Places.{onward, whole}
 use Rattle.weaver_core.specs.Sessions.{log_of_client}
 use Rattle.weaver_locks.specs.declared.shared.Shared.{Shared}
 use Rattle.weaver_locks.specs.Hands.{hand_number, seen_by}

@@ -1,16 +1,16 @@
 -- The values of each session after a phase are those of its log in the closed logs.
 -- Used by OpenPairs and PhaseEnds.
-use Rattle.std.proofs.Common.{◌≡◌, ◌≢◌, ℕ, ◌-◌, ◌<◌, ◌≤◌, ◌==◌, Bool, true, false, cond, List, [], ◌∷◌, ◌++◌, length, map, Contains, AllPairs, IsTrue, Option, None, Some, ◌⊎◌, inl, inr, refl, sym, ap, subst, ◌∙◌, append_assoc, eq-eqb, arith}
+use Rattle.std.proofs.Common.{◌≡◌, ℕ, ◌-◌, ◌<◌, ◌≤◌, ◌==◌, Bool, true, false, cond, List, [], ◌∷◌, ◌++◌, length, map, Contains, IsTrue, Option, None, Some, inl, inr, refl, sym, ap, subst, ◌∙◌, append_assoc, arith}
 use Rattle.std.specs.Prelude.{is_some, slice_get, IsSomeAnd, if◌then◌else◌}
-use Rattle.std.specs.List.{filter, find, flat_map}
+use Rattle.std.specs.List.{filter}
 use Rattle.std.specs.Option.{option_and_then, option_map}
 use Rattle.std.proofs.lemmas.Bool.{cases_Bool, eqb-true}
 use Rattle.std.proofs.lemmas.List.{append-nil, append_cancel_left, length-append, map-append}
 use Rattle.std.proofs.lemmas.List.Concat.{flat_map-append}
-use Rattle.std.proofs.lemmas.List.Elements.{Contains-append_cases, Contains-append_left, filter-append}
-use Rattle.std.proofs.lemmas.Option.{get_or_from_slice_get, none-some, same_Some, slice_get-get_or, slice_get_within}
+use Rattle.std.proofs.lemmas.List.Elements.{Contains-append_cases, filter-append}
+use Rattle.std.proofs.lemmas.Option.{get_or_from_slice_get, same_Some, slice_get-get_or, slice_get_within}
 use Rattle.weave_data.proofs.Ends.{by_last}
-use Rattle.weave_data.proofs.Members.{cut_at, filter_has, flat_has, has_cut, has_flat, has_head, has_map, has_none, has_tail, map_has, only}
+use Rattle.weave_data.proofs.Members.{cut_at, filter_has, flat_has, has_flat, has_head, has_map, has_none, has_tail, map_has}
 use Rattle.weave_data.proofs.Ordered.{find_by_key}
 use Rattle.vector_stamp.specs.declared.clock.Stamp.{Stamp}
 use Rattle.graph_ops.specs.Operations.{State}
@@ -28,7 +28,6 @@ use Rattle.program_defs.specs.declared.script.Work.TheVariants.{Change, Look}
 use Rattle.report_rules.specs.Lookups.{is_some_and, request_at}
 use Rattle.report_rules.specs.declared.report.Reply.{Reply}
 use Rattle.report_rules.specs.declared.report.ReplyState.{ReplyState}
-use Rattle.report_rules.specs.declared.report.ReplyState.TheVariants.{Finished}
 use Rattle.weave_entries.specs.declared.session_log.SessionEntry.{SessionEntry}
 use Rattle.weave_entries.specs.declared.session_log.SessionDeed.{SessionDeed}
 use Rattle.weave_entries.specs.declared.session_log.SessionDeed.TheVariants as session
@@ -50,12 +49,12 @@ use Rattle.weave_account.specs.GoesOn.{GoesOn, IsBeginningOf, visits_by}
 use Rattle.weave_account.specs.IsAccount.{IsAccount}
 use Rattle.weave_account.specs.Report.{IsReplyInAccount, IsStateOf, state_of_tx}
 use Rattle.weave_account.specs.Sessions.{requests_of_session}
+use Rattle.weave_account.proofs.GoesOn.{has-on}
 use Rattle.hands_account.proofs.ByHands.{by-author, start-within}
-use Rattle.hands_account.proofs.Places.{has-on}
 use Rattle.weaver_core.specs.declared.client.Client.{Client}
 use Rattle.weaver_core.specs.declared.walks.Running.{Running}
-use Rattle.weaver_core.specs.Sessions.{SessionValues, log_of_client, requests_in}
-use Rattle.weaver_core.specs.Splitting.{AreRepliesByLog, AreValuesByLog, IsClientByLog, IsRunningByLog, begun_by_session as waiting_by, program_waiting, waiting_in}
+use Rattle.weaver_core.specs.Sessions.{SessionValues, log_of_client}
+use Rattle.weaver_core.specs.Splitting.{AreRepliesByLog, AreValuesByLog, IsClientByLog, begun_by_session as waiting_by, program_waiting, waiting_in}
 use Rattle.weaver_core.specs.Staying.{StayLaws}
 use Rattle.weaver_core.specs.Walks.{HasReadAll, IsLookAt}
 use Rattle.weaver_core.proofs.ProgramsStay.{StaysAt}

@@ -1,34 +1,30 @@
 -- What was ended at the gatekeepers of a phase's closed logs has its reply, if it is a program, and the other way
 -- round: so the sessions' logs are those of the closed gatekeepers.
 -- Used by ByLog, ClosedAccount, Follows, PhaseEnds, Programs and crate sessions_account.
-use Rattle.std.proofs.Common.{◌≡◌, ◌≢◌, ℕ, ◌<◌, ◌≤◌, ◌==◌, Bool, List, [], ◌∷◌, ◌++◌, length, map, take, get_or, Contains, AllPairs, IsTrue, Option, None, Some, ◌⊎◌, inl, inr, refl, sym, ap, subst, ◌∙◌, arith}
+use Rattle.std.proofs.Common.{◌≡◌, ℕ, List, [], ◌∷◌, ◌++◌, Contains, IsTrue, Some, inl, inr, refl, sym, ap, subst, ◌∙◌, arith}
 use Rattle.std.specs.List.{flat_map}
 use Rattle.std.proofs.lemmas.List.Concat.{flat_map-append}
 use Rattle.std.proofs.lemmas.List.Elements.{Contains-append_cases, Contains-append_left, Contains-append_right}
 use Rattle.std.proofs.lemmas.Option.{same_Some}
-use Rattle.weave_data.proofs.Members.{cut_at, flat_has, has_cut, has_flat, has_none, only}
+use Rattle.weave_data.proofs.Members.{cut_at, flat_has, has_cut, has_flat}
 use Rattle.weave_data.proofs.Numbers.{has-in, in-has}
-use Rattle.weave_data.proofs.Ordered.{pairs_across}
-use Rattle.vector_stamp.specs.declared.clock.Stamp.{Stamp}
 use Rattle.program_defs.specs.declared.script.Request.{Request}
 use Rattle.program_defs.specs.declared.script.Script.{Script}
 use Rattle.program_defs.specs.Works.{is_look}
 use Rattle.report_rules.specs.Lookups.{request_at}
 use Rattle.weave_entries.specs.declared.gate_log.GateEntry.{GateEntry}
-use Rattle.weave_entries.specs.declared.gate_log.GateDeed.{GateDeed}
-use Rattle.weave_entries.specs.declared.gate_log.GateDeed.TheVariants.{BeganTx, BeganProgram, Sent, Nop, Heard, Raised, Finished}
 use Rattle.weave_entries.specs.declared.session_log.SessionEntry.{SessionEntry}
 use Rattle.weave_entries.specs.declared.session_log.SessionDeed.{SessionDeed}
 use Rattle.weave_entries.specs.declared.session_log.SessionDeed.TheVariants as session
 use Rattle.weave_entries.specs.Logs.{AtEachEntry}
-use Rattle.weave_entries.specs.GateReplay.{BegunRequest, begun_by, begun_in, ended_by, ended_in, program_by, tx_by}
-use Rattle.weave_entries.specs.GateRules.{EndsAs}
-use Rattle.weave_entries.specs.SessionReplay.{begins_in, has_reply_in, replied_in, reply_by}
+use Rattle.weave_entries.specs.GateReplay.{ended_by, ended_in}
+use Rattle.weave_entries.specs.SessionReplay.{has_reply_in, replied_in, reply_by}
 use Rattle.weave_account.specs.declared.account.Account.{Account}
-use Rattle.weave_account.specs.Account.{all_begun, gate_log, is_ended, session_log}
-use Rattle.weave_account.specs.GoesOn.{GoesOn, IsBeginningOf}
+use Rattle.weave_account.specs.Account.{gate_log, is_ended, session_log}
+use Rattle.weave_account.specs.GoesOn.{GoesOn}
 use Rattle.weave_account.specs.Sessions.{RepliesAs, SessionsClause}
-use Rattle.hands_account.proofs.Places.{has-on, list-there, place-of}
+use Rattle.weave_account.proofs.Beginning.{list-there}
+use Rattle.weave_account.proofs.Replying.{place-of}
 use Rattle.weaver_core.specs.declared.client.Client.{Client}
 use Rattle.weaver_locks.specs.declared.hand.Hand.{Hand}
 use Rattle.weaver_locks.specs.declared.shared.Shared.{Shared}
@@ -36,7 +32,7 @@ use Rattle.weaver_locks.specs.Closing.{seen_by_number}
 use Rattle.weaver_locks.specs.Locks.{hands_of}
 use Rattle.workers_account.specs.Phase.{IsClosedBy, IsPhaseRun}
 use Rattle.workers_account.specs.PhaseLaws.{PhaseLaws}
-use Rattle.workers_account.proofs.Parts.{Part, gate-entry, gates-on, part-of}
+use Rattle.workers_account.proofs.Parts.{gate-entry, part-of}
 use Rattle.workers_account.proofs.SessionLogs.{replied-here}
 use Rattle.workers_account.proofs.Begun.{LeftLog, gained-log, left-log, logs-on, logs-right, made-there, none-ended, session-case, stamps-alike}
 

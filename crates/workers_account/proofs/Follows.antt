@@ -1,6 +1,6 @@
 -- A hand of a phase begins and judges what the script asks of its session, once and in turn.
 -- Used by ByLog, ClosedAccount, OpenPairs, Programs and Visited.
-use Rattle.std.proofs.Common.{◌≡◌, ◌≢◌, ℕ, ◌<◌, ◌≤◌, ◌==◌, Bool, List, [], ◌∷◌, ◌++◌, length, Contains, AllPairs, IsTrue, Option, None, Some, ◌⊎◌, inl, inr, refl, sym, ap, subst, ◌∙◌, arith}
+use Rattle.std.proofs.Common.{◌≡◌, ◌≢◌, ℕ, ◌<◌, ◌≤◌, ◌==◌, Bool, List, [], ◌∷◌, ◌++◌, length, Contains, AllPairs, IsTrue, Option, Some, inl, inr, refl, sym, ap, subst, ◌∙◌, arith}
 use Rattle.std.specs.Prelude.{◌&&◌, IsSomeAnd}
 use Rattle.std.specs.Option.{ForSome}
 use Rattle.std.proofs.lemmas.Bool.{and_from, eq-eqb}
@@ -30,8 +30,8 @@ use Rattle.weave_account.specs.GoesOn.{IsBeginningOf}
 use Rattle.weave_account.specs.Sessions.{SessionsClause, requests_of_session}
 use Rattle.weave_account.specs.Store.{InTurn}
 use Rattle.hands_account.specs.Runs.{WasGiven, own_begun, own_judgements}
-use Rattle.hands_account.proofs.Places.{pairs-append}
 use Rattle.seen_logs.specs.Seen.{IsOwn}
+use Rattle.seen_logs.proofs.Placed.{pairs-append}
 use Rattle.weaver_core.specs.declared.client.Client.{Client}
 use Rattle.weaver_core.specs.Sessions.{log_of_client}
 use Rattle.weaver_locks.specs.declared.hand.Hand.{Hand}
@@ -41,9 +41,9 @@ use Rattle.weaver_workers.specs.Carrying.{is_telling}
 use Rattle.workers_account.specs.Begins.{BeginsInTurn, IsBegunInTurn}
 use Rattle.workers_account.specs.Phase.{IsClosedBy, IsPhaseRun}
 use Rattle.workers_account.specs.PhaseLaws.{PhaseLaws}
-use Rattle.workers_account.proofs.Parts.{OnlyTold, Part, HasFollowed, part-of, seen-start}
+use Rattle.workers_account.proofs.Parts.{Part, part-of, seen-start}
 use Rattle.workers_account.proofs.SessionLogs.{begins-later, begun-here, begins-rise, later-differs, pairs-weaker}
-use Rattle.workers_account.proofs.Begun.{BegunInPart, LeftLog, all-has, begun-in-part, gained-log, left-log, logs-right, none-begun, start-logged}
+use Rattle.workers_account.proofs.Begun.{all-has, begun-in-part, gained-log, left-log, logs-right, none-begun, start-logged}
 use Rattle.workers_account.proofs.Ended.{sessions-kept}
 use Rattle.workers_account.proofs.Own.{own-begun-is, own-entry, own-judgements-are}
 use Rattle.hands_account.proofs.Needed.{list-within}

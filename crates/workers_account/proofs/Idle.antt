@@ -11,8 +11,8 @@ use Rattle.weave_entries.specs.declared.gate_log.GateEntry.{GateEntry}
 use Rattle.weave_entries.specs.GateReplay.{BegunRequest, begun_by, begun_in, ended_by, ended_in, program_by, tx_by}
 use Rattle.weave_account.specs.declared.account.Account.{Account}
 use Rattle.weave_account.specs.Account.{all_begun, gate_log}
+use Rattle.weave_account.proofs.GoesOn.{has-on}
 use Rattle.seen_logs.specs.Seen.{without_sessions}
-use Rattle.hands_account.proofs.Places.{has-on}
 use Rattle.weaver_core.specs.declared.client.Client.{Client}
 use Rattle.weaver_locks.specs.declared.hand.Hand.{Hand}
 use Rattle.weaver_locks.specs.declared.shared.Shared.{Shared}

@@ -10,11 +10,10 @@ use Rattle.program_defs.specs.declared.script.Script.{Script}
 use Rattle.weave_entries.specs.declared.gate_log.GateEntry.{GateEntry}
 use Rattle.weave_entries.specs.GateReplay.{BegunRequest, ended_by, ended_in, flight_of, has_ended_in, tx_by, txs_of}
 use Rattle.weave_account.specs.declared.account.Account.{Account}
-use Rattle.weave_account.specs.Account.{gate_log}
+use Rattle.weave_account.specs.Account.{gate_log, NoneInFlight}
 use Rattle.weave_account.specs.IsAccount.{IsAccount}
-use Rattle.hands_account.proofs.Places.{has-on}
+use Rattle.weave_account.proofs.GoesOn.{has-on}
 use Rattle.weaver_core.specs.declared.client.Client.{Client}
-use Rattle.weaver_core.specs.Splitting.{NoneInFlight}
 use Rattle.weaver_locks.specs.declared.hand.Hand.{Hand}
 use Rattle.weaver_locks.specs.declared.shared.Shared.{Shared}
 use Rattle.weaver_locks.specs.Hands.{hand_number, made_by}

@@ -1,12 +1,12 @@
 -- What each hand of a phase made at gatekeepers and the store since the phase's start; the closed logs of gatekeepers
 -- have nothing else.
--- Used by `hands_of_a_phase_visit_their_own`, Begun, ByLog, ClosedAccount, Ended, Follows, InFlight and 5 more.
-use Rattle.std.proofs.Common.{◌≡◌, ℕ, ◌<◌, ◌==◌, eq-eqb, Bool, List, [], ◌∷◌, ◌++◌, length, map, Contains, IsTrue, ◌⊎◌, inl, inr, refl, sym, ap, subst, ◌∙◌, arith}
+-- Used by `hands_of_a_phase_visit_their_own`, Begun, ByLog, ClosedAccount, Ended, Follows, InFlight, OpenPairs, Own,
+-- PhaseEnds, Programs and Visited.
+use Rattle.std.proofs.Common.{◌≡◌, ℕ, ◌<◌, ◌==◌, eq-eqb, List, [], ◌++◌, Contains, IsTrue, ◌⊎◌, inl, inr, refl, sym, ap, subst, ◌∙◌, arith}
 use Rattle.std.specs.Prelude.{slice_get}
 use Rattle.std.specs.List.{filter}
-use Rattle.std.proofs.lemmas.Bool.{eqb-true}
-use Rattle.std.proofs.lemmas.List.{append-nil, append_cancel_left}
-use Rattle.std.proofs.lemmas.List.Elements.{Contains-append_cases, filter-append}
+use Rattle.std.proofs.lemmas.List.{append-nil}
+use Rattle.std.proofs.lemmas.List.Elements.{Contains-append_cases}
 use Rattle.weave_data.proofs.Members.{cut_at, filter_has, has_filter, has_cut}
 use Rattle.program_defs.specs.declared.script.Script.{Script}
 use Rattle.weave_entries.specs.declared.gate_log.GateEntry.{GateEntry}
@@ -16,13 +16,14 @@ use Rattle.weave_entries.specs.OracleReplay.{settled_entry}
 use Rattle.weave_account.specs.declared.account.Account.{Account}
 use Rattle.weave_account.specs.Account.{gate_log}
 use Rattle.weave_account.specs.GoesOn.{IsBeginningOf}
-use Rattle.hands_account.proofs.Places.{earlier-place, onward}
+use Rattle.weave_account.proofs.GoesOn.{onward}
 use Rattle.seen_logs.specs.Seen.{IsWithin, VisitsOwnPrograms, without_sessions}
+use Rattle.seen_logs.proofs.Onward.{earlier-place}
 use Rattle.weaver_core.specs.declared.client.Client.{Client}
 use Rattle.weaver_locks.specs.declared.hand.Hand.{Hand}
 use Rattle.weaver_locks.specs.declared.shared.Shared.{Shared}
 use Rattle.weaver_locks.specs.Following.{VisitsItsOwnPrograms}
-use Rattle.weaver_locks.specs.Closing.{entries_by, seen_by_number}
+use Rattle.weaver_locks.specs.Closing.{seen_by_number}
 use Rattle.weaver_locks.specs.Hands.{hand_number, made_by, seen_by, IsHand}
 use Rattle.weaver_locks.specs.Locks.{hands_of, start_of}
 use Rattle.weaver_locks.proofs.EachLog.{row-at}

@@ -1,6 +1,6 @@
 -- Each program that a hand began since the start has read its vertices in turn, and a hand finishes no programs but
 -- those.
--- Used by ByLog, ClosedAccount and Idle.
+-- Used by ByLog, ClosedAccount, Idle and crate sessions_account.
 use Rattle.std.proofs.Common.{◌≡◌, ℕ, ◌-◌, ◌<◌, Bool, false, List, [], ◌∷◌, ◌++◌, length, drop, take, Contains, AllPairs, IsTrue, Option, None, Some, inl, inr, refl, sym, ap, subst, ◌∙◌, arith}
 use Rattle.std.specs.Prelude.{is_some, if◌then◌else◌}
 use Rattle.std.proofs.lemmas.List.{append-nil}
@@ -28,8 +28,9 @@ use Rattle.weave_account.specs.declared.account.Account.{Account}
 use Rattle.weave_account.specs.Account.{all_begun, gate_log, is_ended, reads_of, session_log}
 use Rattle.weave_account.specs.Programs.{ReadsInTurn}
 use Rattle.weave_account.specs.Sessions.{requests_of_session}
+use Rattle.weave_account.proofs.GoesOn.{has-on}
 use Rattle.hands_account.specs.Runs.{FinishesItsOwn, FinishesOwnPrograms, IsOwnProgram}
-use Rattle.hands_account.proofs.Places.{has-on, since-place}
+use Rattle.hands_account.proofs.Places.{since-place}
 use Rattle.hands_account.proofs.Programs.{reads-move}
 use Rattle.seen_logs.specs.Seen.{entries_since}
 use Rattle.weaver_core.specs.declared.client.Client.{Client}
@@ -72,6 +73,25 @@ ended-begun before author (BeganProgram q stamp) r h ends = absurd (has_none r h
 ended-begun before author (Nop shard number stamp low) r h ends = absurd (has_none r h)
 ended-begun before author (Heard clock) r h ends = absurd (has_none r h)
 ended-begun before author (Raised epoch) r h ends = absurd (has_none r h)
+
+-- a client has no request that waits for a reply, if its hand has seen what there was at the start and no more
+pub none-waits : (shared : Shared) (script : Script) (session : ℕ) (hand : Hand) (client : Client) → seen_by hand ≡ start_of shared
+    → KeepsClient shared script session hand client → client.session.waits ≡ false
+none-waits shared script session hand client seen keeps = by client.running refl
+  where
+    none-since : (one : Running) → IsRunningFor shared script hand client.session one → ⊥
+    none-since one for =
+        let home = one.stamp.home in
+        let log = gate_log (start_of shared) home in
+        let nothing : entries_since log (gate_log (seen_by hand) home) ≡ [] =
+        ap (λ (a : Account). drop (length log) (gate_log a home)) seen
+        ∙ ap (drop (length log)) (sym (append-nil log)) ∙ drop-append_seam log [] in
+        has_none (record { author = hand_number hand; request = one.request; stamp = one.stamp })
+        (subst (λ (l : List GateEntry). Contains (programs_of l) (record { author = hand_number hand; request = one.request; stamp = one.stamp })) nothing for.runs.begun)
+
+    by : (o : Option Running) → client.running ≡ o → client.session.waits ≡ false
+    by None is = keeps.waits ∙ ap is_some is
+    by (Some one) is = absurd (none-since one (keeps.running one is))
 
 module _ (laws : PhaseLaws) (shared : Shared) (script : Script) (upto : ℕ) (start : Account) (was is : List Client) (hands : List Hand)
     (run : IsPhaseRun shared script upto start was is hands) (closed : Account) (end : IsClosedBy shared script start is hands closed)
@@ -135,24 +155,6 @@ module _ (laws : PhaseLaws) (shared : Shared) (script : Script) (upto : ℕ) (st
 
   -- Finishes
 
-  -- no program of the session was running at the start
-  not-waiting : (session : ℕ) (client : Client) → KeepsClient shared script session part.from client → client.session.waits ≡ false
-  not-waiting session client keeps = by client.running refl
-    where
-      none-since : (one : Running) → IsRunningFor shared script part.from client.session one → ⊥
-      none-since one for =
-          let home = one.stamp.home in
-          let log = gate_log (start_of shared) home in
-          let nothing : entries_since log (gate_log (seen_by part.from) home) ≡ [] =
-          ap (λ (a : Account). drop (length log) (gate_log a home)) part.seen
-          ∙ ap (drop (length log)) (sym (append-nil log)) ∙ drop-append_seam log [] in
-          has_none (record { author = hand_number part.from; request = one.request; stamp = one.stamp })
-          (subst (λ (l : List GateEntry). Contains (programs_of l) (record { author = hand_number part.from; request = one.request; stamp = one.stamp })) nothing for.runs.begun)
-
-      by : (o : Option Running) → client.running ≡ o → client.session.waits ≡ false
-      by None is = keeps.waits ∙ ap is_some is
-      by (Some one) is = absurd (none-since one (keeps.running one is))
-
   -- a reply since then is of a request that began since then
   pub replied-new : (session : ℕ) (left : LeftLog laws shared script upto start was is hands run closed end session hand h) (r : ℕ)
       → Contains (replied_in left.part.has.followed.in_step.gained.session) r → (stamp : Stamp) → Contains (begins_in (session_log start session)) (r, stamp) → ⊥
@@ -165,7 +167,7 @@ module _ (laws : PhaseLaws) (shared : Shared) (script : Script) (upto : ℕ) (st
       let state : session_of requests log ≡ on.client.session =
       ap (λ (l : List SessionEntry). session_of requests l) left.was_log
       ∙ ap (λ (rs : List ℕ). session_of rs (log_of_client on.client)) (sym on.keeps.requests) ∙ sym on.keeps.at_end.state in
-      let waits : (session_of requests log).waits ≡ false = ap (λ (s : SessionState). s.waits) state ∙ not-waiting session on.client on.keeps in
+      let waits : (session_of requests log).waits ≡ false = ap (λ (s : SessionState). s.waits) state ∙ none-waits shared script session part.from on.client part.seen on.keeps in
       let count : replied_count (session_of requests log) ≡ (session_of requests log).begun =
       ap (λ (b : Bool). if b then (session_of requests log).begun - 1 else (session_of requests log).begun) waits in
       let replied : Contains (replied_in log) r =

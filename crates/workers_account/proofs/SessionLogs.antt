@@ -92,7 +92,7 @@ module _ (laws : PhaseLaws) (script : Script) (session : ℕ) (log : List Sessio
         | inr (inr less) ↦ absurd (omega (arith, less))
       ]
 
-  -- which is the one that the log says
+  -- and the log says that the request began with this stamp
   pub stamp-there : (r : ℕ) (stamp : Stamp) → Contains (begins_in log) (r, stamp) → session_stamp_of r log ≡ Some stamp
   stamp-there r stamp h =
       ap (option_map (λ (begun : ℕ × Stamp). begun.1))

@@ -25,20 +25,11 @@ use Rattle.weave_entries.specs.StoreReplay.{Judgement, judgements_of}
 use Rattle.weaver_locks.specs.StoreHolds.{judged_entries}
 use Rattle.weaver_workers.specs.Carrying.{is_telling}
 use Rattle.weaver_workers.specs.ClientWork.{begun_entry, replied_entry}
+use Rattle.weaver_workers.proofs.OnlyCarried.{no-begin}
 use Rattle.workers_account.specs.Gained.{AreInStep, IsBegunAtItsGate, IsJudgedFor}
 use Rattle.workers_account.proofs.OneGate.{at-each, at-it, at_one}
 
 -- Clocks and empty messages
-
--- they begin nothing
-telling-begins : (author : ℕ) (deed : GateDeed) → IsTrue (is_telling deed) → begun_by author deed ≡ []
-telling-begins author (Heard clock) tells = refl
-telling-begins author (Nop shard number stamp low) tells = refl
-telling-begins author (BeganTx r stamp) tells = absurd cc
-telling-begins author (BeganProgram r stamp) tells = absurd cc
-telling-begins author (Sent r messages) tells = refl
-telling-begins author (Raised epoch) tells = refl
-telling-begins author (Finished r) tells = refl
 
 -- they end nothing
 telling-ends : (deed : GateDeed) → IsTrue (is_telling deed) → ended_by deed ≡ []
@@ -67,7 +58,7 @@ Tells log = (entry : GateEntry) → Contains log entry → IsTrue (is_telling en
 none-begun : (log : List GateEntry) → Tells log → (begun : BegunRequest) → Contains (begun_in log) begun → ⊥
 none-begun log tells begun h =
     let of = flat_has (λ (entry : GateEntry). begun_by entry.author entry.deed) log begun h in
-    has_none begun (subst (λ (l : List BegunRequest). Contains l begun) (telling-begins of.0.author of.0.deed (tells of.0 of.1)) of.2)
+    has_none begun (subst (λ (l : List BegunRequest). Contains l begun) (no-begin of.0.author of.0.deed (tells of.0 of.1)) of.2)
 
 none-ended : (log : List GateEntry) → Tells log → (r : ℕ) → Contains (ended_in log) r → ⊥
 none-ended log tells r h =

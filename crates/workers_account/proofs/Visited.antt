@@ -1,6 +1,6 @@
 -- Who read what in a phase: each visit is of a program that had begun at the start, or of one that its hand began
 -- since.
--- Used by AskedFor, ByLog, Idle, OpenPairs, Programs, ReadyClients and crate sessions_account.
+-- Used by ByLog, Idle, OpenPairs, Programs and crate sessions_account.
 use Rattle.std.proofs.Common.{◌≡◌, ℕ, ◌<◌, ◌==◌, List, Contains, ◌⊎◌, inl, inr, sym, ap, subst, ◌∙◌, eq-eqb}
 use Rattle.std.specs.List.{filter}
 use Rattle.std.proofs.lemmas.Bool.{eqb-true}
@@ -21,9 +21,9 @@ use Rattle.weave_entries.proofs.OwnStamps.{program-begun}
 use Rattle.weave_account.specs.declared.account.Account.{Account}
 use Rattle.weave_account.specs.Account.{all_begun, gate_log, reads_of, shard_log}
 use Rattle.weave_account.specs.Shards.{ShardFitsAs}
+use Rattle.weave_account.proofs.GoesOn.{has-on}
 use Rattle.hands_account.proofs.ByHands.{start-or-hand, start-within}
 use Rattle.hands_account.proofs.Once.{begun-author as entry-author}
-use Rattle.hands_account.proofs.Places.{has-on}
 use Rattle.seen_logs.specs.Seen.{VisitsItsOwn, entries_since}
 use Rattle.weaver_core.specs.declared.client.Client.{Client}
 use Rattle.weaver_hands.specs.Programs.{own_reads}

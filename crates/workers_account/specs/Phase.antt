@@ -13,7 +13,8 @@ use Rattle.seen_logs.specs.Closed.{AreOfHands}
 use Rattle.seen_logs.specs.Seen.{AreLegal, IsWithin, without_sessions}
 use Rattle.weaver_core.specs.declared.client.Client.{Client}
 use Rattle.weaver_core.specs.Sessions.{log_of_client, requests_in}
-use Rattle.weaver_core.specs.Splitting.{IsClientByLog, NoneInFlight}
+use Rattle.weave_account.specs.Account.{NoneInFlight}
+use Rattle.weaver_core.specs.Splitting.{IsClientByLog}
 use Rattle.weaver_locks.specs.declared.hand.Hand.{Hand}
 use Rattle.weaver_locks.specs.declared.shared.Shared.{Shared}
 use Rattle.weaver_locks.specs.Closing.{entries_by, seen_by_number}

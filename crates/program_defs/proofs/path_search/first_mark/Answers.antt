@@ -1,11 +1,8 @@
-use Rattle.std.proofs.Common.{Result, Ok, Err, IsOk, OnOk, arith, ◌∙◌, ap}
+use Rattle.std.proofs.Common.{arith, ◌∙◌, ap}
+use Rattle.weave_data.proofs.Results.{with_ok}
 use Rattle.program_defs.specs.LeastWalks.{mark_in}
 use Rattle.program_defs.proofs.Noting.{first-mark}
 use Rattle.program_defs.proofs.path_search.first_mark.Goals as goal
-
-with_ok : {A E : Type 0} (P : Type 0) (r : Result A E) → IsOk r → OnOk r P → P
-with_ok P (Ok a) ok holds = holds
-with_ok P (Err e) ok holds = absurd (cc)
 
 pub returns : goal.returns
 returns c = λ v.

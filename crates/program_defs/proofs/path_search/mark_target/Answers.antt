@@ -1,12 +1,9 @@
-use Rattle.std.proofs.Common.{Result, Ok, Err, IsOk, OnOk, arith, ◌≡◌, ◌∙◌, sym, ap, Some, is_some, length}
+use Rattle.std.proofs.Common.{arith, ◌≡◌, ◌∙◌, sym, ap, Some, is_some, length}
 use Rattle.program_defs.specs.LeastWalks.{mark_in, with_mark}
 use Rattle.std.specs.Prelude.{if◌then◌else◌, false}
 use Rattle.weave_data.specs.Names.{same_name}
+use Rattle.weave_data.proofs.Results.{with_ok}
 use Rattle.program_defs.proofs.path_search.mark_target.Goals as goal
-
-with_ok : {A E : Type 0} (P : Type 0) (r : Result A E) → IsOk r → OnOk r P → P
-with_ok P (Ok a) ok holds = holds
-with_ok P (Err e) ok holds = absurd (cc)
 
 pub returns-clause-marks : goal.returns-clause-marks
 returns-clause-marks c = λ v.

@@ -1,6 +1,6 @@
 use Rattle.std.proofs.Common.{refl}
+use Rattle.weave_data.proofs.Images.{made-back}
 use Rattle.seen_logs.specs.Entries.{gate_entry, gate_pair, oracle_entry, oracle_pair, shard_entry, shard_pair, store_entry, store_pair}
-use Rattle.seen_logs.proofs.Paired.{made-back}
 use Rattle.seen_logs.proofs.laws.entries_come_back.Goals as goal
 
 pub returns : goal.returns

@@ -1,9 +1,8 @@
-use Rattle.std.proofs.Common.{◌≡◌, List, [], ◌∷◌, map, sym, ap, ◌∙◌, subst}
+use Rattle.std.proofs.Common.{◌≡◌, List, map, sym, ap, ◌∙◌, subst, drop}
 use Rattle.weave_entries.specs.declared.gate_log.GateEntry.{GateEntry}
 use Rattle.weave_entries.specs.declared.oracle_log.OracleEntry.{OracleEntry}
 use Rattle.weave_entries.specs.OracleReplay.{pairs_of_log}
 use Rattle.weave_account.specs.Account.{IsBegunStamp}
-use Rattle.chronicle.specs.Frames.{Frame}
 use Rattle.chronicle.specs.Passes.{lock_noted, number_of, own_entries, seen_by_pass}
 use Rattle.chronicle.specs.Holds.{log_at_entry, machine_of}
 use Rattle.lock_row.specs.Rows.{names_of}
@@ -13,10 +12,6 @@ use Rattle.lock_row.proofs.Meetings.{as_many}
 use Rattle.shard_lock.proofs.Lending.{follows, visited-over}
 use Rattle.shard_lock.proofs.Visits.{stamp-stays}
 use Rattle.shard_lock.proofs.visiting.visit_over.Goals as goal
-
-abbrev rest_of : Frame → Frame
-rest_of [] = []
-rest_of (x ∷ xs) = xs
 
 pub visit_with-read-requires-clause-begun : goal.visit_with-read-requires-clause-begun
 visit_with-read-requires-clause-begun g c = λ event h.
@@ -62,5 +57,5 @@ returns-clause-met g c =
     let locks = c.args.gates.now in
     let notes = c.state-state.result.now.gates in
     let names : map lock_noted notes ≡ names_of locks = ap (λ (v : OracleView). map lock_noted v.gates) c.state-state.ensures.value
-    ∙ ap rest_of (c.enter-held.ensures.frame ∙ c.requires.frame) in
+    ∙ ap (drop 1) (c.enter-held.ensures.frame ∙ c.requires.frame) in
     (notes, c.meet.new.self.gates, as_many locks notes names, c.meet.ensures.met)

@@ -1,10 +1,9 @@
-use Rattle.std.proofs.Common.{◌≡◌, List, [], ◌∷◌, map, sym, ap, ◌∙◌, subst}
+use Rattle.std.proofs.Common.{◌≡◌, List, map, sym, ap, ◌∙◌, subst, drop}
 use Rattle.weave_entries.specs.declared.gate_log.GateEntry.{GateEntry}
 use Rattle.weave_entries.specs.declared.oracle_log.OracleEntry.{OracleEntry}
 use Rattle.weave_entries.specs.OracleReplay.{pairs_of_log}
 use Rattle.backing_store.specs.Commits.{asked_at}
 use Rattle.weave_account.specs.Account.{IsBegunStamp}
-use Rattle.chronicle.specs.Frames.{Frame}
 use Rattle.chronicle.specs.Passes.{lock_noted, number_of}
 use Rattle.lock_row.specs.Rows.{names_of}
 use Rattle.chronicle.specs.Holds.{log_at_entry}
@@ -14,10 +13,6 @@ use Rattle.lock_row.proofs.Meetings.{as_many}
 use Rattle.store_lock.proofs.Begun.{stamp-stays}
 use Rattle.store_lock.proofs.Committing.{follows}
 use Rattle.store_lock.proofs.judging.judge_over.Goals as goal
-
-abbrev rest_of : Frame → Frame
-rest_of [] = []
-rest_of (x ∷ xs) = xs
 
 pub judge-judged-requires-clause-begun : goal.judge-judged-requires-clause-begun
 judge-judged-requires-clause-begun g c = λ event h.
@@ -39,5 +34,5 @@ returns-clause-met g c =
     let locks = c.args.gates.now in
     let notes = c.state-state.result.now.gates in
     let names : map lock_noted notes ≡ names_of locks = ap (λ (v : OracleView). map lock_noted v.gates) c.state-state.ensures.value
-    ∙ ap rest_of (c.enter-held.ensures.frame ∙ c.requires.frame) in
+    ∙ ap (drop 1) (c.enter-held.ensures.frame ∙ c.requires.frame) in
     (notes, c.meet.new.self.gates, as_many locks notes names, c.meet.ensures.met)

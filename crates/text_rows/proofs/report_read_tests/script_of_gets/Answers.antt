@@ -1,23 +1,17 @@
-use Rattle.std.proofs.Common.{◌≡◌, ℕ, ◌<◌, ◌^◌, List, [], ◌∷◌, length, sym, ap, ◌∙◌, subst, arith, lit<}
+use Rattle.std.proofs.Common.{◌≡◌, ◌<◌, ◌^◌, List, [], ◌∷◌, length, sym, ap, ◌∙◌, subst, lit<}
 use Rattle.std.specs.Prelude.{codes}
 use Rattle.std.specs.List.{AllByRecursion, IsDistinct}
 use Rattle.std.proofs.lemmas.Result.{IfOk-at_ok}
 use Rattle.weave_data.specs.Names.{same_name}
 use Rattle.program_defs.specs.declared.script.Request.{Request}
-use Rattle.program_defs.specs.declared.script.Work.{Work}
 use Rattle.program_defs.specs.Works.{ops_of}
 use Rattle.weave_report.specs.TextOf.{request_names}
+use Rattle.text_rows.proofs.Sizes.{few, small}
 use Rattle.text_rows.proofs.report_read_tests.script_of_gets.Goals as goal
 
 one_name : IsDistinct same_name (codes "t" ∷ [])
 unfolding IsDistinct
 one_name = (tt, tt)
-
-few : (work other : Work) → work ≡ other → length (ops_of other) < 2 ^ 32 → length (ops_of work) < 2 ^ 32
-few work other e h = subst (λ work. length (ops_of work) < 2 ^ 32) (sym e) h
-
-small : (n k : ℕ) → n ≡ k → k < 10 → n < 2 ^ 32
-small n k e h = omega arith
 
 pub returns : goal.returns
 returns g c =

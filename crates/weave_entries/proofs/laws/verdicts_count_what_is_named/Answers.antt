@@ -1,23 +1,18 @@
-use Rattle.std.proofs.Common.{◌≡◌, List, [], ◌∷◌, map, find, Option, None, Some, Ok, Err, refl, ap}
-use Rattle.weave_data.specs.declared.name.Name.{Name}
+use Rattle.std.proofs.Common.{List, find, Option, None, Some, Ok, Err}
 use Rattle.graph_ops.specs.declared.op.Op.{Op}
 use Rattle.graph_ops.specs.Mentions.{named_by}
 use Rattle.graph_ops.specs.PlainGraph.{TxOutcome, transaction}
 use Rattle.vector_stamp.specs.Order.{stamp_before}
 use Rattle.vector_stamp.specs.Precedence.{precedes}
-use Rattle.weave_entries.specs.declared.verdict.Counted.{Counted}
 use Rattle.weave_entries.specs.declared.verdict.Verdict.{Verdict}
 use Rattle.weave_entries.specs.Sending.{IsCountsOf}
-use Rattle.weave_entries.specs.StoreReplay.{Commit, count_naming, graph_committed}
+use Rattle.weave_entries.specs.StoreReplay.{Commit, graph_committed}
 use Rattle.weave_entries.specs.StoreRule.{LastCommit, lasts_of, asked_of, conflict_or, verdict_by}
 use Rattle.weave_entries.proofs.laws.verdicts_count_what_is_named.Goals as goal
-
-counted : (commits : List Commit) (names : List Name) → map (λ (c : Counted). c.vertex) (map (λ (v : Name). record { vertex = v; before = count_naming v commits }) names) ≡ names
-counted commits [] = refl
-counted commits (v ∷ names) = ap (λ vs. v ∷ vs) (counted commits names)
+use Rattle.weave_entries.proofs.StoreLogs.{vertices-counted}
 
 by_outcome : (ops : List Op) (commits : List Commit) (outcome : TxOutcome) → IsCountsOf ops (verdict_by ops commits outcome)
-by_outcome ops commits (Ok passed) = counted commits (named_by ops)
+by_outcome ops commits (Ok passed) = vertices-counted commits (named_by ops)
 by_outcome ops commits (Err stopped) = tt
 
 or_conflict : (ops : List Op) (last : Option LastCommit) (rest : Verdict) → IsCountsOf ops rest → IsCountsOf ops (conflict_or last rest)

@@ -1,12 +1,13 @@
 use Rattle.std.proofs.Common.{◌≡◌, ℕ, ap, subst, ◌∙◌}
 use Rattle.std.specs.Prelude.{not, nat_lt}
+use Rattle.weave_data.proofs.Results.{on_ok_map, on_err_map, on_err_known}
 use Rattle.gatekeeper.specs.Answers.{IsRefusedWhere}
 use Rattle.gatekeeper.specs.Gates.{GateView}
 use Rattle.gatekeeper.specs.declared.fault.GateFault.TheVariants.{Old}
 use Rattle.weave_entries.specs.declared.gate_log.GateDeed.TheVariants.{Raised}
 use Rattle.weave_entries.specs.GateReplay.{clock_of}
 use Rattle.weaver_core.proofs.AtGates.{room-then-adds, unchanged}
-use Rattle.weaver_core.proofs.Results.{on_err_known, on_err_map, on_ok_map, refused-where}
+use Rattle.weaver_core.proofs.Results.{refused-where}
 use Rattle.weaver_core.proofs.gates.raise_at.Goals as goal
 
 -- with no room all is as before

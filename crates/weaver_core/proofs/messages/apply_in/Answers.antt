@@ -1,11 +1,12 @@
 use Rattle.std.proofs.Common.{◌≡◌, ℕ, sym, subst}
+use Rattle.weave_data.proofs.Results.{on_err_known}
 use Rattle.shard_node.specs.Shards.{IsRightlyUnapplied}
 use Rattle.shard_node.specs.declared.fault.ApplyFault.{ApplyFault}
 use Rattle.shard_node.specs.declared.fault.ApplyFault.TheVariants as fault
 use Rattle.report_rules.specs.declared.report.StepAnswer.{StepAnswer}
 use Rattle.weaver_core.specs.Messages.{AppliesAtShard, IsAnswerToFault}
 use Rattle.weaver_core.specs.ShardTable.{ShardTable, shard_log_at}
-use Rattle.weaver_core.proofs.Results.{if_ok_map, on_err_known}
+use Rattle.weaver_core.proofs.Results.{if_ok_map}
 use Rattle.weaver_core.proofs.messages.apply_in.Goals as goal
 
 -- what is answered to a fault that is right

@@ -1,4 +1,5 @@
 use Rattle.std.proofs.Common.{◌≡◌, ◌<◌, List, length, None, Some, sym, ap, subst, ◌∙◌, arith}
+use Rattle.weave_data.proofs.Results.{on_err_map}
 use Rattle.program_defs.specs.declared.script.Step.TheVariants.{Visit}
 use Rattle.report_rules.specs.declared.report.StepAnswer.{StepAnswer}
 use Rattle.step_rules.specs.Answers.{answer_of}
@@ -10,7 +11,7 @@ use Rattle.weaver_core.specs.Cores.{AreSameMachines, MachinesDo, MachinesView}
 use Rattle.weaver_core.specs.Splitting.{AreAllByLog}
 use Rattle.weaver_core.proofs.Idle.{closed-done}
 use Rattle.weaver_core.proofs.Resting.{some-one}
-use Rattle.weaver_core.proofs.Results.{either_way, if_ok_map, on_err_map}
+use Rattle.weaver_core.proofs.Results.{either_way, if_ok_map}
 use Rattle.weaver_core.proofs.SameMachines.{are-of-same, did-after, did-before, running-twice}
 use Rattle.weaver_core.proofs.VisitWith.{idle-here, left-done, left-refused, runs-here}
 use Rattle.weaver_core.proofs.stepping.visit_with.Goals as goal

@@ -1,16 +1,13 @@
-use Rattle.std.proofs.Common.{rules, ◌≡◌, ◌∷◌, ◌++◌, [], List, length, refl, ap, ◌∙◌, arith}
+use Rattle.std.proofs.Common.{rules, ◌≡◌, ◌∷◌, ◌++◌, [], List, ap, ◌∙◌}
+use Rattle.std.proofs.lemmas.List.{nil_from_length}
 use Rattle.vector_stamp.specs.declared.clock.Stamp.{Stamp}
 use Rattle.vector_stamp.specs.Precedence.{GivenPair}
 use Rattle.version_chain.specs.TestJudge.{ends_more, ends_stay}
 use Rattle.shard_node.proofs.bench.TestJudgeJudge.settle.Goals as goal
 
-none_left : (others : List Stamp) → length others ≡ 0 → others ≡ []
-none_left [] is = refl
-none_left (x ∷ xs) is = absurd (omega (arith, is))
-
 pub returns-clause-known : goal.returns-clause-known
 returns-clause-known c =
-    let alone : c.args.earlier.now ≡ c.in-Some.event.now ∷ [] = c.in-Some.ensures.cases.0 ∙ ap (λ (others : List Stamp). c.in-Some.event.now ∷ others) (none_left c.in-Some.others.now (search rules)) in
+    let alone : c.args.earlier.now ≡ c.in-Some.event.now ∷ [] = c.in-Some.ensures.cases.0 ∙ ap (λ (others : List Stamp). c.in-Some.event.now ∷ others) (nil_from_length c.in-Some.others.now (search rules)) in
     let added : c.push_reserved.new.self.items ≡ c.args.self.now ++ (c.in-Some.event.now, c.args.later) ∷ [] = c.push_reserved.ensures.items ∙ ap (λ (pairs : List GivenPair). pairs ++ (c.in-Some.event.now, c.args.later) ∷ []) (c.in_ok-reserve.ensures.items ∙ c.self.view_is) in
     ends_more c.args.self.now c.push_reserved.new.self.items c.args.earlier.now c.in-Some.event.now c.args.later alone added
 

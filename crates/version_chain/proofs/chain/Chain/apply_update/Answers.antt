@@ -1,10 +1,11 @@
 use Rattle.std.proofs.Common.{◌≡◌, ◌+◌, ◌∷◌, ◌++◌, [], ℕ, List, sym, ap, subst, ◌∙◌, arith}
+use Rattle.weave_data.proofs.Results.{on_err_known}
 use Rattle.vector_stamp.specs.declared.clock.Stamp.{Stamp}
 use Rattle.version_parts.specs.Placed.{AreUpTo}
 use Rattle.version_chain.specs.declared.version.Version.{Version}
 use Rattle.version_chain.specs.Chains.{with_update}
 use Rattle.version_chain.specs.Keeping.{kept_from, IsKept}
-use Rattle.version_chain.proofs.Changed.{counted_before, passes_before, refused_kept, same_versions, applied_kept, applied_versions, err_known}
+use Rattle.version_chain.proofs.Changed.{counted_before, passes_before, refused_kept, same_versions, applied_kept, applied_versions}
 use Rattle.version_chain.proofs.chain.Chain.apply_update.Goals as goal
 
 pub add_update-requires-clause-within : goal.add_update-requires-clause-within
@@ -25,7 +26,7 @@ invariant_of-self-in_err-add_update c =
 pub returns-in_err-add_update-clause-refused : goal.returns-in_err-add_update-clause-refused
 returns-in_err-add_update-clause-refused c =
     let count = counted_before c.self.inside.dropped c.self.inside.parts c.self.inside.stamps.items c.args.self.now c.args.before c.self.view_is c.requires.count in
-    err_known c.from_residual-in_err-add_update.result _
+    on_err_known c.from_residual-in_err-add_update.result _
     (ap (λ (stamps : List Stamp). record { dropped = c.self.inside.dropped; kept = kept_from c.self.inside.dropped c.add_update.new.self stamps }) c.reserve.ensures.items
     ∙ ap (λ (versions : List Version). record { dropped = c.self.inside.dropped; kept = versions }) (same_versions c.self.inside.dropped c.args.before c.self.inside.parts c.add_update.new.self c.self.inside.stamps.items c.self.invariant count c.add_update.ensures.earlier)
     ∙ c.self.view_is)

@@ -1,6 +1,7 @@
 use Rattle.std.proofs.Common.{◌≡◌, ℕ, ◌<◌, List, [], length, IsTrue, sym, ap, subst, ◌∙◌}
 use Rattle.std.specs.Prelude.{◌&&◌, is_some, slice_set}
 use Rattle.std.specs.Option.{ForSome}
+use Rattle.weave_data.proofs.Results.{on_err_map}
 use Rattle.vector_stamp.specs.declared.clock.Stamp.{Stamp}
 use Rattle.vector_stamp.specs.Clocks.{counts_no_more}
 use Rattle.vector_stamp.specs.Order.{stamp_before}
@@ -13,7 +14,7 @@ use Rattle.weave_entries.specs.GateReplay.{begun_stamp, clock_of, flight_of}
 use Rattle.step_rules.specs.Entries.{begin_deed}
 use Rattle.weaver_core.specs.GateTable.{AddsToGate, GateTable, gate_log_at, log_of_gate}
 use Rattle.weaver_core.proofs.AtGates.{adds-at, in-order-after, in-order-still, table-rests, table_of, unchanged}
-use Rattle.weaver_core.proofs.Results.{either_way, if_ok_map, on_err_map}
+use Rattle.weaver_core.proofs.Results.{either_way, if_ok_map}
 use Rattle.weaver_core.proofs.Tables.{image-at, read-at, within-image}
 use Rattle.weaver_core.proofs.gates.Gates.begin.Goals as goal
 

@@ -1,10 +1,11 @@
 use Rattle.std.proofs.Common.{◌≡◌, ◌<◌, length, sym, ap, subst, ◌∙◌}
 use Rattle.std.specs.Prelude.{slice_set}
+use Rattle.weave_data.proofs.Results.{on_ok_map, on_err_map}
 use Rattle.gatekeeper.specs.Gates.{Adds, GateView}
 use Rattle.weave_entries.specs.declared.gate_log.GateDeed.TheVariants.{Heard}
 use Rattle.weaver_core.specs.GateTable.{AddsToGate, GateTable, log_of_gate}
 use Rattle.weaver_core.proofs.AtGates.{adds-at, in-order-after, in-order-still, table-rests, table_of, unchanged}
-use Rattle.weaver_core.proofs.Results.{on_either, on_err_map, on_ok_map}
+use Rattle.weaver_core.proofs.Results.{on_either}
 use Rattle.weaver_core.proofs.Tables.{read-at, within-image}
 use Rattle.weaver_core.proofs.gates.Gates.hear.Goals as goal
 

@@ -1,5 +1,6 @@
 use Rattle.std.proofs.Common.{◌≡◌, ◌<◌, [], length, sym, ap, subst, ◌∙◌}
 use Rattle.std.specs.Prelude.{is_some, slice_set}
+use Rattle.weave_data.proofs.Results.{on_ok_map, on_err_map}
 use Rattle.gatekeeper.specs.Answers.{IsRefusedWhere}
 use Rattle.gatekeeper.specs.Gates.{Adds, GateView}
 use Rattle.gatekeeper.specs.declared.fault.GateFault.TheVariants.{Busy}
@@ -8,7 +9,7 @@ use Rattle.weave_entries.specs.GateReplay.{flight_of}
 use Rattle.weaver_core.specs.GateTable.{AddsToGate, GateTable, gate_log_at, log_of_gate}
 use Rattle.weaver_core.specs.Messages.{nop_deed}
 use Rattle.weaver_core.proofs.AtGates.{adds-at, in-order-after, in-order-still, table-rests, table_of, unchanged}
-use Rattle.weaver_core.proofs.Results.{on_either, on_err_map, on_ok_map}
+use Rattle.weaver_core.proofs.Results.{on_either}
 use Rattle.weaver_core.proofs.Tables.{image-at, read-at, within-image}
 use Rattle.weaver_core.proofs.gates.Gates.nop.Goals as goal
 

@@ -1,5 +1,6 @@
 use Rattle.std.proofs.Common.{◌≡◌, ℕ, ◌<◌, [], length, sym, ap, subst, ◌∙◌}
 use Rattle.std.specs.Prelude.{nat_lt, not, slice_set}
+use Rattle.weave_data.proofs.Results.{on_ok_map, on_err_map}
 use Rattle.gatekeeper.specs.Answers.{IsRefusedWhere}
 use Rattle.gatekeeper.specs.Gates.{Adds}
 use Rattle.gatekeeper.specs.declared.fault.GateFault.TheVariants.{Old}
@@ -7,7 +8,7 @@ use Rattle.weave_entries.specs.declared.gate_log.GateDeed.TheVariants.{Raised}
 use Rattle.weave_entries.specs.GateReplay.{clock_of}
 use Rattle.weaver_core.specs.GateTable.{AddsToGate, GateTable, IsSameGate, gate_log_at, log_of_gate}
 use Rattle.weaver_core.proofs.AtGates.{adds-at, in-order-after, in-order-still, table-rests, table_of}
-use Rattle.weaver_core.proofs.Results.{on_either, on_err_map, on_ok_map}
+use Rattle.weaver_core.proofs.Results.{on_either}
 use Rattle.weaver_core.proofs.Tables.{image-at, read-at, within-image}
 use Rattle.weaver_core.proofs.gates.Gates.raise.Goals as goal
 

@@ -1,6 +1,7 @@
 use Rattle.std.proofs.Common.{◌≡◌, ◌<◌, [], List, Some, length, sym, ap, subst, ◌∙◌}
 use Rattle.std.specs.Prelude.{slice_set}
 use Rattle.std.specs.Option.{ForSome}
+use Rattle.weave_data.proofs.Results.{on_ok_map, on_err_map}
 use Rattle.gatekeeper.specs.Gates.{GateView, SendsFlight}
 use Rattle.weave_entries.specs.declared.gate_log.GateEntry.{GateEntry}
 use Rattle.weave_entries.specs.declared.gate_log.GateDeed.TheVariants.{Sent}
@@ -8,7 +9,7 @@ use Rattle.weave_entries.specs.GateReplay.{BegunRequest, flight_of}
 use Rattle.weave_entries.specs.Sending.{messages_of}
 use Rattle.weaver_core.specs.GateTable.{AddsToGate, GateTable, gate_log_at, log_of_gate}
 use Rattle.weaver_core.proofs.AtGates.{in-order-after, in-order-still, sends-at, table-rests, table_of, unchanged}
-use Rattle.weaver_core.proofs.Results.{on_either, on_err_map, on_ok_map}
+use Rattle.weaver_core.proofs.Results.{on_either}
 use Rattle.weaver_core.proofs.Tables.{image-at, read-at, within-image}
 use Rattle.weaver_core.proofs.gates.Gates.send.Goals as goal
 

@@ -1,11 +1,12 @@
 use Rattle.std.proofs.Common.{◌≡◌, ◌∙◌, sym, subst}
+use Rattle.weave_data.proofs.Results.{on_err_map}
 use Rattle.program_defs.specs.declared.script.Step.TheVariants.{Apply}
 use Rattle.report_rules.specs.declared.report.StepAnswer.{StepAnswer}
 use Rattle.weaver_core.specs.Cores.{MachinesDo, MachinesView, CanBeGiven, machines_of}
 use Rattle.weaver_core.specs.Messages.{AppliesAtShard}
 use Rattle.weaver_core.proofs.MessagesDone.{apply-done, shard-there}
 use Rattle.weaver_core.proofs.Resting.{same-shards, sender-there}
-use Rattle.weaver_core.proofs.Results.{if_ok_map, on_err_map}
+use Rattle.weaver_core.proofs.Results.{if_ok_map}
 use Rattle.weaver_core.proofs.machines.Machines.apply.Goals as goal
 
 -- that a head passes whose counts agree is the law of accounts

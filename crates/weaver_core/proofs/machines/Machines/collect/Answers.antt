@@ -1,10 +1,10 @@
 use Rattle.std.proofs.Common.{◌∙◌, sym, subst}
+use Rattle.weave_data.proofs.Results.{on_err_known}
 use Rattle.program_defs.specs.declared.script.Step.TheVariants.{Collect}
 use Rattle.report_rules.specs.declared.report.StepAnswer.TheVariants.{Ok}
 use Rattle.weaver_core.specs.Cores.{MachinesDo, MachinesView, CanBeGiven, machines_of}
 use Rattle.weaver_core.proofs.MessagesDone.{collect-done, shard-there}
 use Rattle.weaver_core.proofs.Resting.{same-shards}
-use Rattle.weaver_core.proofs.Results.{on_err_known}
 use Rattle.weaver_core.proofs.machines.Machines.collect.Goals as goal
 
 -- the shard is there

@@ -1,4 +1,5 @@
 use Rattle.std.proofs.Common.{◌≡◌, ◌<◌, ◌^◌, ◌-◌, ◌∙◌, length, sym, subst, arith}
+use Rattle.weave_data.proofs.Results.{on_err_map}
 use Rattle.program_defs.specs.declared.script.Step.TheVariants.{Deliver}
 use Rattle.report_rules.specs.declared.report.StepAnswer.{StepAnswer}
 use Rattle.weave_entries.specs.StoreReplay.{commits_of}
@@ -6,7 +7,7 @@ use Rattle.weaver_core.specs.Cores.{MachinesDo, MachinesView, CanBeGiven, machin
 use Rattle.weaver_core.specs.Messages.{DeliversToShard}
 use Rattle.weaver_core.proofs.MessagesDone.{can-be-taken, deliver-done, shard-there}
 use Rattle.weaver_core.proofs.Resting.{gate-there, same-shards, sender-there}
-use Rattle.weaver_core.proofs.Results.{if_ok_map, on_err_map}
+use Rattle.weaver_core.proofs.Results.{if_ok_map}
 use Rattle.weaver_core.proofs.machines.Machines.deliver.Goals as goal
 
 pub deliver_in-requires : goal.deliver_in-requires

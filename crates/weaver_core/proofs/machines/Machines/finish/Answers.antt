@@ -1,5 +1,6 @@
 use Rattle.std.proofs.Common.{◌≡◌, ℕ, List, Some, is_some, get_or, sym, ap, subst, ◌∙◌}
 use Rattle.std.proofs.lemmas.Option.{same_Some}
+use Rattle.weave_data.proofs.Results.{on_err_map}
 use Rattle.program_defs.specs.declared.script.Request.{Request}
 use Rattle.program_defs.specs.declared.script.Script.{Script}
 use Rattle.program_defs.specs.declared.script.Step.TheVariants.{Reply}
@@ -14,7 +15,7 @@ use Rattle.weaver_core.specs.Walks.{IsLook}
 use Rattle.weaver_core.proofs.CitedLaws.{RunLaws}
 use Rattle.weaver_core.proofs.FinishDone.{can-be-finished, finish-done, finish-values}
 use Rattle.weaver_core.proofs.Resting.{found, same-sessions}
-use Rattle.weaver_core.proofs.Results.{if_ok_map, on_err_map}
+use Rattle.weaver_core.proofs.Results.{if_ok_map}
 use Rattle.weaver_core.proofs.machines.Machines.finish.Goals as goal
 
 -- the request that was read is the program

@@ -1,4 +1,5 @@
 use Rattle.std.proofs.Common.{◌≡◌, ◌∙◌, List, sym, subst}
+use Rattle.weave_data.proofs.Results.{on_err_map}
 use Rattle.vector_stamp.specs.declared.clock.Clock.{Clock}
 use Rattle.program_defs.specs.declared.script.Step.TheVariants.{Hear}
 use Rattle.report_rules.specs.declared.report.StepAnswer.{StepAnswer}
@@ -6,7 +7,7 @@ use Rattle.weaver_core.specs.Clocks.{Hears}
 use Rattle.weaver_core.specs.Cores.{MachinesDo, MachinesView, CanBeGiven, machines_of}
 use Rattle.weaver_core.proofs.ClockDone.{hear-done}
 use Rattle.weaver_core.proofs.Resting.{gate-there, same-gates}
-use Rattle.weaver_core.proofs.Results.{if_ok_map, on_err_map}
+use Rattle.weaver_core.proofs.Results.{if_ok_map}
 use Rattle.weaver_core.proofs.machines.Machines.hear.Goals as goal
 
 pub hear_in-requires : goal.hear_in-requires

@@ -1,7 +1,7 @@
 use Rattle.std.proofs.Common.{IsTrue, subst}
 use Rattle.std.specs.Prelude.{◌↔◌}
 use Rattle.weaver_core.specs.Cores.{MachinesView}
-use Rattle.weaver_core.specs.Splitting.{NoneInFlight}
+use Rattle.weave_account.specs.Account.{NoneInFlight}
 use Rattle.weaver_core.proofs.machines.Machines.none_in_flight.Goals as goal
 
 pub returns : goal.returns

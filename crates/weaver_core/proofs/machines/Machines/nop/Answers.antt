@@ -1,11 +1,12 @@
 use Rattle.std.proofs.Common.{◌≡◌, ◌∙◌, sym, subst}
+use Rattle.weave_data.proofs.Results.{on_err_map}
 use Rattle.program_defs.specs.declared.script.Step.TheVariants.{Nop}
 use Rattle.report_rules.specs.declared.report.StepAnswer.{StepAnswer}
 use Rattle.weaver_core.specs.Cores.{MachinesDo, MachinesView, CanBeGiven, machines_of}
 use Rattle.weaver_core.specs.Messages.{DoesNop}
 use Rattle.weaver_core.proofs.MessagesDone.{nop-done}
 use Rattle.weaver_core.proofs.Resting.{gate-there, receiver-there, same-gates}
-use Rattle.weaver_core.proofs.Results.{if_ok_map, on_err_map}
+use Rattle.weaver_core.proofs.Results.{if_ok_map}
 use Rattle.weaver_core.proofs.machines.Machines.nop.Goals as goal
 
 pub nop_in-requires : goal.nop_in-requires

@@ -1,4 +1,5 @@
 use Rattle.std.proofs.Common.{◌∙◌, sym, subst}
+use Rattle.weave_data.proofs.Results.{on_err_map}
 use Rattle.program_defs.specs.declared.script.Step.TheVariants.{Reply}
 use Rattle.report_rules.specs.declared.report.StepAnswer.{StepAnswer}
 use Rattle.weaver_core.specs.Sessions.{AreSameClients}
@@ -6,7 +7,7 @@ use Rattle.weaver_core.specs.Cores.{MachinesDo, MachinesView, CanBeGiven, Replie
 use Rattle.weaver_core.specs.GivingReplies.{Replies}
 use Rattle.weaver_core.proofs.ReplyDone.{ReplyLaws, reply-done, reply-values, there}
 use Rattle.weaver_core.proofs.Resting.{same-sessions, some-request}
-use Rattle.weaver_core.proofs.Results.{if_ok_map, on_err_map}
+use Rattle.weaver_core.proofs.Results.{if_ok_map}
 use Rattle.weaver_core.proofs.machines.Machines.reply.Goals as goal
 
 pub reply_in-requires : goal.reply_in-requires

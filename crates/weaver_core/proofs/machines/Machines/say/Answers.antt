@@ -1,11 +1,11 @@
 use Rattle.std.proofs.Common.{◌∙◌, ◌++◌, ◌∷◌, [], List, sym, ap, subst}
+use Rattle.weave_data.proofs.Results.{on_err_known}
 use Rattle.vector_stamp.specs.declared.clock.Clock.{Clock}
 use Rattle.program_defs.specs.declared.script.Step.TheVariants.{Say}
 use Rattle.report_rules.specs.declared.report.StepAnswer.TheVariants.{Ok}
 use Rattle.weaver_core.specs.Cores.{MachinesDo, MachinesView, CanBeGiven, machines_of}
 use Rattle.weaver_core.proofs.ClockDone.{say-done}
 use Rattle.weaver_core.proofs.Resting.{gate-there}
-use Rattle.weaver_core.proofs.Results.{on_err_known}
 use Rattle.weaver_core.proofs.machines.Machines.say.Goals as goal
 
 -- the gatekeeper is there

@@ -1,10 +1,11 @@
 use Rattle.std.proofs.Common.{◌≡◌, ◌∙◌, sym, subst}
+use Rattle.weave_data.proofs.Results.{on_err_map}
 use Rattle.program_defs.specs.declared.script.Step.TheVariants.{Send}
 use Rattle.report_rules.specs.declared.report.StepAnswer.{StepAnswer}
 use Rattle.weaver_core.specs.Cores.{MachinesDo, MachinesView, CanBeGiven, machines_of}
 use Rattle.weaver_core.specs.Sending.{SendsJudgedFlight}
 use Rattle.weaver_core.proofs.Resting.{gate-there, same-gates}
-use Rattle.weaver_core.proofs.Results.{if_ok_map, on_err_map}
+use Rattle.weaver_core.proofs.Results.{if_ok_map}
 use Rattle.weaver_core.proofs.SendDone.{send-done}
 use Rattle.weaver_core.proofs.machines.Machines.send.Goals as goal
 

@@ -2,6 +2,7 @@ use Rattle.std.proofs.Common.{◌≡◌, ◌≤◌, ◌<◌, ℕ, length, sym, s
 use Rattle.std.proofs.Math.Nat.{mod-lt}
 use Rattle.weave_data.specs.Names.{shard_of}
 use Rattle.weave_data.specs.declared.name.Name.{Name}
+use Rattle.weave_data.proofs.Results.{on_err_map}
 use Rattle.program_defs.specs.declared.script.Script.{Script}
 use Rattle.program_defs.specs.declared.script.Step.TheVariants.{Visit}
 use Rattle.report_rules.specs.declared.report.StepAnswer.{StepAnswer}
@@ -12,7 +13,7 @@ use Rattle.weaver_core.proofs.CanVisit.{CanVisitLaws, can-be-visited}
 use Rattle.weaver_core.proofs.CitedLaws.{RunLaws}
 use Rattle.weaver_core.proofs.VisitDone.{visit-done, visit-stamp}
 use Rattle.weaver_core.proofs.VisitAfter.{account-after, request-below, runs-after, runs-if-same}
-use Rattle.weaver_core.proofs.Results.{either_way, if_ok_map, on_err_map}
+use Rattle.weaver_core.proofs.Results.{either_way, if_ok_map}
 use Rattle.weaver_core.proofs.machines.Machines.visit.Goals as goal
 
 pub visit_next-requires : goal.visit_next-requires

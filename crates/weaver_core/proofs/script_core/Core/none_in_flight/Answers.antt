@@ -1,6 +1,6 @@
 use Rattle.std.proofs.Common.{IsTrue, subst}
 use Rattle.weaver_core.specs.Cores.{CoreView}
-use Rattle.weaver_core.specs.Splitting.{NoneInFlight}
+use Rattle.weave_account.specs.Account.{NoneInFlight}
 use Rattle.weaver_core.proofs.script_core.Core.none_in_flight.Goals as goal
 
 pub returns-clause-landed : goal.returns-clause-landed

@@ -1,7 +1,8 @@
 use Rattle.std.proofs.Common.{sym, ap, subst, ◌∙◌}
 use Rattle.program_defs.specs.declared.script.Script.{Script}
 use Rattle.weaver_core.specs.Cores.{AreOf, CoreView}
-use Rattle.weaver_core.specs.Splitting.{AreAllByLog, ArePartsFor, NoneInFlight}
+use Rattle.weave_account.specs.Account.{NoneInFlight}
+use Rattle.weaver_core.specs.Splitting.{AreAllByLog, ArePartsFor}
 use Rattle.weaver_core.proofs.Parts.{can-be-joined}
 use Rattle.weaver_core.proofs.script_core.Core.split.Goals as goal
 

@@ -1,10 +1,11 @@
 use Rattle.std.proofs.Common.{ap, refl, subst, sym, ◌∙◌}
+use Rattle.weave_data.proofs.Results.{on_err_map}
 use Rattle.report_rules.specs.declared.report.StepAnswer.{StepAnswer}
 use Rattle.step_rules.specs.IsCore.{IsStepOf}
 use Rattle.step_rules.specs.CoreState.{CoreState}
 use Rattle.weaver_core.specs.Cores.{AreOf, AreSameMachines, CoreView, DoesStep, MachinesDo}
 use Rattle.weaver_core.proofs.CoreDone.{are-after}
-use Rattle.weaver_core.proofs.Results.{either_way, if_ok_map, on_err_map}
+use Rattle.weaver_core.proofs.Results.{either_way, if_ok_map}
 use Rattle.weaver_core.proofs.SameMachines.{are-of-same}
 use Rattle.weaver_core.proofs.script_core.Core.step.Goals as goal
 

@@ -1,9 +1,9 @@
 use Rattle.std.proofs.Common.{◌<◌, ◌≤◌, ℕ, length, sym, subst}
 use Rattle.std.specs.Prelude.{slice_set}
 use Rattle.weave_data.proofs.Lists.{get_set_here}
+use Rattle.weave_data.proofs.Results.{on_ok_map}
 use Rattle.weaver_core.specs.Sessions.{AreSameClients, ClientTable, log_of_client, spare_of}
 use Rattle.weaver_core.proofs.AtClients.{clients-rest, numbered-same, table_of}
-use Rattle.weaver_core.proofs.Results.{on_ok_map}
 use Rattle.weaver_core.proofs.Tables.{image-at, read-at, within-image}
 use Rattle.weaver_core.proofs.sessions.Clients.reserve.Goals as goal
 

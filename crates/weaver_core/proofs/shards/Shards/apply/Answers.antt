@@ -1,6 +1,7 @@
 use Rattle.std.proofs.Common.{◌≡◌, ◌<◌, ◌+◌, List, None, length, sym, ap, subst, ◌∙◌}
 use Rattle.std.specs.Prelude.{IfErr, slice_set}
 use Rattle.std.specs.Option.{ForSome}
+use Rattle.weave_data.proofs.Results.{on_err_map}
 use Rattle.shard_node.specs.Shards.{AddsEntry, CanApplyHead, IsRightlyUnapplied}
 use Rattle.shard_node.specs.declared.fault.ApplyFault.{ApplyFault}
 use Rattle.weave_entries.specs.declared.message.Message.{Message}
@@ -11,7 +12,7 @@ use Rattle.weave_entries.specs.ShardRules.{PassesAt}
 use Rattle.weaver_core.specs.Messages.{AppliesHead}
 use Rattle.weaver_core.specs.ShardTable.{ShardTable, shard_log_at, log_of_shard}
 use Rattle.weaver_core.proofs.AtShards.{alike-if-adds, alike-if-same, applies-at, log-is, still-in-order, table-rests, table_of}
-use Rattle.weaver_core.proofs.Results.{on_either, on_err_map, on_ok_two}
+use Rattle.weaver_core.proofs.Results.{on_either, on_ok_two}
 use Rattle.weaver_core.proofs.Tables.{read-at, within-image}
 use Rattle.weaver_core.proofs.shards.Shards.apply.Goals as goal
 

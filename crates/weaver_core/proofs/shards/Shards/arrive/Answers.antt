@@ -1,11 +1,12 @@
 use Rattle.std.proofs.Common.{◌≡◌, ◌<◌, length, sym, ap, subst, ◌∙◌}
 use Rattle.std.specs.Prelude.{slice_set}
+use Rattle.weave_data.proofs.Results.{on_err_map}
 use Rattle.shard_queue.specs.declared.inbox.Arrival.{Arrival}
 use Rattle.weave_entries.specs.declared.shard_log.ShardDeed.TheVariants.{Arrived}
 use Rattle.weaver_core.specs.Messages.{ArrivesAtShard}
 use Rattle.weaver_core.specs.ShardTable.{ShardTable, log_of_shard}
 use Rattle.weaver_core.proofs.AtShards.{alike-if-arrives, arrives-at, still-in-order, table-rests, table_of}
-use Rattle.weaver_core.proofs.Results.{if_ok_three, on_err_map}
+use Rattle.weaver_core.proofs.Results.{if_ok_three}
 use Rattle.weaver_core.proofs.Tables.{read-at, within-image}
 use Rattle.weaver_core.proofs.shards.Shards.arrive.Goals as goal
 

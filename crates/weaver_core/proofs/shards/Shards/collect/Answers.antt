@@ -1,11 +1,12 @@
 use Rattle.std.proofs.Common.{◌≡◌, ◌<◌, length, sym, subst, ◌∙◌}
 use Rattle.std.specs.Prelude.{slice_set}
+use Rattle.weave_data.proofs.Results.{on_ok_map, on_err_map}
 use Rattle.shard_node.specs.Shards.{AddsEntry}
 use Rattle.weave_entries.specs.declared.shard_log.ShardDeed.TheVariants.{Collected}
 use Rattle.weave_entries.specs.ShardReplay.{bound_of}
 use Rattle.weaver_core.specs.ShardTable.{AddsToShard, ShardTable, shard_log_at, log_of_shard}
 use Rattle.weaver_core.proofs.AtShards.{adds-at, alike-if-adds, alike-if-same, log-is, still-in-order, table-rests, table_of}
-use Rattle.weaver_core.proofs.Results.{on_either, on_err_map, on_ok_map}
+use Rattle.weaver_core.proofs.Results.{on_either}
 use Rattle.weaver_core.proofs.Tables.{read-at, within-image}
 use Rattle.weaver_core.proofs.shards.Shards.collect.Goals as goal
 

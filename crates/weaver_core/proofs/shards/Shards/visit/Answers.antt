@@ -1,5 +1,6 @@
 use Rattle.std.proofs.Common.{◌≡◌, ◌<◌, ◌++◌, IsTrue, true, List, None, length, map, take, refl, sym, ap, subst, ◌∙◌}
 use Rattle.std.specs.Prelude.{IfErr, slice_set}
+use Rattle.weave_data.proofs.Results.{on_err_map}
 use Rattle.graph_ops.specs.Operations.{State}
 use Rattle.shard_node.specs.Shards.{AddsEntry, IsRightlyUnread}
 use Rattle.shard_node.specs.declared.fault.VisitFault.{VisitFault}
@@ -12,7 +13,7 @@ use Rattle.weaver_core.specs.ShardTable.{ShardTable, shard_log_at, log_of_shard}
 use Rattle.weaver_core.specs.Visiting.{Reads}
 use Rattle.weaver_core.proofs.AtShards.{alike-if-adds, alike-if-same, log-is, still-in-order, table_of}
 use Rattle.weaver_core.proofs.AtVisits.{VisitLaws, if_ok_on_three, oracle-same, reads-at}
-use Rattle.weaver_core.proofs.Results.{on_either, on_err_map}
+use Rattle.weaver_core.proofs.Results.{on_either}
 use Rattle.weaver_core.proofs.Tables.{read-at, within-image}
 use Rattle.weaver_core.proofs.shards.Shards.visit.Goals as goal
 

@@ -10,10 +10,10 @@ use Rattle.chronicle.specs.declared.pass.Pass.{Pass}
 use Rattle.chronicle.specs.Holds.{machine_of}
 use Rattle.chronicle.specs.Passes.{seen_by_pass}
 use Rattle.shard_lock.specs.Notes.{NotedShardView}
+use Rattle.oracle_lock.proofs.Settling.{pairs_back}
 use Rattle.weaver_locks.proofs.Beside.{oracle_found}
 use Rattle.weaver_locks.proofs.FrameParts.{oracle_framed}
 use Rattle.weaver_locks.proofs.RowAsked.{all_ready, as_many, few_locks}
-use Rattle.weaver_locks.proofs.Seeing.{oracles_back}
 use Rattle.weaver_locks.proofs.ShardAsked.{gate_count, gates_legal, its_note, kept_here, notes_met, runs_here}
 use Rattle.weaver_locks.proofs.ShardVisited.{oracle_keeps, oracle_refers_on, oracle_was, visit_done, visit_follows, visited_here}
 use Rattle.weaver_locks.proofs.shared.Shared.visit.Goals as goal
@@ -117,7 +117,7 @@ returns-clause-hold g c =
       oracle_found = oracle_found c.args.self.now c.args.hand.now
           (record { gates = c.enter_shard-held.new.hand.gates; store = c.enter_shard-held.new.hand.store; oracle = did.new.pass; shards = c.enter_shard-held.new.hand.shards })
           c.requires.hand e.answer.0 _ adds;
-      oracle_left = ap (λ (p : Pass OracleDeed). oracle_entries (seen_by_pass p)) same ∙ (ap oracle_entries adds.left ∙ oracles_back _);
+      oracle_left = ap (λ (p : Pass OracleDeed). oracle_entries (seen_by_pass p)) same ∙ (ap oracle_entries adds.left ∙ pairs_back _);
       oracle_refers = oracle_refers_on c.the_crates_below_keep_their_laws.ensures (length c.args.self.now.shards.items) c.leave_shard.new.hand _ did.new.pass
           (ap (λ (v : Vec (Pass GateDeed) Global). v.items) c.leave_shard.ensures.gates) same (oracle_keeps c.args.self.now c.args.hand.now c.enter_shard-held.new.hand c.args.shard c.enter_shard-held.result c.requires.hand c.requires.shard
           c.enter_shard-held.ensures c.state-state.result.now did.new.self c.state-state.ensures.value c.args.request c.args.stamp c.args.vertex did.result did.new.pass
