@@ -1,5 +1,5 @@
 #!/usr/bin/env python3
-"""Writes into the head of each lemma file (crates/*/proofs/*.antt) a comment line that says who uses it.
+"""Writes into the head of each lemma file (crates/*/proofs/*.antt) a comment that says who uses it.
 
 Functions and laws are in backticks, other lemma files of the crate by name, then crates above. Run it by hand at the top
 of the repository, or give the top as the argument. It goes by imports, and by `using(..)` in the code.
@@ -9,14 +9,17 @@ import glob
 import os
 import re
 import sys
+import textwrap
 
 TOP = sys.argv[1] if len(sys.argv) > 1 else "."
 USE = re.compile(r"(?m)^use Rattle\.(\w+)\.proofs\.([A-Z]\w*)\b")
 USING = re.compile(r"crate::proofs::([A-Z]\w*)::")
 FUNCTION = re.compile(r"\bfn (\w+)")
 HEAD = "-- Used by "
-WIDTH = 120
+NOBODY = f"{HEAD}nothing: worked examples."
+WIDTH = 119
 MOST_CRATES = 4
+MOST_LINES = 4
 
 
 def users():
@@ -44,23 +47,22 @@ def joined(words):
     return words[0] if len(words) == 1 else ", ".join(words[:-1]) + " and " + words[-1]
 
 
-def line_of(crate, name, found):
-    """Gives the comment line, or none if nobody uses the file (a worked example)."""
+def lines_of(crate, name, found):
+    """Gives the comment lines; worked examples are used by nothing."""
     by = {it for it in found[crate, name] if it != (crate, "file", name)}
     items = [f"`{it}`" for it in sorted({who for of, kind, who in by if of == crate and kind == "function"})]
     items += sorted({who for of, kind, who in by if of == crate and kind == "file"})
     above = sorted({of for of, _, _ in by if of != crate})
-    last = []
     if len(above) > MOST_CRATES:
-        last = [f"{len(above)} crates above"]
+        items += [f"{len(above)} crates above"]
     elif above:
-        last = [("crate " if len(above) == 1 else "crates ") + joined(above)]
-    for shown in range(len(items), -1, -1):
-        rest = [f"{len(items) - shown} more"] if shown < len(items) else []
-        words = items[:shown] + rest + last
-        if words and (len(HEAD + joined(words)) < WIDTH or shown == 0):
-            return f"{HEAD}{joined(words)}."
-    return None
+        items += [("crate " if len(above) == 1 else "crates ") + joined(above)]
+    if not items:
+        return [NOBODY]
+    whole = textwrap.wrap(f"{HEAD}{joined(items)}.", WIDTH, subsequent_indent="-- ", break_on_hyphens=False)
+    if len(whole) > MOST_LINES:
+        return [f"{HEAD}{len(items)} functions, laws and files of this crate and of those above."]
+    return whole
 
 
 def main():
@@ -72,9 +74,10 @@ def main():
         with open(path, encoding="utf-8") as file:
             lines = file.read().split("\n")
         end = next(at for at, it in enumerate(lines) if not it.startswith("--"))
-        line = line_of(crate, name, found)
-        unused += [] if line else [f"{crate}/{name}"]
-        head = [it for it in lines[:end] if not it.startswith(HEAD)] + ([line] if line else [])
+        users_of = lines_of(crate, name, found)
+        unused += [f"{crate}/{name}"] if users_of == [NOBODY] else []
+        told = next((at for at, it in enumerate(lines[:end]) if it.startswith(HEAD)), end)
+        head = lines[:told] + users_of
         if head != lines[:end]:
             changed += 1
             with open(path, "w", encoding="utf-8") as file:
