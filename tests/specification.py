@@ -84,7 +84,7 @@ def check_test(row, cell):
         look_up(row, path, names, 'tests', f'{CR}/{c}/src/{f}', is_test, 'test')
 reached = set()
 def edit_at(c, n):
-    """An edit that the gate tries, or one of a large crate, which is tried by hand."""
+    """A planted bug that the gate tries, or one that tests/planted.py alone tries."""
     return next((p for p in (f'{CR}/{c}/must-fail/{n}.{e}' for e in ('edit', 'md')) if os.path.isfile(p)), None)
 def check_edits(row, cell):
     for c, names in entries(row, cell, 'edits'):
@@ -186,7 +186,8 @@ def check_paths(page):
 check_paths('CHANGING.md')
 
 print('checked: ' + ', '.join(f'{v} {k}' for k, v in sorted(counts.items())))
-print(f'edits of the repository reached from a row: {len(reached & alle)} of {len(alle)}'
+in_gate = len(glob.glob(f'{CR}/*/must-fail/*.edit'))
+print(f'edits of the repository reached from a row: {len(reached & alle)} of {len(alle)} ({in_gate} in the gate, {len(alle) - in_gate} by tests/planted.py alone)'
       + ''.join(f'\n  not reached: {c} {n}' for c, n in sorted(alle - reached)))
 for e in errors: print('WRONG', e)
 print(f'{len(errors)} wrong')
