@@ -33,6 +33,9 @@ def fn_defined(text, n):
 def law_defined(text, n):
     m = re.search(rf'^pub fn {re.escape(n)}(?:<[^>]*>)?\(\)\n((?:    .*\n)*)\{{', text, re.M)
     return bool(m) and 'ensures' in m.group(1)
+def begins_line(text, n):
+    """Whether a line of a file of cases begins with these words; what a table can't have in a name is left out of them."""
+    return any(line.translate(str.maketrans({'`': None, ';': ',', '|': '/'})).startswith(n) for line in text.split('\n'))
 def is_test(text, n):
     return re.search(rf'#\[test\]\n(?:#\[[^\n]*\n)*(?:pub )?fn {re.escape(n)}\(', text)
 def lemma_defined(text, n):
@@ -52,7 +55,7 @@ def look_up(row, path, names, kind, at, is_there, what):
     if t is None:
         err(row, f'no file {at}')
         return False
-    if not names and kind != 'lemmas': err(row, f'no {what} named of {path}')
+    if not names and kind not in ('lemmas', 'headings of cases'): err(row, f'no {what} named of {path}')
     for n in names:
         count(kind)
         if not is_there(t, n): err(row, f'no {what} {n} in {at}')
@@ -65,7 +68,7 @@ def check_definition(row, cell):
 def check_code(row, cell):
     for path, names in entries(row, cell, 'function'):
         c, _, f = path.partition('/')
-        if re.search(r'(^|_|/)tests?\.rt$', f) or c.endswith('_rows'): err(row, f'a file of tests as code: {path}')
+        if re.search(r'(^|_|/)tests?\.rt$', f) or c.endswith('_tests'): err(row, f'a file of tests as code: {path}')
         if look_up(row, path, names, 'functions and types', f'{CR}/{c}/src/{f}', fn_defined, 'function'): count('code files')
 def check_proof(row, cell):
     for path, names in entries(row, cell, 'proof', ('-', 'search')):
@@ -81,7 +84,10 @@ def check_proof(row, cell):
 def check_test(row, cell):
     for path, names in entries(row, cell, 'test'):
         c, _, f = path.partition('/')
-        look_up(row, path, names, 'tests', f'{CR}/{c}/src/{f}', is_test, 'test')
+        if f.endswith('.cases'):
+            look_up(row, path, names, 'headings of cases', f'{CR}/{c}/data/{f}', begins_line, 'heading')
+        else:
+            look_up(row, path, names, 'tests', f'{CR}/{c}/src/{f}', is_test, 'test')
 reached = set()
 def edit_at(c, n):
     """A planted bug that the gate tries, or one that tests/planted.py alone tries."""

@@ -1,8 +1,9 @@
 #!/usr/bin/env python3
 """Writes into the head of each lemma file (crates/*/proofs/*.antt) a comment that says who uses it.
 
-Functions and laws are in backticks, other lemma files of the crate by name, then crates above. Run it by hand at the top
-of the repository, or give the top as the argument. It goes by imports, and by `using(..)` in the code.
+Functions and laws are in backticks, other lemma files of the crate by name, then crates above, but for those of tests
+(`*_tests`). Run it by hand at the top of the repository, or give the top as the argument. It goes by imports, and by
+`using(..)` in the code.
 """
 import collections
 import glob
@@ -52,7 +53,7 @@ def lines_of(crate, name, found):
     by = {it for it in found[crate, name] if it != (crate, "file", name)}
     items = [f"`{it}`" for it in sorted({who for of, kind, who in by if of == crate and kind == "function"})]
     items += sorted({who for of, kind, who in by if of == crate and kind == "file"})
-    above = sorted({of for of, _, _ in by if of != crate})
+    above = sorted({of for of, _, _ in by if of != crate and not of.endswith("_tests")})
     if len(above) > MOST_CRATES:
         items += [f"{len(above)} crates above"]
     elif above:

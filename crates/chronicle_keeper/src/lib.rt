@@ -9,8 +9,6 @@ mod adding;
 mod nested_holds;
 mod noted;
 mod tally;
-#[cfg(test)]
-mod tests;
 
 pub use adding::{add, add_range, tallied, total};
 pub use nested_holds::{Owner, add_to_both};

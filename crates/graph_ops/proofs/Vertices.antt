@@ -1,5 +1,5 @@
 -- A transaction leaves at each vertex what its operations there leave, and passes exactly if those of each vertex do.
--- Used by `vertices_are_independent`, Naming and 8 crates above.
+-- Used by `vertices_are_independent`, Naming and 7 crates above.
 use Rattle.std.proofs.Common.{◌≡◌, ℕ, ◌+◌, Bool, true, false, ◌&&◌, cond, List, [], ◌∷◌, IsTrue, Ok, Err, is_ok, refl, sym, ap, subst, ◌∙◌}
 use Rattle.std.proofs.lemmas.Bool.{and_parts}
 use Rattle.std.specs.Cmp.{eq_by_cmp_equiv}

@@ -1,6 +1,5 @@
 -- What is at a place of a list, of its images and of what is left.
--- Used by `deal_hand`, `fill_row`, `meet`, `open_row`, `row_of_three`, Hands, Meetings, Notings, Openings and 7 crates
--- above.
+-- Used by `deal_hand`, `fill_row`, `open_row`, Hands, Meetings, Notings, Openings and 5 crates above.
 use Rattle.std.proofs.Common.{◌≡◌, ℕ, zero, suc, ◌+◌, ◌<◌, List, [], ◌∷◌, ◌++◌, length, map, get_or, take, drop, refl, sym, ap, ◌∙◌, subst, arith}
 use Rattle.std.proofs.lemmas.List.{get_or_push, map-append}
 use Rattle.std.proofs.Math.Seq.{take-append_seam}

@@ -1,5 +1,5 @@
 -- If passes and notes meet place by place, in the end all have met but at one place.
--- Used by `add_at`, `meet_others` and crates gate_lock, oracle_lock, shard_lock and store_lock.
+-- Used by `meet_others` and crates gate_lock, oracle_lock, shard_lock and store_lock.
 use Rattle.std.proofs.Common.{◌≡◌, ◌≢◌, ◌⊎◌, inl, inr, ℕ, ◌+◌, ◌<◌, ◌≤◌, List, length, map, get_or, set, refl, sym, ap, ◌∙◌, subst, arith, []}
 use Rattle.std.proofs.lemmas.List.{length-map, get_or-map, get_or_default, get_or-set_same, get_or-set_other}
 use mathlib.Core.List.{IsPrefix}

@@ -12,8 +12,6 @@ mod meeting;
 mod noting;
 mod opening;
 mod reserving;
-#[cfg(test)]
-mod tests;
 
 pub use bare::Bare;
 pub use dealing::deal_hand;

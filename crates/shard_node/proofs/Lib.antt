@@ -4,5 +4,4 @@ pub mod Collecting
 pub mod LowMarks
 pub mod Keeping
 pub mod Ready
-pub mod Stamps
 pub mod Splitting

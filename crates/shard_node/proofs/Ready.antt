@@ -1,5 +1,5 @@
 -- What the inboxes and the chains of a shard say is what the replay of its log says.
--- Used by `apply`, `arrive`, `head_passes`, `kept`, `visit` and `visit_for`.
+-- Used by `apply`, `arrive`, `kept` and `visit`.
 use Rattle.std.proofs.Common.{◌≡◌, ℕ, suc, ◌+◌, ◌-◌, Bool, true, false, cond, List, [], ◌∷◌, length, slice_get, get_or, Option, None, Some, is_some, inl, inr, refl, sym, ap, subst, ◌∙◌, arith}
 use Rattle.std.specs.Prelude.{◌==◌, ◌||◌, not, All, IsTrue, ◌<◌, ◌≤◌}
 use Rattle.std.specs.List.{find, range_with_len}

@@ -1,5 +1,5 @@
 -- The chain of a vertex whose updates are given: with one more update, and with those of a message.
--- Used by `visit`, `visit_for`, Collecting, Keeping and Ready.
+-- Used by `visit`, Collecting, Keeping and Ready.
 use Rattle.std.proofs.Common.{◌≡◌, ℕ, zero, suc, ◌+◌, ◌-◌, ◌≤◌, false, List, [], ◌∷◌, ◌++◌, map, take, drop, length, filter, slice_get, IsTrue, Option, None, Some, inl, inr, refl, sym, ap, subst, ◌∙◌, arith}
 use Rattle.std.specs.Prelude.{◌==◌, fold, not, if◌then◌else◌}
 use Rattle.std.specs.List.{list_any}

@@ -5,15 +5,11 @@
 //! waits, what was processed and the versions of each vertex are what the replay of the log gives.
 #![tactic(auto)]
 
-#[cfg(test)]
-mod bench;
 mod channels;
 mod fault;
 pub mod laws;
 mod low_marks;
 mod shard;
-#[cfg(test)]
-mod tests;
 mod turns;
 mod waiting;
 

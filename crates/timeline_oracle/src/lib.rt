@@ -7,7 +7,5 @@
 
 mod oracle;
 mod settling;
-#[cfg(test)]
-mod tests;
 
 pub use oracle::Oracle;

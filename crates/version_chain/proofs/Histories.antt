@@ -1,5 +1,5 @@
 -- The updates that a chain results from, as it changes.
--- Used by `count`, `kept`, `look_back`, `newest`, `stamps`, `take_back` and Changed.
+-- Used by `count`, `kept`, `look_back`, `newest`, `take_back` and Changed.
 use Rattle.std.proofs.Common.{◌≡◌, ◌≤◌, ◌<◌, ◌+◌, ◌==◌, ℕ, zero, suc, List, [], ◌∷◌, ◌++◌, take, drop, length, None, IsTrue, refl, sym, ap, subst, ◌∙◌, arith}
 use Rattle.std.specs.Prelude.{nat_le, fold}
 use Rattle.std.proofs.lemmas.List.{length-append}

@@ -2,6 +2,5 @@ pub mod Chains
 pub mod Collection
 pub mod Keeping
 pub mod Looks
-pub mod TestJudge
 pub mod Updates
 pub mod Views

@@ -10,8 +10,6 @@
 mod chain;
 mod collection;
 pub mod laws;
-#[cfg(test)]
-mod tests;
 mod version;
 mod view;
 

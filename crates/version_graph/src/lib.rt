@@ -6,7 +6,5 @@
 
 mod graph;
 mod table;
-#[cfg(test)]
-mod tests;
 
 pub use graph::{VersionGraph, collect_all};

@@ -1,6 +1,6 @@
 -- Short lists of worked accounts: what is said of each entry, of each element, of each two.
 -- Used by ExampleEpoch, ExampleMarked, ExampleParts, ExamplePath, ExampleReader, ExampleRefusal, ExampleReports,
--- ExampleWriters and crates hands_account, locks_rows and seen_logs.
+-- ExampleWriters and crates hands_account and seen_logs.
 use Rattle.std.proofs.Common.{◌≡◌, ℕ, zero, suc, List, [], ◌∷◌, Contains, AllPairs, get_or, inl, inr, refl, subst, arith, ◌<◌}
 use Rattle.std.specs.Prelude.{replicate}
 use Rattle.std.specs.List.{AllByRecursion}

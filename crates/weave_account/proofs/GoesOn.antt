@@ -1,6 +1,6 @@
 -- Lists that begin others: each begins itself, the beginning of a beginning is one, and a list that goes on keeps what it
 -- has.
--- Used by 12 crates above.
+-- Used by 11 crates above.
 use Rattle.std.proofs.Common.{◌≡◌, ◌≤◌, List, [], ◌++◌, length, Contains, sym, ap, subst, ◌∙◌, append_assoc, arith}
 use Rattle.std.proofs.lemmas.List.{append-nil, length-append}
 use Rattle.std.proofs.lemmas.List.Elements.{Contains-append_left}

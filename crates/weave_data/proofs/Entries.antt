@@ -1,5 +1,5 @@
 -- Logs, entry by entry: a rule that holds at each entry, of the entries before it and of the entry.
--- Used by 14 crates above.
+-- Used by 13 crates above.
 use Rattle.std.proofs.Common.{◌≡◌, List, [], ◌∷◌, ◌++◌, length, inl, inr, refl, ap, subst, ◌∙◌, arith}
 use Rattle.std.proofs.lemmas.List.{append_assoc, length-append}
 use Rattle.weave_data.proofs.Ends.{by_last, split_last}

@@ -1,5 +1,5 @@
 -- Values that may be there.
--- Used by 6 crates above.
+-- Used by 5 crates above.
 use Rattle.std.proofs.Common.{◌≡◌, true, Option, None, Some, is_some, refl}
 use Rattle.std.specs.Option.{IsSomeAnd, option_map, option_or}
 

@@ -1,5 +1,5 @@
 -- Lists of lists of which one goes on: with nothing more all are as they were, and what one has then it had, or was added.
--- Used by crates locks_rows, weaver_hands and weaver_workers.
+-- Used by crates weaver_hands and weaver_workers.
 use Rattle.std.proofs.Common.{◌≡◌, ◌⊎◌, inl, ℕ, zero, suc, List, [], ◌∷◌, ◌++◌, get_or, set, Contains, refl, ap}
 use Rattle.std.proofs.lemmas.List.{append-nil}
 use Rattle.std.proofs.lemmas.List.Elements.{Contains-append_cases}

@@ -1,21 +1,6 @@
 //! The program: its command line, standard input and standard output for `weave`.
 #![tactic(auto)]
 
-#[cfg(test)]
-mod check_tests;
-#[cfg(test)]
-mod example_tests;
-#[cfg(test)]
-mod load_tests;
-#[cfg(test)]
-mod run_tests;
-#[cfg(test)]
-mod threads_tests;
-#[cfg(test)]
-mod top_tests;
-#[cfg(test)]
-mod trace_tests;
-
 use std::process::ExitCode;
 use std::rt::Env;
 use std::{env, io};

@@ -1,5 +1,5 @@
 -- A hand may be sent to another thread, and the locks of a run may be shared by threads.
--- Used by crates hands_rows, locks_rows and weave_phase.
+-- Used by crate weave_phase.
 use mathlib.Core.Path.{◌≡◌, sym, subst}
 use mathlib.Core.List.{[]}
 use base.Fml.{ftrue}

@@ -1,5 +1,6 @@
 -- What a hand made in each log, and which entries with its number others have seen: for the laws on own entries.
--- Used by `own_entries_of_each_log`, `seen_entries_are_their_authors`, OwnVisits and 5 crates above.
+-- Used by `own_entries_of_each_log`, `seen_entries_are_their_authors`, OwnVisits and crates sessions_account,
+-- weaver_hands and workers_account.
 use Rattle.std.proofs.Common.{◌≡◌, ℕ, eqb, eq-eqb, List, [], map, get_or, sym, ap, ◌∙◌, refl, subst}
 use Rattle.std.specs.List.{Contains, filter}
 use Rattle.std.proofs.lemmas.List.Elements.{Contains-append_left}

@@ -45,7 +45,5 @@ pub mod NewHands
 pub mod Crossing
 pub mod Hearing
 pub mod FrameParts
-pub mod NewMachines
-pub mod Options
 pub mod RowAsked
 pub mod HandParts

@@ -1,6 +1,6 @@
 -- A list gone through: what is done, what is left.
 -- Used by `bare_gates`, `bare_shards`, `close_row`, `gather`, `note_gates`, `note_oracle`, `note_shards`,
--- `note_store`, ClosedLogs, Closings, OwnLogs, Starting and crates hands_rows and locks_rows.
+-- `note_store`, ClosedLogs, Closings, OwnLogs and Starting.
 use Rattle.std.proofs.Common.{◌≡◌, ℕ, zero, suc, ◌+◌, ◌<◌, drop, List, [], ◌∷◌, ◌++◌, length, map, get_or, set, cond, Bool, true, false, inl, inr, refl, sym, ap, ◌∙◌, subst, arith, append_assoc, length-append}
 use Rattle.std.specs.List.{All, Any, Contains, filter}
 use Rattle.std.proofs.lemmas.Bool.{cases_lt}

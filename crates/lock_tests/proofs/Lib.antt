@@ -1,0 +1,13 @@
+pub mod Began
+pub mod CarryingOn
+pub mod Closing
+pub mod Crossing
+pub mod Going
+pub mod Made
+pub mod NewMachines
+pub mod Opening
+pub mod Options
+pub mod Quiet
+pub mod Read
+pub mod Sending
+pub mod SentRun

@@ -1,0 +1,15 @@
+use Rattle.std.proofs.Common.{refl}
+use Rattle.lock_tests.proofs.Going.{at-gate, only-hand}
+use Rattle.lock_tests.proofs.Made.{none-quiet}
+use Rattle.lock_tests.proofs.calls_at_gates.fetch.Goals as goal
+
+pub returns-clause-worker : goal.returns-clause-worker
+returns-clause-worker g c =
+    let hold = c.fetch.ensures.hold in
+    let old = c.args.me.now.hand in
+    let on = at-gate c.args.shared.now old c.fetch.new.hand c.args.gate hold.0 _ c.fetch.ensures.hand hold.1 in
+    only-hand c.workers_keep_their_laws.ensures c.args.shared.now old c.fetch.new.hand _ on c.args.me.now refl c.requires.worker
+    none-quiet
+
+pub returns-clause-number : goal.returns-clause-number
+returns-clause-number g c = c.fetch.ensures.hold.1.number

@@ -1,0 +1,20 @@
+use Rattle.weaver_locks.specs.Locks.{shard_count}
+use Rattle.lock_tests.proofs.CarryingOn.{carries-on}
+use Rattle.lock_tests.proofs.Quiet.{pull-quiet}
+use Rattle.lock_tests.proofs.hands.messages.pull.Goals as goal
+
+pub returns-clause-worker : goal.returns-clause-worker
+returns-clause-worker g c =
+    let laws = c.workers_keep_their_laws.ensures in
+    let shared = c.args.shared.now in
+    let me = c.args.me.now in
+    let new = c.pull.new.hand in
+    let did = c.pull.ensures.pulled in
+    carries-on laws shared me.hand new me.next me.last me.walk
+    (pull-quiet laws shared me.hand new (shard_count shared) c.args.gate c.args.shard c.args.number c.pull.result did) c.pull.ensures.hand c.requires.worker
+    (c.calls_leave_others_alone.ensures.pull (shard_count shared) me.hand new c.args.gate c.args.shard c.args.number c.pull.result did)
+
+pub returns-clause-number : goal.returns-clause-number
+returns-clause-number g c =
+    (pull-quiet c.workers_keep_their_laws.ensures c.args.shared.now c.args.me.now.hand c.pull.new.hand (shard_count c.args.shared.now)
+    c.args.gate c.args.shard c.args.number c.pull.result c.pull.ensures.pulled).number

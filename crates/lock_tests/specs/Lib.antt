@@ -1,0 +1,6 @@
+pub mod Dropping
+pub mod Going
+pub mod UnusedHands
+pub mod OwnRequests
+pub mod ReadyWorkers
+pub mod Workers

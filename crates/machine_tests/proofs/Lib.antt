@@ -1,0 +1,5 @@
+pub mod ShardStamps
+pub mod ThreeParts
+pub mod Covered
+pub mod LogSteps
+pub mod RowStamps

@@ -1,0 +1,4 @@
+pub mod PairEnds
+pub mod Covers
+pub mod ArrivedStamps
+pub mod LogReading

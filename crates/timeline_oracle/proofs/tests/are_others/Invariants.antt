@@ -1,7 +1,0 @@
-use Rattle.std.proofs.Common.{◌≡◌, ℕ, ◌<◌, get_or}
-use Rattle.vector_stamp.specs.declared.clock.Stamp.{Stamp}
-use Rattle.vector_stamp.specs.Order.{id_of}
-use Rattle.timeline_oracle.proofs.tests.are_others.Given as goal
-
-abbrev pub invariant-loop-event : goal.invariant-loop-event
-invariant-loop-event l = (k : ℕ) (d : Stamp) → k < l.event-index → id_of (get_or l.earlier k d) ≡ id_of l.later → ⊥
