@@ -1,5 +1,5 @@
 -- The first element of a list that passes a test.
--- Used by Judging, Replay and Rule.
+-- Used by `decide`, Judging, Replay and Rule.
 use Rattle.std.proofs.Common.{◌≡◌, ℕ, ◌+◌, ◌<◌, ◌≤◌, Bool, true, false, cond, List, [], ◌∷◌, ◌++◌, length, map, filter, reverse, Option, None, Some, inl, inr, refl, sym, ap, ◌∙◌, arith}
 use Rattle.std.specs.Prelude.{position, nat_lt, slice_get, eqb}
 use Rattle.std.specs.List.{position_or_len, find}

@@ -1,5 +1,5 @@
-//! The tests of names, maps, lines, input and output, stamps, queues, the plain graph, and scripts and reports. There is
-//! nothing but tests here.
+//! The tests of names, maps, lines, input and output, stamps, queues, the plain graph, and scripts and reports. There
+//! is nothing but tests here.
 #![tactic(auto)]
 
 #[cfg(test)]

@@ -1,6 +1,6 @@
 -- What is at a place of a list, of its images and of what is left.
 -- Used by `deal_hand`, `fill_row`, `open_row`, Hands, Meetings, Notings, Openings and 5 crates above.
-use Rattle.std.proofs.Common.{◌≡◌, ℕ, zero, suc, ◌+◌, ◌<◌, List, [], ◌∷◌, ◌++◌, length, map, get_or, take, drop, refl, sym, ap, ◌∙◌, subst, arith}
+use Rattle.std.proofs.Common.{◌≡◌, ◌≢◌, ℕ, zero, suc, ◌+◌, ◌<◌, ◌≤◌, List, [], ◌∷◌, ◌++◌, length, map, get_or, take, drop, refl, sym, ap, ◌∙◌, subst, arith}
 use Rattle.std.proofs.lemmas.List.{get_or_push, map-append}
 use Rattle.std.proofs.Math.Seq.{take-append_seam}
 use mathlib.Core.List.{IsPrefix}
@@ -34,6 +34,40 @@ mapped_alike {A} {B} {C} f g (x ∷ xs) (y ∷ ys) e same =
 pub mapped_on : {A B : Type 0} (f : A → B) (xs ys : List A) → IsPrefix xs ys
     → (rest : List B) × (map f ys ≡ map f xs ++ rest)
 mapped_on {A} {B} f xs ys on = (map f on.0, ap (λ (l : List A). map f l) (sym on.1) ∙ map-append f xs on.0)
+
+-- Places and counts of a loop, each as a fact on numbers alone: a tactic has less to read here than in the loop
+
+-- a place is below the end while something is left
+pub one_left : (k left after all : ℕ) → k + left ≡ all → after + 1 ≡ left → k < all
+one_left k left after all count some = omega arith
+
+-- after one more
+pub one_on : (k left after all : ℕ) → k + left ≡ all → after + 1 ≡ left → k + 1 + after ≡ all
+one_on k left after all count some = omega arith
+
+-- if nothing is left, the end was reached
+pub all_done : (k left all : ℕ) → k + left ≡ all → left ≡ 0 → k ≡ all
+all_done k left all count none = omega arith
+
+-- the bound of a place may be replaced by an equal one
+pub below_same : (k n m : ℕ) → k < n → m ≡ n → k < m
+below_same k n m low same = omega arith
+
+-- a place is not before itself
+pub itself : (k : ℕ) → k ≤ k
+itself k = omega arith
+
+-- a place after this one is not before it
+pub later_too : (k j : ℕ) → k + 1 ≤ j → k ≤ j
+later_too k j far = omega arith
+
+-- and is another one
+pub later_other : (k j : ℕ) → k + 1 ≤ j → j ≢ k
+later_other k j far same = absurd (omega arith)
+
+-- the count of what is left is its length after one more too
+pub long_on : {A : Type 0} (count after : ℕ) (xs rest : List A) (x : A) → count ≡ length xs → after + 1 ≡ count → xs ≡ x ∷ rest → after ≡ length rest
+long_on {A} count after xs rest x long some is = let e : length xs ≡ length (x ∷ rest) = ap (λ (l : List A). length l) is in omega arith
 
 module _ {A : Type 0} where
   none_left : (k : ℕ) (x : A) (ys : List A) → x ∷ ys ≡ drop k [] → ⊥

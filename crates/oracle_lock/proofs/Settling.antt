@@ -1,10 +1,10 @@
 -- What the oracle's entries speak of was begun, and stays so when it is asked.
 -- Used by `known_events_are_begun`, `meet`, `pairs_tell_entries`, `settling_keeps` and crates shard_lock, store_lock
 -- and weaver_locks.
-use Rattle.std.proofs.Common.{◌≡◌, ◌⊎◌, ℕ, ◌≤◌, List, [], ◌∷◌, ◌++◌, length, map, Contains, Option, None, Some, inl, inr, refl, sym, ap, ◌∙◌, subst}
+use Rattle.std.proofs.Common.{◌≡◌, ◌⊎◌, ℕ, ◌≤◌, List, [], ◌∷◌, ◌++◌, length, map, Contains, Option, None, Some, inl, inr, refl, sym, ap, ◌∙◌, subst, arith}
 use Rattle.std.specs.Prelude.{slice_get}
 use Rattle.std.specs.Option.{option_map}
-use Rattle.std.proofs.lemmas.List.{length-map, map-append}
+use Rattle.std.proofs.lemmas.List.{length-append, length-map, map-append}
 use Rattle.std.proofs.lemmas.List.Elements.{Contains-append_cases}
 use Rattle.weave_data.proofs.Images.{get-has, made-back}
 use Rattle.weave_data.proofs.Members.{cut_at, flat_has, has_cut, has_head, has_tail, map_has, filter_map_has}
@@ -175,6 +175,21 @@ module _ (its : ℕ) (notes later : List (Note GateDeed)) (before after : List (
   legal-noted shards same theirs =
       subst (λ (l : List (List GateEntry)). AreGateLogs shards l) (sym met.one)
       (met.legal shards theirs (subst (λ (n : ℕ). AreGateLogs n before) (sym same) met.legal_before))
+
+-- while the oracle is lent its log is empty, and the notes are legal as before
+pub none-kept : (shards : ℕ) (gates : List (List GateEntry)) (log : List OracleEntry) → OracleIsKept shards gates log → OracleIsKept shards gates []
+none-kept shards gates log kept = record {
+  refers = λ front entry rest at.
+      let long : length {A = OracleEntry} [] ≡ length (front ++ entry ∷ rest) = ap (λ (l : List OracleEntry). length l) at in
+      absurd (omega (arith, long, length-append front (entry ∷ rest)));
+  legal = record {
+    gate_logs = kept.legal.gate_logs;
+    hears = kept.legal.hears;
+    store_log = kept.legal.store_log;
+    oracle_log = tt;
+    shard_logs = kept.legal.shard_logs;
+  };
+}
 
 module _ (stays : (seen next : Account) → GatesGoOn seen next → (deed : OracleDeed) → OracleRefersAs seen deed
     → OracleRefersAs next deed) where

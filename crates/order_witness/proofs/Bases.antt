@@ -1,9 +1,14 @@
 -- One more place in a loop: whether the first elements have one that passes there, and what a step adds to an `or`.
--- Used by `put_later` and `put_stamps`.
+-- Used by `put_later`, `put_pairs` and `put_stamps`.
 use Rattle.std.proofs.Common.{◌≡◌, ℕ, zero, suc, ◌+◌, ◌<◌, Bool, true, false, ◌||◌, ◌&&◌, List, [], ◌∷◌, get_or, take, length, eqb, inl, inr, refl, sym, ap, ◌∙◌, arith}
 use Rattle.std.specs.Prelude.{slice_get}
 use Rattle.std.proofs.lemmas.Bool.{cases_eq, ne_eqb, eq-eqb}
 use Rattle.report_rules.specs.Lookups.{is_some_and}
+
+-- what two tests or a third say is what the first says, or the other two
+pub joined : (x y z : Bool) → ((x || y) || z) ≡ (x || (y || z))
+joined true y z = refl
+joined false y z = refl
 
 -- or with false leaves a truth value as it is
 pub or_false : (a : Bool) → (a || false) ≡ a

@@ -185,6 +185,12 @@ module _ (author request : ℕ) (stamp : Stamp) (v : Name) (old new : ShardView)
       subst (λ (z : ℕ × ShardView × ShardView × Log OracleDeed × Log OracleDeed). VisitsOver z.0 request stamp v z.1 z.2 first z.3 z.4 before result)
       (λ i. (author_is i, old_is i, new_is i, own_is i, has_is i)) moved
 
+  -- the shard's number and its number of gatekeepers are as before
+  pub same-shard : (result : Result State VisitFault) → VisitsOver author request stamp v old new had mine has before result
+      → (new.number ≡ old.number) × (new.gates ≡ old.gates)
+  same-shard (Ok state) over = (over.entry.number, over.entry.gates)
+  same-shard (Err fault) over = (ap (λ (s : ShardView). s.number) over.unchanged, ap (λ (s : ShardView). s.gates) over.unchanged)
+
   module _ (laws : LawsForShardNotes) (visits : VisitLaws) (shards : ℕ) (notes : ShardNotes) (kept : ShardIsKept old shards notes) (few : old.gates ≤ 8)
       (home by : ℕ)
       (runs : Contains (running_of (gate_log (seen_of_shard old notes) home)) (record { author = by; request = request; stamp = stamp }))
@@ -228,9 +234,3 @@ module _ (author request : ℕ) (stamp : Stamp) (v : Name) (old new : ShardView)
         kept_then laws old new shards later (kept-later (Ok state) over) rules author
         (Visited request stamp v (updates_read pairs stamp v old.log) (is_settled_by pairs stamp v old.log)) over.entry (refers state over)
     visit-keeps (Err fault) over = kept_still laws old new shards later (kept-later (Err fault) over) rules author over.unchanged
-
-    -- the shard's number and its number of gatekeepers are as before
-    pub same-shard : (result : Result State VisitFault) → VisitsOver author request stamp v old new had mine has before result
-        → (new.number ≡ old.number) × (new.gates ≡ old.gates)
-    same-shard (Ok state) over = (over.entry.number, over.entry.gates)
-    same-shard (Err fault) over = (ap (λ (s : ShardView). s.number) over.unchanged, ap (λ (s : ShardView). s.gates) over.unchanged)

@@ -5,3 +5,4 @@ pub mod LowMarks
 pub mod Keeping
 pub mod Ready
 pub mod Splitting
+pub mod Views

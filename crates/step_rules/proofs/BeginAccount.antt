@@ -1,6 +1,6 @@
 -- A begin: one more entry in a gatekeeper's log and one in a session's.
 -- Used by BeginStep.
-use Rattle.std.proofs.Common.{◌≡◌, ◌≢◌, ℕ, ◌<◌, ◌==◌, Bool, false, cond, List, [], ◌∷◌, ◌++◌, length, Contains, AllPairs, IsTrue, Option, None, Some, inl, inr, refl, sym, ap, subst, ◌∙◌}
+use Rattle.std.proofs.Common.{◌≡◌, ◌≢◌, ℕ, ◌<◌, ◌==◌, Bool, false, cond, List, [], ◌∷◌, ◌++◌, length, Contains, AllPairs, IsTrue, None, Some, inl, inr, refl, sym, ap, subst, ◌∙◌}
 use Rattle.std.specs.Prelude.{is_some}
 use Rattle.std.specs.List.{find, flat_map}
 use Rattle.std.specs.Option.{option_map, option_or}
@@ -121,11 +121,7 @@ module _ (laws : LawsForSteps) (script : Script) (account : Account) (limits : I
       (flat_map-append (λ (e : GateEntry). begun_by e.author e.deed) log (entry ∷ []) ∙ ap (λ bs. begun_in log ++ (bs ++ [])) one)
 
   fresh : (b : BegunRequest) → Contains (all_begun account) b → b.request ≢ r
-  fresh b h same = find_lacks (λ (b : BegunRequest). b.request == r) (all_begun account) b (nothing (find (λ (b : BegunRequest). b.request == r) (all_begun account)) unbegun) h (eq-eqb b.request r same)
-    where
-      nothing : (o : Option BegunRequest) → option_map (λ (b : BegunRequest). b.stamp) o ≡ None → o ≡ None
-      nothing None e = refl
-      nothing (Some x) e = cc
+  fresh b h same = find_lacks (λ (b : BegunRequest). b.request == r) (all_begun account) b (no-some (λ (b : BegunRequest). b.stamp) (find (λ (b : BegunRequest). b.request == r) (all_begun account)) (ap is_some unbegun)) h (eq-eqb b.request r same)
 
   before-has : (b : BegunRequest) → Contains set.front b → Contains (all_begun account) b
   before-has b h = subst (λ bs. Contains bs b) (sym set.was) (Contains-append_left set.front set.back b h)

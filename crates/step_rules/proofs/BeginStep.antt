@@ -6,6 +6,7 @@ use Rattle.std.specs.Option.{ForSome, option_and_then}
 use Rattle.std.proofs.lemmas.Bool.{and_from, eq-eqb}
 use Rattle.std.proofs.lemmas.List.{length-set}
 use Rattle.std.proofs.lemmas.List.Concat.{flat_map-append}
+use Rattle.std.proofs.lemmas.Option.{same_Some}
 use Rattle.weave_data.proofs.Ends.{count_push}
 use Rattle.weave_data.proofs.Members.{map_has, only}
 use Rattle.vector_stamp.specs.declared.clock.Clock.{Clock}
@@ -19,7 +20,7 @@ use Rattle.program_defs.specs.declared.script.Work.{Work}
 use Rattle.program_defs.specs.declared.script.Work.TheVariants.{Change, Look}
 use Rattle.program_defs.specs.Works.{is_change, is_look}
 use Rattle.report_rules.specs.Lookups.{is_some_and, request_at}
-use Rattle.report_rules.specs.declared.report.StepAnswer.TheVariants.{Ok, Twice, Early, Busy}
+use Rattle.report_rules.specs.declared.report.StepAnswer.TheVariants.{Ok, Twice, Early, Busy, Idle}
 use Rattle.weave_entries.specs.declared.gate_log.GateEntry.{GateEntry}
 use Rattle.weave_entries.specs.declared.gate_log.GateDeed.{GateDeed}
 use Rattle.weave_entries.specs.declared.gate_log.GateDeed.TheVariants.{BeganTx, BeganProgram}
@@ -41,6 +42,7 @@ use Rattle.step_rules.specs.Entries.{after_begin, at_request, begin_deed, state_
 use Rattle.step_rules.specs.IsCore.{IsCore, IsSmall}
 use Rattle.step_rules.specs.Requests.{finds_flight, has_begun, last_begun, waits_for_earlier}
 use Rattle.step_rules.proofs.Basis.{Basis}
+use Rattle.step_rules.proofs.Clashes.{is-none, not-ok}
 use Rattle.step_rules.proofs.SessionTurns as turns
 use Rattle.step_rules.proofs.BeginAccount as one
 use Rattle.step_rules.proofs.Within.{session-within}
@@ -94,11 +96,7 @@ module _ (script : Script) (state : CoreState) (basis : Basis script state) (r :
   within-s = session-within basis.limits basis.core r request request-is
 
   no-stamp : stamp_of account r ≡ None
-  no-stamp = nothing (stamp_of account r) (ap is_some (sym (is.sessions.stamps r request request-is)) ∙ sym (one.begun-agree slog s r stamp) ∙ unbegun)
-    where
-      nothing : (o : Option Stamp) → is_some o ≡ false → o ≡ None
-      nothing None e = refl
-      nothing (Some x) e = cc
+  no-stamp = is-none (stamp_of account r) (ap is_some (sym (is.sessions.stamps r request request-is)) ∙ sym (one.begun-agree slog s r stamp) ∙ unbegun)
 
   -- it comes next in its session
 
@@ -180,7 +178,7 @@ module _ (script : Script) (state : CoreState) (basis : Basis script state) (r :
       account = one.begin-goes-on basis.laws script account basis.limits is g inside s within-s 0 r stamp deed begun-one no-stamp
           (fits (record { last = last; eight = λ before e. (known-last before e).eight; is = refl })) begins
           (λ c h. subst (IsKnown now) (only stamp.clock c (subst (λ cs. Contains cs c) clocks-one h)) stamp-known)
-          hears-one sends quiet (λ q e. (let same : Some request ≡ Some q = sym request-is ∙ e in let is-q : request ≡ q = cc in ap (λ (o : Request). o.session) (sym is-q))) next-begins unbegun;
+          hears-one sends quiet (λ q e. ap (λ (o : Request). o.session) (sym (same_Some request q (sym request-is ∙ e)))) next-begins unbegun;
       sessions = length-set account.sessions s _ ∙ basis.core.sessions;
       notices = λ c h. one.known-next basis.laws script account basis.limits is g inside s within-s 0 r stamp deed begun-one no-stamp c (basis.core.notices c h);
     }
@@ -188,12 +186,8 @@ module _ (script : Script) (state : CoreState) (basis : Basis script state) (r :
   begin-work : IsTrue (has_64_bits stamp.clock) → (work : Work) → request.work ≡ work → (is_change work && is_some (flight_of log)) ≡ false
       → IsCore script (record { account = with_session_deed (with_gate_deed account g 0 (begin_deed r stamp work)) s (session.Begun r stamp); notices = state.notices })
   begin-work small (Change ops) w alone =
-      begun-core small (BeganTx r stamp) refl refl refl refl (λ b. record { alone = none-flies (flight_of log) alone; begun = b }) tt
-      (begins-request small (BeganTx r stamp) refl refl refl refl (λ b. record { alone = none-flies (flight_of log) alone; begun = b }) tt is_change (ap is_change w)) tt
-    where
-      none-flies : (o : Option BegunRequest) → is_some o ≡ false → o ≡ None
-      none-flies None e = refl
-      none-flies (Some b) e = cc
+      begun-core small (BeganTx r stamp) refl refl refl refl (λ b. record { alone = is-none (flight_of log) alone; begun = b }) tt
+      (begins-request small (BeganTx r stamp) refl refl refl refl (λ b. record { alone = is-none (flight_of log) alone; begun = b }) tt is_change (ap is_change w)) tt
   begin-work small (Look program) w alone =
       begun-core small (BeganProgram r stamp) refl refl refl refl (λ b. b) tt
       (begins-request small (BeganProgram r stamp) refl refl refl refl (λ b. b) tt is_look (ap is_look w)) tt
@@ -205,7 +199,7 @@ module _ (script : Script) (state : CoreState) (basis : Basis script state) wher
     where
       by : (q : Option Request) → request_at script r ≡ q → for_request (answer_of_begin script state.account r) q ≡ Ok
           → IsCore script (record { account = at_request (after_begin state.account r) state.account q; notices = state.notices })
-      by None e ok = cc
+      by None e ok = not-ok Idle refl ok
       by (Some request) e ok =
           let three = none-of (has_begun state.account r request) (waits_for_earlier script state.account r request) (finds_flight state.account request) ok in
           begin-work script state basis r request e three.0 three.1 (small request e) request.work refl three.2

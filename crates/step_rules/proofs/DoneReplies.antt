@@ -3,7 +3,8 @@
 use Rattle.std.proofs.Common.{◌≡◌, ◌≢◌, ℕ, ◌+◌, ◌<◌, Bool, true, false, cond, List, [], ◌∷◌, ◌++◌, length, Contains, IsTrue, Option, None, Some, ◌⊎◌, inl, inr, refl, sym, ap, subst, ◌∙◌, get_or, get_or-set_same, get_or-set_other, arith}
 use Rattle.std.specs.Prelude.{◌↔◌, slice_set}
 use Rattle.std.specs.List.{zip}
-use Rattle.std.proofs.lemmas.Bool.{cases_eq}
+use Rattle.std.proofs.lemmas.Bool.{both_ways, cases_eq}
+use Rattle.std.proofs.lemmas.Option.{none-some, same_Some}
 use Rattle.std.proofs.lemmas.List.{length-append, length-replicate, length-set}
 use Rattle.std.proofs.lemmas.List.Elements.{Contains-append_left, Contains-append_right, Contains-append_cases}
 use Rattle.std.proofs.lemmas.List.Sums.{fold-append}
@@ -122,6 +123,18 @@ module _ (laws : LawsForSteps) (script : Script) (account next : Account) (s : �
     ]));
   }
 
+-- a step that is no `reply` is not the reply of a request
+abbrev is_reply : Step → Bool
+is_reply (Reply r) = true
+is_reply _ = false
+
+no-reply : (step : Step) → is_reply step ≡ false → (q : ℕ) → step ≢ Reply q
+no-reply step other q same = both_ways (is_reply step) other (ap is_reply same)
+
+-- the number of a `reply`
+same-number : (r q : ℕ) → Reply r ≡ Reply q → r ≡ q
+same-number r q same = cc
+
 -- what a step leaves if it is done
 module _ (laws : LawsForSteps) (script : Script) (limits : IsWithinLimits script) (state : CoreState) (many : length state.account.sessions ≡ 64) where
   abbrev account : Account
@@ -134,14 +147,14 @@ module _ (laws : LawsForSteps) (script : Script) (limits : IsWithinLimits script
   session-within r request at = let less = limits.sessions r request at in omega (arith, less, many)
 
   -- a step that is no `reply`, and leaves the sessions' logs as they were
-  quiet : (step : Step) (next : Account) → next.sessions ≡ account.sessions → ((q : ℕ) → step ≢ Reply q) → AddsReplies script account next (IsStep step)
-  quiet step next same other = adds-none script account next (IsStep step) same (λ q request at. other q)
+  quiet : (step : Step) (next : Account) → next.sessions ≡ account.sessions → is_reply step ≡ false → AddsReplies script account next (IsStep step)
+  quiet step next same other = adds-none script account next (IsStep step) same (λ q request at. no-reply step other q)
 
   begins : (r : ℕ) (q : Option Request) → request_at script r ≡ q → AddsReplies script account (at_request (after_begin account r) account q) (IsStep (Begin r))
-  begins r None at = quiet (Begin r) account refl (λ q same. cc)
+  begins r None at = quiet (Begin r) account refl refl
   begins r (Some request) at =
       adds-entry laws script account (after_begin account r request) request.session (record { author = request.session; deed = session.Begun r (stamp_to_begin account request) }) (IsStep (Begin r)) (session-within r request at) refl
-      (λ q other there h. absurd (has_none q h)) (λ q other there same. absurd (let no : Begin r ≡ Reply q = same in cc))
+      (λ q other there h. absurd (has_none q h)) (λ q other there same. absurd (no-reply (Begin r) refl q same))
 
   judges : (flight : Option BegunRequest) → (after_judge script account flight).sessions ≡ account.sessions
   judges None = refl
@@ -181,36 +194,31 @@ module _ (laws : LawsForSteps) (script : Script) (limits : IsWithinLimits script
       by-end true = refl
       by-end false = finishes r request.gate (program_begun r (gate_log account request.gate))
 
-  -- the number of a `reply`
-  same-number : (r q : ℕ) → Reply r ≡ Reply q → r ≡ q
-  same-number r q same = cc
-
   replies : (r : ℕ) (q : Option Request) → request_at script r ≡ q → AddsReplies script account (at_request (after_reply account r) account q) (IsStep (Reply r))
   replies r None at = adds-none script account account (IsStep (Reply r)) refl
-      (λ q request there same. (let both : None ≡ Some request = sym at ∙ ap (request_at script) (same-number r q same) ∙ there in cc))
+      (λ q request there same. none-some request (sym at ∙ ap (request_at script) (same-number r q same) ∙ there))
   replies r (Some request) at =
       adds-entry laws script account (after_reply account r request) request.session (record { author = request.session; deed = session.Replied r }) (IsStep (Reply r)) (session-within r request at)
       (ap (λ (ss : List (List SessionEntry)). slice_set ss request.session (get_or ss request.session [] ++ record { author = request.session; deed = session.Replied r } ∷ [])) (works r request request.work))
       (λ q other there h. ap Reply (only r q h))
       (λ q other there same.
       (let number = same-number r q same in
-      let both : Some other ≡ Some request = sym there ∙ ap (request_at script) (sym number) ∙ at in
-      let one : other ≡ request = cc in
+      let one = same_Some other request (sym there ∙ ap (request_at script) (sym number) ∙ at) in
       (ap (λ (o : Request). o.session) one, subst (λ n. Contains (r ∷ []) n) number (has_head r []))))
 
   done-adds : (step : Step) → AddsReplies script account (account_with script state step) (IsStep step)
   done-adds (Begin r) = begins r (request_at script r) refl
-  done-adds (Judge g) = quiet (Judge g) (account_with script state (Judge g)) (judges (flight_of (gate_log account g))) (λ q same. cc)
-  done-adds (Send g) = quiet (Send g) (account_with script state (Send g)) (sends g (flight_of (gate_log account g)) (judgement_in_flight account (flight_of (gate_log account g)))) (λ q same. cc)
-  done-adds (Say g) = quiet (Say g) (account_with script state (Say g)) refl (λ q same. cc)
-  done-adds (Hear g n) = quiet (Hear g n) (account_with script state (Hear g n)) (hears g (sent_as n state.notices)) (λ q same. cc)
-  done-adds (Nop g s) = quiet (Nop g s) (account_with script state (Nop g s)) refl (λ q same. cc)
-  done-adds (Deliver g s n) = quiet (Deliver g s n) (account_with script state (Deliver g s n)) (delivers g s n (sent_as n (channel_of s (gate_log account g)))) (λ q same. cc)
-  done-adds (Apply s g) = quiet (Apply s g) (account_with script state (Apply s g)) refl (λ q same. cc)
-  done-adds (Visit r) = quiet (Visit r) (account_with script state (Visit r)) (at-visit r (request_at script r)) (λ q same. cc)
+  done-adds (Judge g) = quiet (Judge g) (account_with script state (Judge g)) (judges (flight_of (gate_log account g))) refl
+  done-adds (Send g) = quiet (Send g) (account_with script state (Send g)) (sends g (flight_of (gate_log account g)) (judgement_in_flight account (flight_of (gate_log account g)))) refl
+  done-adds (Say g) = quiet (Say g) (account_with script state (Say g)) refl refl
+  done-adds (Hear g n) = quiet (Hear g n) (account_with script state (Hear g n)) (hears g (sent_as n state.notices)) refl
+  done-adds (Nop g s) = quiet (Nop g s) (account_with script state (Nop g s)) refl refl
+  done-adds (Deliver g s n) = quiet (Deliver g s n) (account_with script state (Deliver g s n)) (delivers g s n (sent_as n (channel_of s (gate_log account g)))) refl
+  done-adds (Apply s g) = quiet (Apply s g) (account_with script state (Apply s g)) refl refl
+  done-adds (Visit r) = quiet (Visit r) (account_with script state (Visit r)) (at-visit r (request_at script r)) refl
   done-adds (Reply r) = replies r (request_at script r) refl
-  done-adds (Collect s) = quiet (Collect s) (account_with script state (Collect s)) refl (λ q same. cc)
-  done-adds (Epoch g epoch) = quiet (Epoch g epoch) (account_with script state (Epoch g epoch)) refl (λ q same. cc)
+  done-adds (Collect s) = quiet (Collect s) (account_with script state (Collect s)) refl refl
+  done-adds (Epoch g epoch) = quiet (Epoch g epoch) (account_with script state (Epoch g epoch)) refl refl
 
   -- whatever a step answers: it is a `reply` of the request, and is done
   abbrev IsDone : Step → StepAnswer → ℕ → Type 0
@@ -229,7 +237,7 @@ module _ (laws : LawsForSteps) (script : Script) (limits : IsWithinLimits script
       at : (b : Bool) → is_ok (answer_of script state step) ≡ b → AddsReplies script account (cond b (state_with script state step) state).account (IsDone step (answer_of script state step))
       at true e = with-answer step (account_with script state step) (answer_of script state step) (ok-is (answer_of script state step) e) (done-adds step)
       at false e = adds-none script account account (IsDone step (answer_of script state step)) refl
-          (λ q request there done. (let ok : is_ok (answer_of script state step) ≡ true = ap is_ok done.1 in let clash : false ≡ true = sym e ∙ ok in cc))
+          (λ q request there done. both_ways (is_ok (answer_of script state step)) e (ap is_ok done.1))
 
 -- Lists of steps
 
@@ -272,7 +280,7 @@ module _ (laws : LawsForSteps) (script : Script) (limits : IsWithinLimits script
   at-first = record {
     sessions = length-replicate {A = List SessionEntry} 64 [];
     as_many = refl;
-    has = λ q request at h. (let none : false ≡ true = ap (has_reply_in q) (sym (none-at {A = SessionEntry} 64 request.session)) ∙ h in cc);
+    has = λ q request at h. absurd (both_ways false refl (ap (has_reply_in q) (sym (none-at {A = SessionEntry} 64 request.session)) ∙ h));
     from = λ q request at h. absurd (has_none {A = Step × StepAnswer} (Reply q, Ok) h);
   }
 

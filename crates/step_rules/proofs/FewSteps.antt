@@ -5,7 +5,7 @@ use Rattle.std.proofs.Common.{◌≡◌, ℕ, zero, suc, ◌+◌, ◌^◌, ◌<�
 use Rattle.std.specs.Prelude.{count_by, nat_lt, slice_index, slice_set}
 use Rattle.std.specs.List.{list_all, list_any}
 use Rattle.std.specs.Option.{ForSome}
-use Rattle.std.proofs.lemmas.Bool.{and_from, cases_eq, eqb-true, lt-ltb}
+use Rattle.std.proofs.lemmas.Bool.{and_from, both_ways, cases_eq, eqb-true, lt-ltb}
 use Rattle.std.proofs.lemmas.List.{length-append}
 use Rattle.std.proofs.lemmas.List.Elements.{Contains-append_cases}
 use Rattle.weave_data.proofs.Ends.{by_last, count_push, flat_push}
@@ -197,10 +197,14 @@ module _ (logs : List (List GateEntry)) (g : ℕ) (within : g < length logs) (en
 adds-deed : (account : Account) (g author : ℕ) (deed : GateDeed) → g < length account.gates → RaisesLittle deed → AddsFew account (with_gate_deed account g author deed)
 adds-deed account g author deed within little = set-few account.gates g within (record { author = author; deed = deed }) little
 
+-- of a deed that raises nothing the test is false at each epoch
+nothing-raised : (epoch : ℕ) → IsTrue false → epoch ≤ 1000000
+nothing-raised epoch h = absurd (both_ways false refl h)
+
 -- a begin raises nothing
 begins-little : (r : ℕ) (stamp : Stamp) (work : Work) → RaisesLittle (begin_deed r stamp work)
-begins-little r stamp (Change ops) epoch h = cc
-begins-little r stamp (Look program) epoch h = cc
+begins-little r stamp (Change ops) = nothing-raised
+begins-little r stamp (Look program) = nothing-raised
 
 -- what a step leaves if it is done
 module _ (script : Script) (state : CoreState) (limits : IsWithinLimits script) (core : IsCore script state) where
@@ -220,11 +224,11 @@ module _ (script : Script) (state : CoreState) (limits : IsWithinLimits script) 
   sends-few home inside None judged = adds-none account
   sends-few home inside (Some flight) None = adds-none account
   sends-few home inside (Some flight) (Some judged) =
-      adds-deed account home flight.author (Sent flight.request (messages_of script.shards (gate_log account home) flight judged.ops judged.verdict)) (gate-within core.account home inside) (λ epoch h. cc)
+      adds-deed account home flight.author (Sent flight.request (messages_of script.shards (gate_log account home) flight judged.ops judged.verdict)) (gate-within core.account home inside) nothing-raised
 
   hears-few : (home : ℕ) → home < script.gates → (notice : Option Clock) → AddsFew account (after_hear account home notice)
   hears-few home inside None = adds-none account
-  hears-few home inside (Some notice) = adds-deed account home 0 (Heard notice) (gate-within core.account home inside) (λ epoch h. cc)
+  hears-few home inside (Some notice) = adds-deed account home 0 (Heard notice) (gate-within core.account home inside) nothing-raised
 
   delivers-few : (home shard number : ℕ) (message : Option Message) → AddsFew account (after_deliver account home shard number message)
   delivers-few home shard number None = adds-none account
@@ -241,7 +245,7 @@ module _ (script : Script) (state : CoreState) (limits : IsWithinLimits script) 
 
   finishes-few : (r : ℕ) (request : Request) → request_at script r ≡ Some request → (begun : Option BegunRequest) → AddsFew account (with_finish account r request.gate begun)
   finishes-few r request at None = adds-none account
-  finishes-few r request at (Some begun) = adds-deed account request.gate begun.author (Finished r) (home-within limits core r request at) (λ epoch h. cc)
+  finishes-few r request at (Some begun) = adds-deed account request.gate begun.author (Finished r) (home-within limits core r request at) nothing-raised
 
   work-few : (r : ℕ) (request : Request) → request_at script r ≡ Some request → (work : Work) → AddsFew account (after_work account r request work)
   work-few r request at (Change ops) = adds-none account
@@ -263,7 +267,7 @@ module _ (script : Script) (state : CoreState) (limits : IsWithinLimits script) 
   step-few (Hear g n) range = hears-few g range.0 (sent_as n state.notices)
   step-few (Nop g s) range =
       let stamp = next_stamp g (clock_of g (gate_log account g)) in
-      adds-deed account g 0 (Empty s (next_number s (gate_log account g)) stamp (low_mark stamp (running_of (gate_log account g)))) (gate-within core.account g range.0) (λ epoch h. cc)
+      adds-deed account g 0 (Empty s (next_number s (gate_log account g)) stamp (low_mark stamp (running_of (gate_log account g)))) (gate-within core.account g range.0) nothing-raised
   step-few (Deliver g s n) range = delivers-few g s n (sent_as n (channel_of s (gate_log account g)))
   step-few (Apply s g) range = λ home. inl refl
   step-few (Visit r) range = at-visit r (request_at script r)

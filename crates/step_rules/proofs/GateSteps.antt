@@ -4,7 +4,7 @@ use Rattle.std.proofs.Common.{◌≡◌, ℕ, ◌<◌, ◌==◌, Bool, true, fal
 use Rattle.std.specs.Prelude.{is_some, nat_lt, slice_get}
 use Rattle.std.proofs.lemmas.Bool.{ltb-true}
 use Rattle.std.proofs.lemmas.List.Elements.{Contains-append_cases}
-use Rattle.std.proofs.lemmas.Option.{slice_get_within, get_or_from_slice_get}
+use Rattle.std.proofs.lemmas.Option.{slice_get_within, get_or_from_slice_get, none-some}
 use Rattle.weave_data.proofs.Members.{has_none, only}
 use Rattle.vector_stamp.specs.declared.clock.Clock.{Clock}
 use Rattle.shard_queue.specs.Outbox.{sent_as}
@@ -23,7 +23,15 @@ use Rattle.step_rules.specs.Answers.{answer_of}
 use Rattle.step_rules.specs.Entries.{state_with, after_hear}
 use Rattle.step_rules.specs.IsCore.{IsCore}
 use Rattle.step_rules.proofs.Basis.{Basis}
+use Rattle.step_rules.proofs.Clashes.{not-ok}
 use Rattle.step_rules.proofs.QuietGateEntry.{known-after, gate-goes-on}
+
+get-there : (n : ℕ) (xs : List Clock) (x : Clock) → sent_as n xs ≡ Some x → Contains xs x
+get-there n xs x e = at (n == 0) e
+  where
+    at : (b : Bool) → cond b None (slice_get xs (n - 1)) ≡ Some x → Contains xs x
+    at true e = absurd (none-some x e)
+    at false e = (n - 1, slice_get_within xs (n - 1) x e, get_or_from_slice_get xs (n - 1) x x e)
 
 module _ (script : Script) (state : CoreState) (basis : Basis script state) where
   abbrev account : Account
@@ -49,19 +57,12 @@ module _ (script : Script) (state : CoreState) (basis : Basis script state) wher
     ];
   }
 
-  get-there : (n : ℕ) (xs : List Clock) (x : Clock) → sent_as n xs ≡ Some x → Contains xs x
-  get-there n xs x e = at (n == 0) e
-    where
-      at : (b : Bool) → cond b None (slice_get xs (n - 1)) ≡ Some x → Contains xs x
-      at true e = cc
-      at false e = (n - 1, slice_get_within xs (n - 1) x e, get_or_from_slice_get xs (n - 1) x x e)
-
   -- a `hear` that is done at a gatekeeper of the script keeps a core
   pub hear-keeps : (g n : ℕ) → g < script.gates → answer_of script state (Hear g n) ≡ Ok → IsCore script (state_with script state (Hear g n))
   hear-keeps g n inside ok = at (sent_as n state.notices) refl ok
     where
       at : (o : Option Clock) → sent_as n state.notices ≡ o → cond (is_some o) Ok Unknown ≡ Ok → IsCore script (record { account = after_hear account g o; notices = state.notices })
-      at None e ok = cc
+      at None e ok = not-ok Unknown refl ok
       at (Some clock) e ok =
           let known = basis.core.notices clock (get-there n state.notices clock e) in
           deed-keeps g inside 0 (gate.Heard clock) refl
@@ -74,7 +75,7 @@ module _ (script : Script) (state : CoreState) (basis : Basis script state) wher
   epoch-keeps g epoch inside ok = at (nat_lt (clock_of g (gate_log account g)).epoch epoch) refl ok
     where
       at : (b : Bool) → nat_lt (clock_of g (gate_log account g)).epoch epoch ≡ b → cond b Ok Old ≡ Ok → IsCore script (state_with script state (Epoch g epoch))
-      at false e ok = cc
+      at false e ok = not-ok Old refl ok
       at true e ok =
           deed-keeps g inside 0 (gate.Raised epoch) refl
           (gate-goes-on basis.laws script account basis.limits basis.core.account g inside 0 (gate.Raised epoch) refl (ltb-true (clock_of g (gate_log account g)).epoch epoch e)

@@ -49,10 +49,16 @@ use Rattle.step_rules.specs.Entries.{after_judge, state_with, with_judgement}
 use Rattle.step_rules.specs.IsCore.{IsCore}
 use Rattle.step_rules.specs.Requests.{ops_in}
 use Rattle.step_rules.proofs.Basis.{Basis}
+use Rattle.step_rules.proofs.Clashes.{not-ok}
 use Rattle.step_rules.proofs.Begun.{flight-begun}
 use Rattle.step_rules.proofs.Frames.{StoreRule, each-other, sends-stay, deeds-stay, replies-stay}
 use Rattle.step_rules.proofs.Commits.{commit-stamp, in-reverse}
 use Rattle.step_rules.proofs.Verdicts.{IsSettled, all-precede, asked-is, none-refused, settles}
+
+-- work that passes the test of transactions is a transaction
+change-of : (work : Work) → IsTrue (is_change work) → work ≡ Change (ops_of work)
+change-of (Change ops) change = refl
+change-of (Look program) change = cc
 
 module _ (script : Script) (state : CoreState) (basis : Basis script state) (g : ℕ) (inside : g < script.gates)
     (flight : BegunRequest) (flies : flight_of (gate_log state.account g) ≡ Some flight) (unjudged : judgement_of flight.request state.account.store ≡ None) where
@@ -118,13 +124,9 @@ module _ (script : Script) (state : CoreState) (basis : Basis script state) (g :
   work : IsSomeAnd (request_at script flight.request) (λ (request : Request). request.work ≡ Change ops)
   work = at (request_at script flight.request) (basis.further.accounts.flights script account basis.limits is g flight flies)
     where
-      change : (w : Work) → IsTrue (is_change w) → w ≡ Change (ops_of w)
-      change (Change os) h = refl
-      change (Look program) h = cc
-
       at : (q : Option Request) → IsSomeAnd q (λ (request : Request). (request.gate ≡ g) × IsTrue (is_change request.work)) → IsSomeAnd q (λ (request : Request). request.work ≡ Change (ops_in q))
       at None h = h
-      at (Some request) h = change request.work h.1
+      at (Some request) h = change-of request.work h.1
 
   -- The judged events
 
@@ -276,9 +278,9 @@ module _ (script : Script) (state : CoreState) (basis : Basis script state) wher
   judge-keeps g inside ok = at (flight_of (gate_log state.account g)) refl ok
     where
       at : (o : Option BegunRequest) → flight_of (gate_log state.account g) ≡ o → answer_of_judge state.account o ≡ answer.Ok → IsCore script (record { account = after_judge script state.account o; notices = state.notices })
-      at None e ok = cc
+      at None e ok = not-ok answer.Idle refl ok
       at (Some flight) e ok = by-judgement (judgement_of flight.request state.account.store) refl ok
         where
           by-judgement : (j : Option Judgement) → judgement_of flight.request state.account.store ≡ j → cond (is_some j) answer.Idle answer.Ok ≡ answer.Ok → IsCore script (record { account = after_judge script state.account (Some flight); notices = state.notices })
           by-judgement None not-judged ok = judged-keeps script state basis g inside flight e not-judged
-          by-judgement (Some j) is ok = cc
+          by-judgement (Some j) is ok = not-ok answer.Idle refl ok

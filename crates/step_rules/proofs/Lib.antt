@@ -1,4 +1,5 @@
 mod Basis
+mod Clashes
 pub mod SetLists
 mod Ended
 pub mod FindLists

@@ -25,6 +25,7 @@ use Rattle.step_rules.specs.Entries.{state_with}
 use Rattle.step_rules.specs.IsCore.{IsCore}
 use Rattle.step_rules.proofs.Basis.{Basis}
 use Rattle.step_rules.proofs.Begun.{all-in, inside-log}
+use Rattle.step_rules.proofs.Clashes.{not-ok}
 use Rattle.step_rules.proofs.QuietGateEntry.{gate-goes-on, known-after, log-here, on}
 use Rattle.step_rules.proofs.GateSteps.{deed-keeps}
 
@@ -75,7 +76,7 @@ module _ (script : Script) (state : CoreState) (basis : Basis script state) (g s
   nop-keeps ok = at (flight_of log) refl ok
     where
       at : (o : Option BegunRequest) → flight_of log ≡ o → cond (is_some o) Busy Ok ≡ Ok → IsCore script (state_with script state (Nop g s))
-      at (Some flight) e ok = cc
+      at (Some flight) e ok = not-ok Busy refl ok
       at None e ok = deed-keeps script state basis g inside 0 deed refl
           (gate-goes-on basis.laws script account basis.limits basis.core.account g inside 0 deed refl
           (record { alone = e; shard_is = shard-inside; stamp_is = refl; number_is = refl; low_is = refl }) knows tt tt (λ r request program there look h. has_none r h))

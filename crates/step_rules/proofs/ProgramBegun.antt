@@ -1,10 +1,10 @@
 -- A begun request that is a program was begun as one, at its own gatekeeper.
 -- Used by Replying and VisitStep.
-use Rattle.std.proofs.Common.{◌≡◌, ℕ, suc, ◌==◌, Bool, true, List, [], ◌∷◌, Contains, IsTrue, Option, None, Some, inl, inr, refl, sym, ap, subst, ◌∙◌, get_or}
+use Rattle.std.proofs.Common.{◌≡◌, ℕ, suc, ◌==◌, Bool, true, false, List, [], ◌∷◌, Contains, IsTrue, Option, None, Some, inl, inr, refl, sym, ap, subst, ◌∙◌, get_or}
 use Rattle.std.specs.Prelude.{is_some, ◌&&◌}
 use Rattle.std.specs.List.{find}
 use Rattle.std.specs.Option.{option_map}
-use Rattle.std.proofs.lemmas.Bool.{and_parts, eqb-true}
+use Rattle.std.proofs.lemmas.Bool.{and_parts, both_ways, eqb-true}
 use Rattle.std.proofs.lemmas.List.Elements.{Contains-append_cases}
 use Rattle.weave_data.proofs.Members.{cut_at, find_has, flat_has, has_flat, has_none, has_read, only}
 use Rattle.program_defs.specs.declared.program.Program.{Program}
@@ -80,14 +80,14 @@ module _ (script : Script) (account : Account) (is : IsAccount script account) (
       ]
     where
       no-change : (home : ℕ) → IsTrue ((request.gate == home) && is_change request.work) → IsBegunProgram
-      no-change home h = absurd (let change : IsTrue (is_change (Look program)) = subst (λ w. IsTrue (is_change w)) look (and_parts (request.gate == home) (is_change request.work) h).1 in cc)
+      no-change home h = absurd (both_ways (is_change (Look program)) refl (subst (λ w. IsTrue (is_change w)) look (and_parts (request.gate == home) (is_change request.work) h).1))
 
   -- a program that has a stamp was begun as a program at its own gatekeeper
   pub program-there : is_some (stamp_of account r) ≡ true → IsBegunProgram
   program-there some = at (find (λ (b : BegunRequest). b.request == r) (all_begun account)) refl some
     where
       at : (o : Option BegunRequest) → find (λ (b : BegunRequest). b.request == r) (all_begun account) ≡ o → is_some (option_map (λ (b : BegunRequest). b.stamp) o) ≡ true → IsBegunProgram
-      at None e h = cc
+      at None e h = absurd (both_ways false refl h)
       at (Some b) e h =
           let has = find_has (λ (one : BegunRequest). one.request == r) (all_begun account) b e in
           let log = flat_has begun_in account.gates b has.0 in

@@ -32,6 +32,7 @@ use Rattle.weave_account.specs.IsAccount.{IsAccount}
 use Rattle.program_defs.specs.Limits.{IsWithinLimits}
 use Rattle.step_rules.specs.CoreState.{with_gate_deed}
 use Rattle.step_rules.specs.LowerLaws.{LawsForSteps}
+use Rattle.step_rules.proofs.Clashes.{not-empty}
 use Rattle.step_rules.proofs.Frames.{SendRule, store-stays, oracle-stays, sends-stay, deeds-stay, replies-stay}
 use Rattle.step_rules.proofs.SetLists.{flat-set, flat-more, SetMore}
 use Rattle.step_rules.proofs.Ended.{in-has, has-in}
@@ -81,8 +82,8 @@ module _ (laws : LawsForSteps) (script : Script) (account : Account) (limits : I
   once-after = subst (AllPairs (λ (a b : BegunRequest). a.request ≢ b.request)) (sym all-same) is.gatekeepers.once
 
   begins-new : (d : GateDeed) → begun_by author d ≡ [] → BeginsAs script after g log d
-  begins-new (BeganTx r stamp) none = cc
-  begins-new (BeganProgram r stamp) none = cc
+  begins-new (BeganTx r stamp) none = absurd (not-empty (record { author = author; request = r; stamp = stamp }) [] none)
+  begins-new (BeganProgram r stamp) none = absurd (not-empty (record { author = author; request = r; stamp = stamp }) [] none)
   begins-new (Sent r messages) none = tt
   begins-new (Nop to number stamp low) none = tt
   begins-new (Heard clock) none = tt

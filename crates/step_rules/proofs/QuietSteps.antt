@@ -4,12 +4,13 @@ use Rattle.std.proofs.Common.{◌≡◌, ℕ, zero, suc, ◌+◌, ◌-◌, ◌<�
 use Rattle.std.specs.Prelude.{slice_get}
 use Rattle.std.specs.List.{range_with_len}
 use Rattle.std.proofs.lemmas.Bool.{both_ways, cases_eq, eq-eqb, eqb-true}
+use Rattle.std.proofs.lemmas.Option.{none-some}
 use Rattle.weave_data.proofs.Members.{filter_has, flat_has, has_head, has_tail}
 use Rattle.weave_data.specs.declared.name.Name.{Name}
 use Rattle.shard_queue.specs.Outbox.{sent_as}
 use Rattle.program_defs.specs.declared.script.Script.{Script}
 use Rattle.program_defs.specs.declared.script.Step.TheVariants.{Deliver, Apply, Collect}
-use Rattle.report_rules.specs.declared.report.StepAnswer.TheVariants.{Ok}
+use Rattle.report_rules.specs.declared.report.StepAnswer.TheVariants.{Ok, Unknown, Repeat, Empty, Waits}
 use Rattle.weave_entries.specs.declared.gate_log.GateEntry.{GateEntry}
 use Rattle.weave_entries.specs.declared.message.Addressed.{Addressed}
 use Rattle.weave_entries.specs.declared.message.Message.{Message}
@@ -23,6 +24,7 @@ use Rattle.step_rules.specs.Answers.{answer_of, answer_of_apply, answer_of_deliv
 use Rattle.step_rules.specs.Entries.{after_deliver, state_with}
 use Rattle.step_rules.specs.IsCore.{IsCore}
 use Rattle.step_rules.proofs.Basis.{Basis}
+use Rattle.step_rules.proofs.Clashes.{not-ok}
 use Rattle.step_rules.proofs.ShardStep.{quiet-keeps}
 
 module _ (script : Script) (state : CoreState) (basis : Basis script state) where
@@ -35,12 +37,12 @@ module _ (script : Script) (state : CoreState) (basis : Basis script state) wher
   apply-keeps s g inside ok = at (head_of g (shard_log state.account s)) refl ok
     where
       at : (o : Option Message) → head_of g (shard_log state.account s) ≡ o → answer_of_apply state.account s o ≡ Ok → IsCore script (state_with script state (Apply s g))
-      at None e ok = cc
+      at None e ok = not-ok Empty refl ok
       at (Some head) e ok = waiting (waits_at head (shard_log state.account s)) refl ok
         where
           waiting : (w : Option Name) → waits_at head (shard_log state.account s) ≡ w → waits_or_ok w ≡ Ok → IsCore script (state_with script state (Apply s g))
           waiting None is ok = quiet-keeps script state basis s inside (shard.Applied g (processed_count g (shard_log state.account s) + 1)) refl (record { number_is = refl; message = head; head = e; in_turn = is })
-          waiting (Some v) is ok = cc
+          waiting (Some v) is ok = not-ok (Waits v) refl ok
 
 -- What was sent with a number is addressed so
 
@@ -59,7 +61,7 @@ sent-there : {M : Type 0} (number : ℕ) (xs : List M) (m : M) → sent_as numbe
 sent-there number xs m e = at (number == 0) refl e
   where
     at : (b : Bool) → (number == 0) ≡ b → cond b None (slice_get xs (number - 1)) ≡ Some m → (1 ≤ number) × (slice_get xs (number - 1) ≡ Some m)
-    at true is e = cc
+    at true is e = absurd (none-some m e)
     at false is e = elim (cases_eq number 0) [
       | inl none ↦ absurd (both_ways (number == 0) is (eq-eqb number 0 none))
       | inr other ↦ (omega (arith, other), e)
@@ -85,8 +87,8 @@ module _ (script : Script) (state : CoreState) (basis : Basis script state) wher
     where
       at : (o : Option Message) → sent_as n (channel_of s (gate_log state.account g)) ≡ o → (a : Option Message) → arrived_at g n (shard_log state.account s) ≡ a → answer_of_deliver o a ≡ Ok
           → IsCore script (record { account = after_deliver state.account g s n o; notices = state.notices })
-      at None e a is ok = cc
-      at (Some message) e (Some earlier) is ok = cc
+      at None e a is ok = not-ok Unknown refl ok
+      at (Some message) e (Some earlier) is ok = not-ok Repeat refl ok
       at (Some message) e None is ok =
           let few = basis.limits.few_gates in
           let below : g < 8 = omega (arith, few, inside) in

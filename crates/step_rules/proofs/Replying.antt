@@ -6,6 +6,7 @@ use Rattle.std.specs.Prelude.{is_some, ◌||◌}
 use Rattle.std.specs.List.{find, list_any}
 use Rattle.std.proofs.lemmas.Bool.{and_from, both_ways, eq-eqb}
 use Rattle.std.proofs.lemmas.List.{length-set}
+use Rattle.std.proofs.lemmas.Option.{same_Some}
 use Rattle.weave_data.proofs.Members.{any_from, find_has, find_lacks}
 use Rattle.vector_stamp.specs.declared.clock.Stamp.{Stamp}
 use Rattle.weave_data.specs.declared.name.Name.{Name}
@@ -33,6 +34,7 @@ use Rattle.step_rules.specs.Entries.{after_reply, after_work, at_request, state_
 use Rattle.step_rules.specs.IsCore.{IsCore}
 use Rattle.step_rules.specs.Requests.{has_begun, has_ended, has_reply, is_answered}
 use Rattle.step_rules.proofs.Basis.{Basis}
+use Rattle.step_rules.proofs.Clashes.{not-ok, same-program}
 use Rattle.step_rules.proofs.FindLists.{any-find, is-some-map}
 use Rattle.step_rules.proofs.FinishStep as finish
 use Rattle.step_rules.proofs.ProgramBegun.{program-there}
@@ -85,12 +87,10 @@ module _ (script : Script) (state : CoreState) (basis : Basis script state) (r :
       record {
         account = finish.finish-goes-on basis.laws script account basis.limits is g (basis.limits.homes r request request-is) s (session-within basis.limits basis.core r request request-is) b.author r
             (any_from (is_begun b.author r) (running_of log) b running (and_from (b.author == b.author) (b.request == r) (eq-eqb b.author b.author refl) has.1))
-            turn (λ q there. (let one : Some request ≡ Some q = sym request-is ∙ there in let same : request ≡ q = cc in ap (λ (o : Request). o.session) (sym same)))
+            turn (λ q there. ap (λ (o : Request). o.session) (sym (same_Some request q (sym request-is ∙ there))))
             (λ q other there looks.
-            (let one : Some request ≡ Some q = sym request-is ∙ there in
-            let same : request ≡ q = cc in
-            let works : Look program ≡ Look other = sym look ∙ ap (λ (o : Request). o.work) same ∙ looks in
-            let programs : program ≡ other = cc in
+            (let same = same_Some request q (sym request-is ∙ there) in
+            let programs = same-program program other (sym look ∙ ap (λ (o : Request). o.work) same ∙ looks) in
             ap (next_visit (reads_of account r)) (sym programs) ∙ read));
         sessions = length-set account.sessions s _ ∙ basis.core.sessions;
         notices = λ clock h. basis.laws.accounts.stay_clocks script account (finish.next basis.laws script account basis.limits is g (basis.limits.homes r request request-is) s (session-within basis.limits basis.core r request request-is) b.author r)
@@ -121,7 +121,7 @@ module _ (script : Script) (state : CoreState) (basis : Basis script state) wher
     where
       at : (q : Option Request) → request_at script r ≡ q → for_request (answer_of_reply state.account r) q ≡ Ok
           → IsCore script (record { account = at_request (after_reply state.account r) state.account q; notices = state.notices })
-      at None e ok = cc
+      at None e ok = not-ok Idle refl ok
       at (Some request) e ok =
           let three = all-three (has_begun state.account r request) (has_reply state.account r request) (is_answered state.account r request request.work) ok in
           by-work script state basis r request e three.0 three.1 request.work refl three.2

@@ -37,6 +37,7 @@ use Rattle.step_rules.specs.Answers.{answer_of, answer_of_send}
 use Rattle.step_rules.specs.Entries.{after_send, judgement_in_flight, state_with}
 use Rattle.step_rules.specs.IsCore.{IsCore}
 use Rattle.step_rules.proofs.Basis.{Basis}
+use Rattle.step_rules.proofs.Clashes.{not-ok}
 use Rattle.step_rules.proofs.Begun.{all-in, flight-begun, inside-log, one-begun}
 use Rattle.step_rules.proofs.QuietGateEntry.{known-after, gate-goes-on}
 use Rattle.step_rules.proofs.GateSteps.{deed-keeps}
@@ -152,10 +153,10 @@ module _ (script : Script) (state : CoreState) (basis : Basis script state) wher
     where
       at : (o : Option BegunRequest) → flight_of (gate_log state.account g) ≡ o → answer_of_send state.account o ≡ Ok
           → IsCore script (record { account = after_send script state.account g o (judgement_in_flight state.account o); notices = state.notices })
-      at None e ok = cc
+      at None e ok = not-ok Idle refl ok
       at (Some flight) e ok = by-judgement (judgement_of flight.request state.account.store) refl ok
         where
           by-judgement : (j : Option Judgement) → judgement_of flight.request state.account.store ≡ j → cond (is_some j) Ok Idle ≡ Ok
               → IsCore script (record { account = after_send script state.account g (Some flight) j; notices = state.notices })
-          by-judgement None is ok = cc
+          by-judgement None is ok = not-ok Idle refl ok
           by-judgement (Some judged) is ok = sent-keeps script state basis g inside flight e judged is

@@ -19,6 +19,7 @@ use Rattle.weave_entries.specs.OracleRules.{IsOracleLog, IsRightEntry}
 use Rattle.weave_entries.specs.StoreReplay.{Commit}
 use Rattle.weave_entries.specs.StoreRule.{LastCommit, asked_of, asked_stamps, entries_of_settling, lasts_of}
 use Rattle.step_rules.specs.LowerLaws.{LawsForSteps}
+use Rattle.step_rules.proofs.Clashes.{not-empty}
 
 -- none of the earlier events is preceded by the later one
 pub none-refused : (pairs : List GivenPair) (events : List Stamp) (later : Stamp) → ((event : Stamp) → Contains events event → ¬ IsTrue (precedes pairs later event)) → refused_place pairs events later ≡ None
@@ -75,7 +76,7 @@ module _ (laws : LawsForSteps) (author : ℕ) (log : List OracleEntry) (earlier 
     where
       no-pairs : (adds : List (ℕ × Stamp)) → places_of adds ≡ [] → pairs_of adds later ≡ []
       no-pairs [] e = refl
-      no-pairs (add ∷ adds) e = cc
+      no-pairs (add ∷ adds) e = absurd (not-empty add.0 (places_of adds) e)
 
       at : (ps : List ℕ) → ps ≡ places_of (additions_from 0 (pairs_of_log log) earlier later) → IsSettled author log earlier later (map oracle_entry_of (entries_of_call author earlier later ps))
       at [] e = record {
@@ -85,7 +86,7 @@ module _ (laws : LawsForSteps) (author : ℕ) (log : List OracleEntry) (earlier 
       }
       at (p ∷ ps) e =
           let settled : SettledEntry = record { author = author; earlier = earlier; later = later; places = p ∷ ps } in
-          let is-right : IsRightEntry (pairs_of_log log) settled = record { others = others; permitted = permitted; added = e; some = λ none. (let same = none in cc) } in
+          let is-right : IsRightEntry (pairs_of_log log) settled = record { others = others; permitted = permitted; added = e; some = not-empty p ps } in
           record {
             right = laws.logs.oracle_right log (oracle_entry_of settled) right is-right;
             pairs = laws.logs.oracle_pairs log (oracle_entry_of settled) ∙ ap (λ more. pairs_of_log log ++ more) (laws.logs.oracle_added (pairs_of_log log) settled is-right);

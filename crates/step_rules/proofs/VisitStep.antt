@@ -9,7 +9,7 @@ use Rattle.std.specs.Option.{ForSome}
 use Rattle.std.proofs.lemmas.Bool.{and_from, and_parts, both_ways, cases_Bool, cases_eq, cases_lt, not_from_false, or_cases, or_left, or_right}
 use Rattle.std.proofs.lemmas.List.{append-nil, get_or_past, length-map, length-set}
 use Rattle.std.proofs.lemmas.List.Elements.{All-from_recursion, Contains-append_cases, Contains-append_left, Contains-append_right}
-use Rattle.std.proofs.lemmas.Option.{get_or_from_slice_get, slice_get_within, slice_get-get_or}
+use Rattle.std.proofs.lemmas.Option.{get_or_from_slice_get, none-some, same_Some, slice_get_within, slice_get-get_or}
 use Rattle.weave_data.proofs.Members.{cut_at, filter_has, find_has, flat_has, has_head, has_map, has_none, map_has, only}
 use Rattle.weave_data.specs.declared.name.Name.{Name}
 use Rattle.weave_data.specs.Names.{shard_of}
@@ -50,6 +50,7 @@ use Rattle.step_rules.specs.Entries.{made_entry, seen_in, update_stamps_at}
 use Rattle.step_rules.specs.IsCore.{IsCore}
 use Rattle.step_rules.proofs.Basis.{Basis}
 use Rattle.step_rules.proofs.Begun.{all-in, inside-log, one-begun}
+use Rattle.step_rules.proofs.Clashes.{change-no-look, same-program}
 use Rattle.step_rules.proofs.Commits.{commit-judged}
 use Rattle.step_rules.proofs.FindLists.{pairs-into}
 use Rattle.step_rules.proofs.Frames.{ShardRule, deeds-stay, replies-stay, sends-stay, store-stays}
@@ -75,6 +76,11 @@ made-some (first ∷ entries) entry h = refl
 some-made : (entries : List OracleEntry) → IsTrue (made_entry entries) → (entry : OracleEntry) × Contains entries entry
 some-made [] h = absurd (let none : IsTrue false = h in cc)
 some-made (first ∷ entries) h = (first, has_head first entries)
+
+-- a request that is a program is no transaction
+change-not : (request : Request) (program : Program) → request.work ≡ Look program → (q : Option Request) (ops : List Op) → IsSomeAnd q (λ (other : Request). other.work ≡ Change ops) → q ≡ Some request → ⊥
+change-not request program look None ops work e = absurd work
+change-not request program look (Some other) ops work e = change-no-look ops program (sym work ∙ ap (λ (q : Request). q.work) (same_Some other request e) ∙ look)
 
 -- the rule of a visit, by its deed
 visit-rule : (script : Script) (account : Account) (s : ℕ) (before : List ShardEntry) (author : ℕ) (deed : ShardDeed) (visit : Visit) → Contains (visit_by author deed) visit
@@ -188,11 +194,7 @@ module _ (script : Script) (state : CoreState) (basis : Basis script state) (r :
   judged-other judged h =
       let one : BegunRequest = record { author = judged.author; request = judged.request; stamp = judged.stamp } in
       basis.further.accounts.differ script account basis.limits is one begun (basis.further.accounts.judged_begun script account basis.limits is judged h) all-begun
-      (λ same. change-not (request_at script judged.request) judged.ops (basis.further.accounts.judged_work script account basis.limits is judged h) (ap (request_at script) (same ∙ begun-is) ∙ request-is))
-    where
-      change-not : (q : Option Request) (ops : List Op) → IsSomeAnd q (λ (other : Request). other.work ≡ Change ops) → q ≡ Some request → ⊥
-      change-not None ops work e = absurd work
-      change-not (Some other) ops work e = let same : other ≡ request = cc in let clash : Change ops ≡ Look program = sym work ∙ ap (λ (q : Request). q.work) same ∙ look in cc
+      (λ same. change-not request program look (request_at script judged.request) judged.ops (basis.further.accounts.judged_work script account basis.limits is judged h) (ap (request_at script) (same ∙ begun-is) ∙ request-is))
 
   -- the same holds of a commit
   commit-other : (commit : Commit) → Contains (commits_in account) commit → id_of commit.stamp ≢ id_of stamp
@@ -270,7 +272,7 @@ module _ (script : Script) (state : CoreState) (basis : Basis script state) (r :
         once = subst (AllPairs (λ (a b : Name × State). a.0 ≢ b.0)) (sym set.now) (pairs-into (λ (a b : Name × State). a.0 ≢ b.0) set.front read set.back distinct
             (λ y h. other y (Contains-append_left set.front set.back y h)) (λ y h same. other y (Contains-append_right set.front set.back y h) (sym same)));
         first_ones = subst (λ reads. AreFirstVisits reads program) (sym set.now) (basis.further.programs.visits_go_on program set.front set.back v read.1 first after);
-        whole = λ done. (let clash : Some v ≡ None = sym next-is ∙ was.whole done in cc);
+        whole = λ done. absurd (none-some v (sym (was.whole done) ∙ next-is));
       }
 
   programs : ProgramsClause script next
@@ -278,10 +280,8 @@ module _ (script : Script) (state : CoreState) (basis : Basis script state) (r :
     | inr differ ↦ subst (λ reads. ReadsInTurn reads program' (IsTrue (is_ended account q))) (sym (flat-set (reads_in q) account.shards s (log ++ entry ∷ []) (shard-within is s inside) (visited.reads-stay log r stamp v k (made_entry entries) q differ)))
         (is.programs q request' program' there look')
     | inl same ↦
-        let one : Some request ≡ Some request' = sym request-is ∙ ap (request_at script) (sym same) ∙ there in
-        let requests : request ≡ request' = cc in
-        let works : Look program ≡ Look program' = sym look ∙ ap (λ (x : Request). x.work) requests ∙ look' in
-        let programs-are : program ≡ program' = cc in
+        let requests = same_Some request request' (sym request-is ∙ ap (request_at script) (sym same) ∙ there) in
+        let programs-are = same-program program program' (sym look ∙ ap (λ (x : Request). x.work) requests ∙ look') in
         subst (λ n. ReadsInTurn (reads_of next n) program' (IsTrue (is_ended account n))) (sym same) (subst (λ p. ReadsInTurn (reads_of next r) p (IsTrue (is_ended account r))) programs-are turn)
   ]
 

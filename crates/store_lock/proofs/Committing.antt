@@ -1,6 +1,6 @@
 -- A judgement under both locks: the logs go on, and what the store's judgements refer to is still seen.
 -- Used by `commit` and `judge_over`.
-use Rattle.std.proofs.Common.{◌≡◌, ℕ, List, [], ◌++◌, map, Contains, sym, ap, ◌∙◌, subst, append-nil}
+use Rattle.std.proofs.Common.{◌≡◌, ℕ, List, [], ◌∷◌, ◌++◌, map, Contains, sym, ap, ◌∙◌, subst, append-nil}
 use Rattle.std.specs.Prelude.{Result, Ok, Err, IfOk, OnErr}
 use Rattle.std.proofs.lemmas.List.{map-append}
 use mathlib.Core.List.{IsPrefix}
@@ -20,18 +20,19 @@ use Rattle.weave_entries.specs.GateReplay.{txs_of}
 use Rattle.weave_entries.specs.OracleReplay.{oracle_entry_of, pairs_of_log}
 use Rattle.weave_entries.specs.OracleRules.{IsOracleLog}
 use Rattle.weave_entries.specs.StoreRule.{IsStoreLog}
-use Rattle.backing_store.specs.Commits.{asked_at, entries_added, judged_entry}
+use Rattle.backing_store.specs.Commits.{asked_at, entries_added, judged_entry, pairs_added, verdict_at}
 use Rattle.weave_account.specs.declared.account.Account.{Account}
 use Rattle.weave_account.specs.Account.{gate_log}
 use Rattle.weave_account.specs.GoesOn.{IsBeginningOf}
 use Rattle.seen_logs.specs.References.{StoreRefersAs}
 use Rattle.seen_logs.specs.Seen.{GatesGoOn, StoreRefersWithin}
-use Rattle.chronicle.specs.Logs.{Log, Follows}
+use Rattle.chronicle.specs.Logs.{Log, Follows, entries_of}
 use Rattle.chronicle.proofs.Logs.{prefix_trans}
 use Rattle.lock_row.proofs.Lists.{mapped_on}
 use Rattle.seen_logs.specs.Entries.{oracle_entries, oracle_pair, oracle_pairs, oracle_entry}
 use Rattle.oracle_lock.specs.Seen.{of_gates}
 use Rattle.oracle_lock.proofs.CallEntries.{AllBy, call-by, none-by}
+use Rattle.oracle_lock.proofs.Settling.{pairs_back}
 use Rattle.store_lock.specs.Judged.{JudgesOver}
 use Rattle.store_lock.specs.Seen.{store_seen, StoreIsKept}
 use Rattle.store_lock.specs.VerdictLaws.{VerdictLaws}
@@ -64,6 +65,49 @@ follows number author entered before after pairs asked stamp (Err fault) same is
   append-nil entered ∙ (is ∙ ap (λ (l : List OracleEntry). oracle_pairs l) (sym kept)),
   none-by number,
 )
+
+-- What the judgement did
+
+if-ok : {A E : Type 0} {P Q : A → Type 0} (r : Result A E) → ((a : A) → P a → Q a) → IfOk r P → IfOk r Q
+if-ok (Ok a) go h = go a h
+if-ok (Err e) go h = tt
+
+on-err : {A E : Type 0} {P Q : Type 0} (r : Result A E) → (P → Q) → OnErr r P → OnErr r Q
+on-err (Ok a) go h = tt
+on-err (Err e) go h = go h
+
+-- what a judgement does in a hold of the oracle, over the oracle's log before it and after it
+pub record Judges {E : Type 0} (author request : ℕ) (stamp : Stamp) (ops : List Op) (old new : List StoreEntry)
+    (before after : List OracleEntry) (result : Result Verdict E) : Type 0 where
+  pub verdict : IfOk result (λ verdict. verdict ≡ verdict_at (pairs_of_log before) old stamp ops)
+  pub entry : IfOk result (λ verdict. new ≡ old ++ judged_entry author request stamp ops old verdict ∷ [])
+  pub logged : IfOk result (λ verdict. after ≡ before
+      ++ map oracle_entry_of (entries_added verdict author (pairs_of_log before) (asked_at old stamp ops) stamp))
+  pub pairs : IfOk result (λ verdict. pairs_of_log after
+      ≡ pairs_of_log before ++ pairs_added verdict (pairs_of_log before) (asked_at old stamp ops) stamp)
+  pub store : OnErr result (new ≡ old)
+  pub oracle : OnErr result (after ≡ before)
+
+-- a judgement in this hold of the oracle's lock
+pub judged-over : {E : Type 0} (number author request : ℕ) (stamp : Stamp) (ops : List Op) (old new : List StoreEntry)
+    (had own entered has : Log OracleDeed) (before after : List OracleEntry) (result : Result Verdict E) → author ≡ number
+    → entered ≡ oracle_pairs before → has ≡ oracle_pairs after → IsPrefix had entered → entries_of number entered ≡ own
+    → Judges author request stamp ops old new before after result
+    → JudgesOver number request stamp ops old new had own has before result
+judged-over number author request stamp ops old new had own entered has before after result same is left begins own_then judges =
+    let pairs = pairs_of_log before in
+    let asked = asked_at old stamp ops in record {
+      begins = subst (λ (l : Log OracleDeed). IsPrefix had l) is begins;
+      own_then = ap (λ (l : Log OracleDeed). entries_of number l) (sym is) ∙ own_then;
+      verdict = judges.verdict;
+      entry = subst (λ (n : ℕ). IfOk result (λ verdict. new ≡ old ++ judged_entry n request stamp ops old verdict ∷ [])) same judges.entry;
+      logged = if-ok result (λ verdict e. left ∙ (ap (λ (l : List OracleEntry). oracle_pairs l) e
+          ∙ ap (λ (n : ℕ). oracle_pairs (before ++ map oracle_entry_of (entries_added verdict n pairs asked stamp))) same)) judges.logged;
+      pairs = if-ok result (λ verdict e. ap (λ (l : Log OracleDeed). pairs_of_log (oracle_entries l)) left
+          ∙ (ap (λ (l : List OracleEntry). pairs_of_log l) (pairs_back after) ∙ e)) judges.pairs;
+      store = judges.store;
+      oracle = on-err result (λ e. left ∙ ap (λ (l : List OracleEntry). oracle_pairs l) e) judges.oracle;
+    }
 
 -- Lists that go on
 

@@ -1,4 +1,5 @@
-//! What a core keeps and counts after some steps, which no report shows, and a core that is taken apart and joined again.
+//! What a core keeps and counts after some steps, which no report shows, and a core that is taken apart and joined
+//! again.
 
 use crate::cores::{core_of, do_steps, drive_to, step, text_of};
 use program_defs::Step;

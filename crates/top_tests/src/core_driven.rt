@@ -30,9 +30,9 @@ const DRIVEN: [(&str, u32, &str); 6] = [
         3,
         "report 1\ntx t0 0:0:1,0,0 committed 1\ntx t1 0:1:0,1,0 committed 3\nprog p2 0:2:0,0,2 done record k=x e>b\ntx t3 0:2:0,0,1 committed 2\ntx t4 unbegun\nprog p5 unbegun\nprog p6 unbegun\ntx t7 unbegun\nprog p8 unbegun\nsettled a t0 t3\norder t0 t1 t3 p2\nend\n",
     ),
-    // The program p2 is finished, and finds no vertex a. Then t0, t1, t3, t4 and t7 are sent, and some of their messages arrive:
-    // at shard 1 the head of gatekeeper 1 waits for a message of gatekeeper 2, and at shard 2 the head of gatekeeper 2
-    // for one of gatekeeper 1.
+    // The program p2 is finished, and finds no vertex a. Then t0, t1, t3, t4 and t7 are sent, and some of their
+    // messages arrive: at shard 1 the head of gatekeeper 1 waits for a message of gatekeeper 2, and at shard 2 the head
+    // of gatekeeper 2 for one of gatekeeper 1.
     (
         "steps\nbegin p2\nsay 2\nhear 0 1\nhear 1 1\nnop 0 1\nnop 1 1\nnop 2 1\ndeliver 0 1 1\ndeliver 1 1 1\ndeliver 2 1 1\nvisit p2\nreply p2\nbegin t0\njudge 0\nsend 0\nbegin t1\njudge 1\nsend 1\nreply t1\nbegin t3\njudge 2\nsend 2\nbegin t4\njudge 1\nsend 1\nbegin t7\njudge 2\nsend 2\napply 1 1\ndeliver 1 1 2\ndeliver 0 2 1\napply 2 0\ndeliver 2 2 1\napply 2 2\ndeliver 2 2 2\napply 1 1\napply 2 2\n",
         5,

@@ -1,7 +1,8 @@
 //! Long reports: right ones, and ones that break a clause at one place near their end.
 //!
-//! Requests at one gatekeeper or at eight in turn, of sixteen sessions. The first creates v. Of each sixteen four create
-//! it again and are refused, one is aborted for a conflict with the eighth after it, and the others set a key of it.
+//! Requests at one gatekeeper or at eight in turn, of sixteen sessions. The first creates v. Of each sixteen four
+//! create it again and are refused, one is aborted for a conflict with the eighth after it, and the others set a key
+//! of it.
 ghost use Rattle.std.specs.Prelude.{◌<◌};
 ghost use Rattle.weave_data.specs.Limits.{most_gates};
 

@@ -1,5 +1,6 @@
-//! The tests of the top call, of cores and of the judge that no text shows: paces of workers, statuses, long inputs that
-//! are made here, values. What can be said as texts is in the crate `worked_tests`. There is nothing but tests here.
+//! The tests of the top call, of cores and of the judge that no text shows: paces of workers, statuses, long inputs
+//! that are made here, values. What can be said as texts is in the crate `worked_tests`. There is nothing but tests
+//! here.
 #![tactic(auto)]
 
 #[cfg(test)]

@@ -4,6 +4,7 @@ use Rattle.std.proofs.Common.{◌≡◌, ℕ, zero, suc, ◌+◌, ◌<◌, Bool,
 use Rattle.std.specs.Prelude.{slice_get}
 use Rattle.std.proofs.lemmas.Bool.{both_ways}
 use Rattle.std.proofs.lemmas.List.Elements.{Contains-append_left}
+use Rattle.std.proofs.lemmas.Option.{none-some, same_Some}
 use Rattle.weave_data.proofs.Members.{has_none, has_read, has_last}
 use Rattle.vector_stamp.specs.declared.clock.Stamp.{Stamp}
 use Rattle.vector_stamp.specs.Precedence.{GivenPair, Precedes, ByStamps, ByPair, Through, precedes}
@@ -40,11 +41,11 @@ module _ (laws : LawsForAccounts) where
   -- an event is added for at its first place, never at a later one
   pub first-place : (n : ℕ) (pairs : List GivenPair) (events : List Stamp) (later event : Stamp) (place q : ℕ)
       → Contains (additions_from n pairs events later) (place, event) → slice_get events q ≡ Some event → n + q < place → ⊥
-  first-place n pairs [] later event place q h e less = cc
+  first-place n pairs [] later event place q h e less = none-some event e
   first-place n pairs (first ∷ events) later event place zero h e less = at (precedes pairs first later) refl h
     where
       is : first ≡ event
-      is = cc
+      is = same_Some first event e
 
       at : (b : Bool) → precedes pairs first later ≡ b
           → Contains (cond b (additions_from (suc n) pairs events later) ((n, first) ∷ additions_from (suc n) (pairs ++ (first, later) ∷ []) events later)) (place, event)

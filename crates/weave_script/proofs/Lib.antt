@@ -10,6 +10,7 @@ pub mod LimitLaws
 pub mod Lines
 pub mod Numbers
 pub mod OpLaws
+pub mod OpWords
 pub mod Phases
 pub mod Places
 pub mod SmallScripts

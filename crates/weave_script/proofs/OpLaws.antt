@@ -20,14 +20,11 @@ use Rattle.weave_data.proofs.Steps.{bind_ok, bind_at, ok_is}
 use Rattle.graph_ops.proofs.EachOp.{finds-op, found-op, vertex-first}
 use Rattle.weave_report.proofs.ReadSteps.{is_word}
 use Rattle.weave_script.proofs.Binds.{pick}
+use Rattle.weave_script.proofs.OpWords.{of_names}
 
 -- an operation whose fields are names, and its line
 abbrev pub IsRead : Line → Op → Type 0
 IsRead line op = IsOperation op × (line ≡ op_line op)
-
--- the operation, if its fields are names
-abbrev of_names : Line → Op → ReadOrCause Op
-of_names fields op = cond (list_all is_name fields) (Ok op) (Err causes.Name)
 
 was_there : (cause : Cause) (o : Option Op) (op : Op) → or_refused cause o ≡ Ok op → o ≡ Some op
 was_there cause None op e = absurd cc

@@ -1,5 +1,5 @@
 -- What follows for the machines when all locks are closed.
--- Used by `close`.
+-- Used by `close_all`.
 use Rattle.std.proofs.Common.{◌≡◌, ℕ, zero, suc, ◌<◌, ◌≤◌, List, [], ◌∷◌, length, map, get_or, refl, sym, ap, ◌∙◌, subst, arith, Vec}
 use Rattle.std.specs.Global.{Global}
 use Rattle.std.specs.List.{All, Contains}
@@ -35,6 +35,7 @@ use Rattle.weaver_locks.specs.Locks.{hands_of, start_of}
 use Rattle.weaver_locks.specs.Hands.{hand_number, made_by, seen_by, IsHand}
 use Rattle.weaver_locks.specs.Rooms.{AreRooms, HaveGathered, IsRoom}
 use Rattle.weaver_locks.specs.ClosedRows.{AreClosed, HaveAll, CameOut}
+use Rattle.weaver_locks.specs.ClosedLogs.{AreClosedLogs}
 use Rattle.weaver_locks.specs.Closing.{AreInOrder, AreEntriesOfHands, entries_by, logs_of, seen_by_number}
 use Rattle.weaver_locks.specs.ClosingLaws.{ClosingLaws}
 use Rattle.weaver_locks.proofs.Lists.{map_twice}
@@ -278,3 +279,7 @@ module _ (shared : Shared) (hands : List Hand) (each : All (IsHand shared) hands
             shards_long = length-map shards shard_log_of ∙ (out.shard_count ∙ sym is.shards);
             numbers = record { gates = is.gate_numbers; oracle = is.oracle_number; shards = is.shard_numbers };
           }
+
+      -- so they are as `close` promises
+      pub closed_logs : AreClosedLogs shared hands gates_out store.store oracle.oracle shards_out
+      closed_logs = record { order = in_order; legal = legal; within = within; entries = entries; of_hands = of_hands; made = made }

@@ -9,6 +9,7 @@ pub mod InGate
 pub mod StoreHolds
 pub mod Following
 pub mod Closing
+pub mod ClosedLogs
 pub mod ShardHolds
 pub mod Going
 pub mod InShard
@@ -19,6 +20,7 @@ pub mod Rooms
 pub mod ClosedRows
 pub mod Kept
 pub mod Opened
+pub mod OpenedFor
 pub mod Noted
 pub mod ClosingLaws
 pub mod OpeningLaws

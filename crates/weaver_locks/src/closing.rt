@@ -2,6 +2,7 @@
 ghost use Rattle.std.specs.Prelude.{◌≡◌, ◌≤◌, ◌<◌, ℕ, map, vec_len, All, Contains};
 ghost use Rattle.seen_logs.specs.Closed.{AreOfHands};
 ghost use Rattle.seen_logs.specs.Seen.{AreLegal, IsWithin, VisitsOwnPrograms};
+ghost use Rattle.weaver_locks.specs.ClosedLogs.{AreClosedLogs};
 ghost use Rattle.weaver_locks.specs.Closing.{AreInOrder, AreEntriesOfHands, entries_by, logs_of, seen_by_number};
 ghost use Rattle.weaver_locks.specs.Hands.{hand_number, made_by, seen_by, IsHand};
 ghost use Rattle.weaver_locks.specs.Locks.{gate_count, hands_of, shard_count, start_of};
@@ -48,25 +49,38 @@ impl Shared {
         ensures made { All (λ hand. entries_by (hand_number hand)
             (logs_of result.gates.items result.store result.oracle result.shards.items) ≡ made_by hand) hands.items }
     {
-        closed_logs_keep_their_laws();
-        let Shared {
-            gates,
-            store,
-            oracle,
-            shards,
-            mut rooms,
-            ends,
-        } = self;
-        gather(&mut rooms, hands);
-        let noted_gates = close_row(gates, rooms.gates, ends.noted_gates);
-        let noted_store = store.close(rooms.store);
-        let noted_oracle = oracle.close(rooms.oracle);
-        let noted_shards = close_row(shards, rooms.shards, ends.noted_shards);
-        Closed {
-            gates: gates_without_notes(noted_gates, ends.gates),
-            store: noted_store.into_store(),
-            oracle: noted_oracle.into_oracle(),
-            shards: shards_without_notes(noted_shards, ends.shards),
-        }
+        close_all(self, hands)
+    }
+}
+
+// What `close` does. What it says of the logs is one fact.
+fn close_all(shared: Shared, hands: Vec<Hand>) -> Closed
+    requires each { All (IsHand shared) hands.items }
+    requires all { (number : ℕ) → number < hands_of shared → Contains (map hand_number hands.items) number }
+    requires count { vec_len hands ≤ hands_of shared }
+    ensures gates { vec_len result.gates ≡ gate_count shared }
+    ensures shards { vec_len result.shards ≡ shard_count shared }
+    ensures closed { AreClosedLogs shared hands.items result.gates.items result.store result.oracle
+        result.shards.items }
+{
+    closed_logs_keep_their_laws();
+    let Shared {
+        gates,
+        store,
+        oracle,
+        shards,
+        mut rooms,
+        ends,
+    } = shared;
+    gather(&mut rooms, hands);
+    let noted_gates = close_row(gates, rooms.gates, ends.noted_gates);
+    let noted_store = store.close(rooms.store);
+    let noted_oracle = oracle.close(rooms.oracle);
+    let noted_shards = close_row(shards, rooms.shards, ends.noted_shards);
+    Closed {
+        gates: gates_without_notes(noted_gates, ends.gates),
+        store: noted_store.into_store(),
+        oracle: noted_oracle.into_oracle(),
+        shards: shards_without_notes(noted_shards, ends.shards),
     }
 }

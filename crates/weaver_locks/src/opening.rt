@@ -4,12 +4,9 @@ ghost use Rattle.weaver_locks.specs.Closing.{logs_of, MayStart};
 ghost use Rattle.weaver_locks.specs.Hands.{hand_number, seen_by, IsHand};
 ghost use Rattle.weaver_locks.specs.Locks.{gate_count, hands_of, shard_count, start_of};
 
-use crate::bare::{bare_gates, bare_shards};
-use crate::dealing::deal_hands;
+use crate::filling::fill_locks;
 use crate::hand::Hand;
-use crate::locks::reserve_all;
-use crate::noting_all::{fill_all, note_all};
-use crate::opening_all::open_all;
+use crate::opened_locks::open_locks;
 use crate::opening_laws::new_locks_keep_their_laws;
 use crate::preparing::{make_ends, make_rooms};
 use crate::shared::Shared;
@@ -43,34 +40,10 @@ impl Shared {
         new_locks_keep_their_laws();
         let gate_len = gates.len();
         let shard_len = shards.len();
-        let gate_locks = gate_len as u32;
-        let count = shard_len as u32;
-        let rooms = make_rooms(alloc, gate_locks, count, hands)?;
-        let ends = make_ends(alloc, gate_locks, count)?;
-        let (mut locks, parts) = reserve_all(alloc, gate_locks, count, hands)?;
-        let bare = bare_gates(alloc, gates, &locks)?;
-        let bare_shards = bare_shards(alloc, shards, count, &locks)?;
-        let (passes, places) = open_all(
-            alloc,
-            &mut locks,
-            parts,
-            &bare,
-            &store,
-            &oracle,
-            &bare_shards,
-        )?;
-        let mut dealt = deal_hands(alloc, &locks, passes, hands)?;
-        let machines = note_all(
-            alloc,
-            bare,
-            store,
-            oracle,
-            bare_shards,
-            count,
-            &locks,
-            &mut dealt[0],
-        )?;
-        fill_all(&mut locks, places, machines);
+        let opened = open_locks(alloc, gates, &store, &oracle, shards, hands)?;
+        let (locks, dealt) = fill_locks(alloc, opened, store, oracle, hands)?;
+        let rooms = make_rooms(alloc, gate_len as u32, shard_len as u32, hands)?;
+        let ends = make_ends(alloc, gate_len as u32, shard_len as u32)?;
         let shared = Shared {
             gates: locks.gates,
             store: locks.store,

@@ -2,8 +2,8 @@
 //!
 //! `drive` is `run` on one thread. `drive on` does the script's steps, and then drives the core until each request has
 //! its reply. `visits` asks the script's programs on a plain graph. `check each` judges all reports of a text with
-//! choices. `print script` and `print check` copy and print what they read. `nothing` is the command line without words;
-//! every other command is the words of the top call.
+//! choices. `print script` and `print check` copy and print what they read. `nothing` is the command line without
+//! words; every other command is the words of the top call.
 
 use crate::choosing::check_each;
 use crate::driving::drive_on;

@@ -1,20 +1,16 @@
-use Rattle.std.proofs.Common.{◌≡◌, ℕ, ◌+◌, ◌||◌, ◌&&◌, true, false, Bool, eqb, List, Option, refl, length, take, sym, ap, ◌∙◌}
+use Rattle.std.proofs.Common.{◌≡◌, ℕ, ◌+◌, ◌||◌, ◌&&◌, true, false, Bool, eqb, List, Option, length, take, sym, ap, ◌∙◌}
 use Rattle.report_rules.specs.declared.report.Reply.{Reply}
 use Rattle.vector_stamp.specs.declared.clock.Stamp.{Stamp}
 use Rattle.report_rules.specs.Lookups.{is_some_and}
 use Rattle.order_witness.specs.Bits.{rows_lead}
 use Rattle.order_witness.specs.Begun.{is_before_in, stamps_lead}
-use Rattle.order_witness.proofs.Bases.{passes_more, or_false}
+use Rattle.order_witness.proofs.Bases.{passes_more, or_false, joined}
 use Rattle.order_witness.proofs.precedence.put_stamps.Goals as goal
 use Rattle.order_witness.proofs.precedence.put_stamps.Goals.{in-Some, in_default}
 
 -- the reply has a stamp before that of reply b
 abbrev leads_to : List Reply → ℕ → Reply → Bool
 leads_to others b reply = is_some_and (λ stamp. is_before_in others stamp b) reply.stamp
-
-joined : (x y z : Bool) → ((x || y) || z) ≡ (x || (y || z))
-joined true y z = refl
-joined false y z = refl
 
 nothing : (x y b p : Bool) → p ≡ false → (x || y) ≡ (x || (y || (b && p)))
 nothing x y true p h = ap (λ z. x || z) (sym (ap (λ q. y || q) h ∙ or_false y))

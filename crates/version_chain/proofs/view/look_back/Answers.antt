@@ -1,5 +1,6 @@
 use Rattle.std.proofs.Common.{◌≡◌, ◌+◌, ℕ, length, sym, ap, ◌∙◌, arith}
 use Rattle.std.proofs.lemmas.List.{length-append}
+use Rattle.std.proofs.lemmas.Result.{err_from_is_err_and}
 use Rattle.std.proofs.lemmas.List.Elements.{All-contains}
 use Rattle.vector_stamp.specs.declared.clock.Stamp.{Stamp}
 use Rattle.vector_stamp.specs.Order.{id_of}
@@ -21,29 +22,33 @@ pub look-requires-clause-coherent : goal.look-requires-clause-coherent
 look-requires-clause-coherent g c =
     one_coherent (kept_from c.args.dropped c.args.parts.now c.args.stamps.now) (kept_from c.args.dropped c.args.parts.now c.loop-newest.rest.now) (kept_from c.args.dropped c.args.parts.now c.in-Some.older.now) (version_at c.args.parts.now (c.args.dropped + length c.loop-newest.rest.now) c.in-Some.newest.now) c.loop-newest.invariant.front (kept_split c.args.parts.now c.args.dropped c.loop-newest.rest.now c.in-Some.older.now c.in-Some.newest.now c.in-Some.ensures.cases.0) c.parts_and_unions_are_coherent.ensures.part c.args.program _ _ c.loop-newest.invariant.known c.requires.coherent
 
-pub returns-in_err-seen-clause-known : goal.returns-in_err-seen-clause-known
-returns-in_err-seen-clause-known g c =
-    learns_on (kept_from c.args.dropped c.args.parts.now c.args.stamps.now) (kept_from c.args.dropped c.args.parts.now c.loop-newest.rest.now) (kept_from c.args.dropped c.args.parts.now c.in-Some.older.now) (version_at c.args.parts.now (c.args.dropped + length c.loop-newest.rest.now) c.in-Some.newest.now) c.loop-newest.invariant.front (kept_split c.args.parts.now c.args.dropped c.loop-newest.rest.now c.in-Some.older.now c.in-Some.newest.now c.in-Some.ensures.cases.0) c.args.program _ _ _ c.loop-newest.invariant.known c.look.ensures.known
+pub returns-in_err-seen : goal.returns-in_err-seen
+returns-in_err-seen g c =
+    let p = err_from_is_err_and c.from_residual.result c.from_residual.ensures.1 in
+    rw p.1 (record {
+      view = tt;
+      pairs = tt;
+      no_pair = c.in_err-seen.ensures.no_pair ∙ c.loop-newest.invariant.pairs;
+      known = learns_on (kept_from c.args.dropped c.args.parts.now c.args.stamps.now) (kept_from c.args.dropped c.args.parts.now c.loop-newest.rest.now) (kept_from c.args.dropped c.args.parts.now c.in-Some.older.now) (version_at c.args.parts.now (c.args.dropped + length c.loop-newest.rest.now) c.in-Some.newest.now) c.loop-newest.invariant.front (kept_split c.args.parts.now c.args.dropped c.loop-newest.rest.now c.in-Some.older.now c.in-Some.newest.now c.in-Some.ensures.cases.0) c.args.program _ _ _ c.loop-newest.invariant.known c.look.ensures.known;
+      stay_known = λ stamp has. c.look.ensures.stay_known stamp (c.loop-newest.invariant.stays stamp has);
+      logged = tt;
+      not_logged = λ keeps. c.in_err-seen.ensures.not_logged keeps ∙ c.loop-newest.invariant.log keeps;
+      not_asked = λ none. c.look.ensures.not_asked (none_unordered (kept_from c.args.dropped c.args.parts.now c.args.stamps.now) (kept_from c.args.dropped c.args.parts.now c.loop-newest.rest.now) (kept_from c.args.dropped c.args.parts.now c.in-Some.older.now) (version_at c.args.parts.now (c.args.dropped + length c.loop-newest.rest.now) c.in-Some.newest.now) c.loop-newest.invariant.front (kept_split c.args.parts.now c.args.dropped c.loop-newest.rest.now c.in-Some.older.now c.in-Some.newest.now c.in-Some.ensures.cases.0) c.args.program none) ∙ c.loop-newest.invariant.not_asked none;
+    })
 
-pub returns-in_err-seen-clause-stay_known : goal.returns-in_err-seen-clause-stay_known
-returns-in_err-seen-clause-stay_known g c = λ stamp has. c.look.ensures.stay_known stamp (c.loop-newest.invariant.stays stamp has)
-
-pub returns-in-Some-2-clause-view : goal.returns-in-Some-2-clause-view
-returns-in-Some-2-clause-view g c =
-    ap (λ (n : ℕ). record { state = c.in-Some-2.seen.state; updates = c.args.dropped + n; settled = c.in-Some-2.seen.settled }) (sym (kept_length c.args.parts.now c.args.dropped c.loop-newest.rest.now))
-    ∙ view_is (kept_from c.args.dropped c.args.parts.now c.args.stamps.now) (kept_from c.args.dropped c.args.parts.now c.loop-newest.rest.now) (kept_from c.args.dropped c.args.parts.now c.in-Some.older.now) (version_at c.args.parts.now (c.args.dropped + length c.loop-newest.rest.now) c.in-Some.newest.now) c.loop-newest.invariant.front (kept_split c.args.parts.now c.args.dropped c.loop-newest.rest.now c.in-Some.older.now c.in-Some.newest.now c.in-Some.ensures.cases.0) (g.J.Judge.pairs c.args.judge.now) c.args.program c.loop-newest.invariant.seen c.in-Some-2.seen (seen_on (g.J.Judge.pairs c.args.judge.now) (g.J.Judge.pairs c.loop-newest.judge) c.args.program (version_at c.args.parts.now (c.args.dropped + length c.loop-newest.rest.now) c.in-Some.newest.now) c.loop-newest.invariant.pairs c.in-Some-2.seen c.in_ok-seen.field-0 c.in-Some-2.is c.in_ok-seen.ensures.seen) c.args.dropped
-
-pub returns-in-Some-2-clause-pairs : goal.returns-in-Some-2-clause-pairs
-returns-in-Some-2-clause-pairs g c =
-    pairs_seen c.in_ok-seen.field-0 c.in-Some-2.seen c.in-Some.newest.now c.args.program _ (g.J.Judge.pairs c.args.judge.now) (g.J.Judge.pairs c.loop-newest.judge) _ c.in-Some-2.is (read_is (kept_from c.args.dropped c.args.parts.now c.args.stamps.now) (kept_from c.args.dropped c.args.parts.now c.loop-newest.rest.now) (kept_from c.args.dropped c.args.parts.now c.in-Some.older.now) (version_at c.args.parts.now (c.args.dropped + length c.loop-newest.rest.now) c.in-Some.newest.now) c.loop-newest.invariant.front (kept_split c.args.parts.now c.args.dropped c.loop-newest.rest.now c.in-Some.older.now c.in-Some.newest.now c.in-Some.ensures.cases.0) (g.J.Judge.pairs c.args.judge.now) c.args.program c.loop-newest.invariant.seen c.in-Some-2.seen (seen_on (g.J.Judge.pairs c.args.judge.now) (g.J.Judge.pairs c.loop-newest.judge) c.args.program (version_at c.args.parts.now (c.args.dropped + length c.loop-newest.rest.now) c.in-Some.newest.now) c.loop-newest.invariant.pairs c.in-Some-2.seen c.in_ok-seen.field-0 c.in-Some-2.is c.in_ok-seen.ensures.seen) c.args.dropped) c.loop-newest.invariant.pairs c.in_ok-seen.ensures.pairs
-
-pub returns-in-Some-2-clause-known : goal.returns-in-Some-2-clause-known
-returns-in-Some-2-clause-known g c =
-    learns_on (kept_from c.args.dropped c.args.parts.now c.args.stamps.now) (kept_from c.args.dropped c.args.parts.now c.loop-newest.rest.now) (kept_from c.args.dropped c.args.parts.now c.in-Some.older.now) (version_at c.args.parts.now (c.args.dropped + length c.loop-newest.rest.now) c.in-Some.newest.now) c.loop-newest.invariant.front (kept_split c.args.parts.now c.args.dropped c.loop-newest.rest.now c.in-Some.older.now c.in-Some.newest.now c.in-Some.ensures.cases.0) c.args.program _ _ _ c.loop-newest.invariant.known c.look.ensures.known
-
-pub returns-in-Some-2-clause-logged : goal.returns-in-Some-2-clause-logged
-returns-in-Some-2-clause-logged g c = λ keeps.
-    log_seen c.args.author c.in_ok-seen.field-0 c.in-Some-2.seen c.in-Some.newest.now c.args.program _ (g.J.Judge.pairs c.args.judge.now) (g.J.Judge.pairs c.loop-newest.judge) _ _ _ c.in-Some-2.is (read_is (kept_from c.args.dropped c.args.parts.now c.args.stamps.now) (kept_from c.args.dropped c.args.parts.now c.loop-newest.rest.now) (kept_from c.args.dropped c.args.parts.now c.in-Some.older.now) (version_at c.args.parts.now (c.args.dropped + length c.loop-newest.rest.now) c.in-Some.newest.now) c.loop-newest.invariant.front (kept_split c.args.parts.now c.args.dropped c.loop-newest.rest.now c.in-Some.older.now c.in-Some.newest.now c.in-Some.ensures.cases.0) (g.J.Judge.pairs c.args.judge.now) c.args.program c.loop-newest.invariant.seen c.in-Some-2.seen (seen_on (g.J.Judge.pairs c.args.judge.now) (g.J.Judge.pairs c.loop-newest.judge) c.args.program (version_at c.args.parts.now (c.args.dropped + length c.loop-newest.rest.now) c.in-Some.newest.now) c.loop-newest.invariant.pairs c.in-Some-2.seen c.in_ok-seen.field-0 c.in-Some-2.is c.in_ok-seen.ensures.seen) c.args.dropped) c.loop-newest.invariant.pairs (c.loop-newest.invariant.log keeps) (c.in_ok-seen.ensures.logged keeps)
+pub returns-in-Some-2 : goal.returns-in-Some-2
+returns-in-Some-2 g c = record {
+  view = ap (λ (n : ℕ). record { state = c.in-Some-2.seen.state; updates = c.args.dropped + n; settled = c.in-Some-2.seen.settled }) (sym (kept_length c.args.parts.now c.args.dropped c.loop-newest.rest.now))
+      ∙ view_is (kept_from c.args.dropped c.args.parts.now c.args.stamps.now) (kept_from c.args.dropped c.args.parts.now c.loop-newest.rest.now) (kept_from c.args.dropped c.args.parts.now c.in-Some.older.now) (version_at c.args.parts.now (c.args.dropped + length c.loop-newest.rest.now) c.in-Some.newest.now) c.loop-newest.invariant.front (kept_split c.args.parts.now c.args.dropped c.loop-newest.rest.now c.in-Some.older.now c.in-Some.newest.now c.in-Some.ensures.cases.0) (g.J.Judge.pairs c.args.judge.now) c.args.program c.loop-newest.invariant.seen c.in-Some-2.seen (seen_on (g.J.Judge.pairs c.args.judge.now) (g.J.Judge.pairs c.loop-newest.judge) c.args.program (version_at c.args.parts.now (c.args.dropped + length c.loop-newest.rest.now) c.in-Some.newest.now) c.loop-newest.invariant.pairs c.in-Some-2.seen c.in_ok-seen.field-0 c.in-Some-2.is c.in_ok-seen.ensures.seen) c.args.dropped;
+  pairs = pairs_seen c.in_ok-seen.field-0 c.in-Some-2.seen c.in-Some.newest.now c.args.program _ (g.J.Judge.pairs c.args.judge.now) (g.J.Judge.pairs c.loop-newest.judge) _ c.in-Some-2.is (read_is (kept_from c.args.dropped c.args.parts.now c.args.stamps.now) (kept_from c.args.dropped c.args.parts.now c.loop-newest.rest.now) (kept_from c.args.dropped c.args.parts.now c.in-Some.older.now) (version_at c.args.parts.now (c.args.dropped + length c.loop-newest.rest.now) c.in-Some.newest.now) c.loop-newest.invariant.front (kept_split c.args.parts.now c.args.dropped c.loop-newest.rest.now c.in-Some.older.now c.in-Some.newest.now c.in-Some.ensures.cases.0) (g.J.Judge.pairs c.args.judge.now) c.args.program c.loop-newest.invariant.seen c.in-Some-2.seen (seen_on (g.J.Judge.pairs c.args.judge.now) (g.J.Judge.pairs c.loop-newest.judge) c.args.program (version_at c.args.parts.now (c.args.dropped + length c.loop-newest.rest.now) c.in-Some.newest.now) c.loop-newest.invariant.pairs c.in-Some-2.seen c.in_ok-seen.field-0 c.in-Some-2.is c.in_ok-seen.ensures.seen) c.args.dropped) c.loop-newest.invariant.pairs c.in_ok-seen.ensures.pairs;
+  no_pair = tt;
+  known = learns_on (kept_from c.args.dropped c.args.parts.now c.args.stamps.now) (kept_from c.args.dropped c.args.parts.now c.loop-newest.rest.now) (kept_from c.args.dropped c.args.parts.now c.in-Some.older.now) (version_at c.args.parts.now (c.args.dropped + length c.loop-newest.rest.now) c.in-Some.newest.now) c.loop-newest.invariant.front (kept_split c.args.parts.now c.args.dropped c.loop-newest.rest.now c.in-Some.older.now c.in-Some.newest.now c.in-Some.ensures.cases.0) c.args.program _ _ _ c.loop-newest.invariant.known c.look.ensures.known;
+  stay_known = λ stamp has. c.look.ensures.stay_known stamp (c.loop-newest.invariant.stays stamp has);
+  logged = λ keeps.
+      log_seen c.args.author c.in_ok-seen.field-0 c.in-Some-2.seen c.in-Some.newest.now c.args.program _ (g.J.Judge.pairs c.args.judge.now) (g.J.Judge.pairs c.loop-newest.judge) _ _ _ c.in-Some-2.is (read_is (kept_from c.args.dropped c.args.parts.now c.args.stamps.now) (kept_from c.args.dropped c.args.parts.now c.loop-newest.rest.now) (kept_from c.args.dropped c.args.parts.now c.in-Some.older.now) (version_at c.args.parts.now (c.args.dropped + length c.loop-newest.rest.now) c.in-Some.newest.now) c.loop-newest.invariant.front (kept_split c.args.parts.now c.args.dropped c.loop-newest.rest.now c.in-Some.older.now c.in-Some.newest.now c.in-Some.ensures.cases.0) (g.J.Judge.pairs c.args.judge.now) c.args.program c.loop-newest.invariant.seen c.in-Some-2.seen (seen_on (g.J.Judge.pairs c.args.judge.now) (g.J.Judge.pairs c.loop-newest.judge) c.args.program (version_at c.args.parts.now (c.args.dropped + length c.loop-newest.rest.now) c.in-Some.newest.now) c.loop-newest.invariant.pairs c.in-Some-2.seen c.in_ok-seen.field-0 c.in-Some-2.is c.in_ok-seen.ensures.seen) c.args.dropped) c.loop-newest.invariant.pairs (c.loop-newest.invariant.log keeps) (c.in_ok-seen.ensures.logged keeps);
+  not_logged = tt;
+  not_asked = λ none. c.look.ensures.not_asked (none_unordered (kept_from c.args.dropped c.args.parts.now c.args.stamps.now) (kept_from c.args.dropped c.args.parts.now c.loop-newest.rest.now) (kept_from c.args.dropped c.args.parts.now c.in-Some.older.now) (version_at c.args.parts.now (c.args.dropped + length c.loop-newest.rest.now) c.in-Some.newest.now) c.loop-newest.invariant.front (kept_split c.args.parts.now c.args.dropped c.loop-newest.rest.now c.in-Some.older.now c.in-Some.newest.now c.in-Some.ensures.cases.0) c.args.program none) ∙ c.loop-newest.invariant.not_asked none;
+}
 
 pub loop-newest-preserved : goal.loop-newest-preserved
 loop-newest-preserved g c = record {
@@ -56,9 +61,3 @@ loop-newest-preserved g c = record {
   stays = λ stamp has. c.look.ensures.stay_known stamp (c.loop-newest.invariant.stays stamp has);
   not_asked = λ none. c.look.ensures.not_asked (none_unordered (kept_from c.args.dropped c.args.parts.now c.args.stamps.now) (kept_from c.args.dropped c.args.parts.now c.loop-newest.rest.now) (kept_from c.args.dropped c.args.parts.now c.in-Some.older.now) (version_at c.args.parts.now (c.args.dropped + length c.loop-newest.rest.now) c.in-Some.newest.now) c.loop-newest.invariant.front (kept_split c.args.parts.now c.args.dropped c.loop-newest.rest.now c.in-Some.older.now c.in-Some.newest.now c.in-Some.ensures.cases.0) c.args.program none) ∙ c.loop-newest.invariant.not_asked none;
 }
-
-pub returns-in_err-seen-clause-not_asked : goal.returns-in_err-seen-clause-not_asked
-returns-in_err-seen-clause-not_asked g c = λ none. c.look.ensures.not_asked (none_unordered (kept_from c.args.dropped c.args.parts.now c.args.stamps.now) (kept_from c.args.dropped c.args.parts.now c.loop-newest.rest.now) (kept_from c.args.dropped c.args.parts.now c.in-Some.older.now) (version_at c.args.parts.now (c.args.dropped + length c.loop-newest.rest.now) c.in-Some.newest.now) c.loop-newest.invariant.front (kept_split c.args.parts.now c.args.dropped c.loop-newest.rest.now c.in-Some.older.now c.in-Some.newest.now c.in-Some.ensures.cases.0) c.args.program none) ∙ c.loop-newest.invariant.not_asked none
-
-pub returns-in-Some-2-clause-not_asked : goal.returns-in-Some-2-clause-not_asked
-returns-in-Some-2-clause-not_asked g c = λ none. c.look.ensures.not_asked (none_unordered (kept_from c.args.dropped c.args.parts.now c.args.stamps.now) (kept_from c.args.dropped c.args.parts.now c.loop-newest.rest.now) (kept_from c.args.dropped c.args.parts.now c.in-Some.older.now) (version_at c.args.parts.now (c.args.dropped + length c.loop-newest.rest.now) c.in-Some.newest.now) c.loop-newest.invariant.front (kept_split c.args.parts.now c.args.dropped c.loop-newest.rest.now c.in-Some.older.now c.in-Some.newest.now c.in-Some.ensures.cases.0) c.args.program none) ∙ c.loop-newest.invariant.not_asked none

@@ -1,4 +1,7 @@
-use Rattle.std.proofs.Common.{◌≡◌, ◌≢◌, ◌∷◌, ◌++◌, ◌⊎◌, inl, inr, ℕ, List, [], length, All, nat_eq, cond, Some, None, Contains, sym, subst, ap, ◌∙◌, arith}
+use Rattle.std.proofs.Common.{◌≡◌, ◌≢◌, ◌∷◌, ◌++◌, ◌⊎◌, inl, inr, ℕ, List, [], length, All, nat_eq, cond, Some, None, Contains, refl, sym, subst, ap, ◌∙◌, arith}
+use Rattle.std.proofs.lemmas.List.{length-map}
+use Rattle.std.proofs.lemmas.Result.{IfOk-from_err}
+use Rattle.weave_data.proofs.Results.{on_err_known}
 use Rattle.vector_stamp.specs.declared.clock.Stamp.{Stamp}
 use Rattle.vector_stamp.specs.Order.{id_of}
 use Rattle.vector_stamp.specs.Coherence.{AreCoherent}
@@ -7,15 +10,138 @@ use Rattle.std.specs.Map.{lookup}
 use Rattle.std.specs.Option.{option_or}
 use Rattle.weave_data.specs.declared.name.Name.{Name}
 use Rattle.graph_ops.specs.declared.op.Op.{Op}
+use Rattle.graph_ops.specs.PlainGraph.{PlainGraph}
 use Rattle.weave_entries.specs.declared.store_log.StoreDeed.TheVariants.{Judged}
 use Rattle.weave_entries.specs.declared.verdict.Verdict.{Verdict}
 use Rattle.weave_entries.specs.StoreReplay.{commits_of}
 use Rattle.backing_store.specs.Commits.{stamps_judged, stamps_kept, asked_at, is_judge_asked, verdict_at, judged_entry, pairs_added, entries_added}
+use Rattle.backing_store.specs.Keeping.{IsAsked, IsStoreReplay}
+use Rattle.backing_store.specs.declared.asked.Asked.{Asked}
+use Rattle.backing_store.specs.declared.lasts.KeptCommit.{KeptCommit}
 use Rattle.backing_store.proofs.Replay.{replay_moved, replay_more}
 use Rattle.backing_store.proofs.Committing.{known_before, stamps_are, vertices_are, few_asked, others_asked, coherent_asked, counts_fit, counts_low, commits_le, not_asked}
 use Rattle.backing_store.proofs.store.Store.commit.Goals as goal
 
+-- Out of memory
+
+-- with the graph that it had, the store is as it was
+replay_back : (graph now : PlainGraph) (lasts : List (Name × KeptCommit)) (made : ℕ) (places : List (ℕ × ℕ)) (log : List StoreEntry) → IsStoreReplay graph lasts made places log → now ≡ graph → IsStoreReplay now lasts made places log
+replay_back graph now lasts made places log kept back = subst (λ (it : PlainGraph). IsStoreReplay it lasts made places log) (sym back) kept
+
+pub returns-in_err-names : goal.returns-in_err-names
+returns-in_err-names g c =
+    let result = c.from_residual.result in
+    let is = c.from_residual.ensures.0 in
+    record {
+      verdict = IfOk-from_err result _ is;
+      entry = IfOk-from_err result _ is;
+      pairs = IfOk-from_err result _ is;
+      logged = IfOk-from_err result _ is;
+      known = λ one h. inl h;
+      stay_known = λ one h. h;
+      not_asked = λ asked. refl;
+      store = on_err_known result _ refl;
+      judge = on_err_known result _ refl;
+    }
+
+pub invariant_of-self : goal.invariant_of-self
+invariant_of-self g c = replay_moved _ _ _ _ _ c.self.invariant _ _ _ c.make_room.ensures.lasts c.make_room.ensures.places c.make_room.ensures.log
+
+pub returns-in_err-make_room : goal.returns-in_err-make_room
+returns-in_err-make_room g c =
+    let result = c.from_residual-in_err-make_room.result in
+    let is = c.from_residual-in_err-make_room.ensures.0 in
+    record {
+      verdict = IfOk-from_err result _ is;
+      entry = IfOk-from_err result _ is;
+      pairs = IfOk-from_err result _ is;
+      logged = IfOk-from_err result _ is;
+      known = λ one h. inl h;
+      stay_known = λ one h. h;
+      not_asked = λ asked. refl;
+      store = on_err_known result _ (c.make_room.ensures.log ∙ c.self.view_is);
+      judge = on_err_known result _ refl;
+    }
+
+pub invariant_of-self-in_err-asked : goal.invariant_of-self-in_err-asked
+invariant_of-self-in_err-asked g c = replay_moved _ _ _ _ _ c.self.invariant _ _ _ c.make_room.ensures.lasts c.make_room.ensures.places c.make_room.ensures.log
+
+pub returns-in_err-asked : goal.returns-in_err-asked
+returns-in_err-asked g c =
+    let result = c.from_residual-in_err-asked.result in
+    let is = c.from_residual-in_err-asked.ensures.0 in
+    record {
+      verdict = IfOk-from_err result _ is;
+      entry = IfOk-from_err result _ is;
+      pairs = IfOk-from_err result _ is;
+      logged = IfOk-from_err result _ is;
+      known = λ one h. inl h;
+      stay_known = λ one h. h;
+      not_asked = λ asked. refl;
+      store = on_err_known result _ (c.make_room.ensures.log ∙ c.self.view_is);
+      judge = on_err_known result _ refl;
+    }
+
+pub invariant_of-self-in_err-from_slice : goal.invariant_of-self-in_err-from_slice
+invariant_of-self-in_err-from_slice g c = replay_moved _ _ _ _ _ c.self.invariant _ _ _ c.make_room.ensures.lasts c.make_room.ensures.places c.make_room.ensures.log
+
+pub returns-in_err-from_slice : goal.returns-in_err-from_slice
+returns-in_err-from_slice g c =
+    let result = c.from_residual-in_err-from_slice.result in
+    let is = c.from_residual-in_err-from_slice.ensures.0 in
+    record {
+      verdict = IfOk-from_err result _ is;
+      entry = IfOk-from_err result _ is;
+      pairs = IfOk-from_err result _ is;
+      logged = IfOk-from_err result _ is;
+      known = λ one h. inl h;
+      stay_known = λ one h. h;
+      not_asked = λ asked. refl;
+      store = on_err_known result _ (c.make_room.ensures.log ∙ c.self.view_is);
+      judge = on_err_known result _ refl;
+    }
+
+pub invariant_of-self-in_err-decided : goal.invariant_of-self-in_err-decided
+invariant_of-self-in_err-decided g c =
+    replay_back _ _ _ _ _ _ (replay_moved _ _ _ _ _ c.self.invariant _ _ _ c.make_room.ensures.lasts c.make_room.ensures.places c.make_room.ensures.log) c.in_err-decided.ensures.back
+
+pub returns-in_err-decided : goal.returns-in_err-decided
+returns-in_err-decided g c =
+    let result = c.from_residual-in_err-decided.result in
+    let is = c.from_residual-in_err-decided.ensures.0 in
+    record {
+      verdict = IfOk-from_err result _ is;
+      entry = IfOk-from_err result _ is;
+      pairs = IfOk-from_err result _ is;
+      logged = IfOk-from_err result _ is;
+      known = λ one h. inl (subst (λ judge. Contains (g.J.Judge.known judge) one) c.in_err-decided.ensures.unchanged h);
+      stay_known = λ one h. subst (λ judge. Contains (g.J.Judge.known judge) one) (sym c.in_err-decided.ensures.unchanged) h;
+      not_asked = λ asked. c.in_err-decided.ensures.unchanged;
+      store = on_err_known result _ (c.make_room.ensures.log ∙ c.self.view_is);
+      judge = on_err_known result _ c.in_err-decided.ensures.unchanged;
+    }
+
 -- What the judge is asked
+
+-- as many vertices as stamps are asked about, and as many requests
+as_many_vertices : (asked : Asked) (held : List (Name × KeptCommit)) → IsAsked asked held → length asked.vertices ≡ length asked.stamps
+as_many_vertices asked held is =
+    ap (length {A = Name}) is.vertices_are ∙ length-map held (λ (one : Name × KeptCommit). one.0)
+    ∙ sym (ap (length {A = Stamp}) is.stamps_are ∙ length-map held (λ (one : Name × KeptCommit). one.1.stamp))
+
+as_many_requests : (asked : Asked) (held : List (Name × KeptCommit)) → IsAsked asked held → length asked.newer ≡ length asked.stamps
+as_many_requests asked held is =
+    ap (length {A = ℕ}) is.newer_are ∙ length-map held (λ (one : Name × KeptCommit). one.1.request)
+    ∙ sym (ap (length {A = Stamp}) is.stamps_are ∙ length-map held (λ (one : Name × KeptCommit). one.1.stamp))
+
+pub judge_tx-requires-clause-few_ops : goal.judge_tx-requires-clause-few_ops
+judge_tx-requires-clause-few_ops g c = c.requires.few
+
+pub judge_tx-requires-clause-vertices : goal.judge_tx-requires-clause-vertices
+judge_tx-requires-clause-vertices g c = as_many_vertices c.in_ok-asked.asked _ c.in_ok-asked.ensures
+
+pub judge_tx-requires-clause-newer : goal.judge_tx-requires-clause-newer
+judge_tx-requires-clause-newer g c = as_many_requests c.in_ok-asked.asked _ c.in_ok-asked.ensures
 
 pub judge_tx-requires-clause-room : goal.judge_tx-requires-clause-room
 judge_tx-requires-clause-room g c =
@@ -46,6 +172,12 @@ put_commit-requires-clause-few g c =
 pub put_commit-requires-clause-number : goal.put_commit-requires-clause-number
 put_commit-requires-clause-number g c =
     omega (arith, c.self.invariant.made_is, commits_le c.self.inside.log.items, c.self.inside.log.ok.0, c.self.inside.log.ok.1, c.self.inside.log.small)
+
+pub note_place-requires : goal.note_place-requires
+note_place-requires g c = c.in_ok-make_room.ensures.room_in_places
+
+pub push_reserved-requires : goal.push_reserved-requires
+push_reserved-requires g c = omega (arith, c.in_ok-make_room.ensures.room_in_log)
 
 log_after : (g : _) (c : goal.After-drop-names-2 g) → c.push_reserved.new.self.items ≡ c.make_room.new.log.items ++ record { author = c.args.author; deed = Judged c.args.request c.args.stamp c.args.ops.now c.in_ok-asked.asked.vertices c.in_ok-decided.decided.logged } ∷ []
 log_after g c =
@@ -110,3 +242,12 @@ returns-clause-not_asked g c =
       | inl newer ↦ c.judge_tx.ensures.newer newer
       | inr none ↦ c.judge_tx.ensures.not_asked none
     ]
+
+pub returns-clause-stay_known : goal.returns-clause-stay_known
+returns-clause-stay_known g c = c.judge_tx.ensures.stay_known
+
+pub returns-clause-store : goal.returns-clause-store
+returns-clause-store g c = tt
+
+pub returns-clause-judge : goal.returns-clause-judge
+returns-clause-judge g c = tt

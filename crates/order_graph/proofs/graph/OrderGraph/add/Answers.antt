@@ -1,5 +1,6 @@
-use Rattle.std.proofs.Common.{◌≡◌, ◌<◌, ◌∷◌, ◌++◌, [], List, Contains, ap, ◌∙◌, sym, subst, inl, inr, arith, refl}
+use Rattle.std.proofs.Common.{◌≡◌, ℕ, ◌<◌, ◌∷◌, ◌++◌, [], List, Contains, ap, ◌∙◌, sym, subst, inl, inr, arith, refl}
 use Rattle.std.proofs.lemmas.Bool.{false≢true}
+use Rattle.std.proofs.lemmas.Result.{IfOk-from_err}
 use Rattle.vector_stamp.specs.declared.clock.Stamp.{Stamp}
 use Rattle.vector_stamp.specs.Order.{id_of}
 use Rattle.vector_stamp.specs.Coherence.{AreCoherent}
@@ -9,6 +10,7 @@ use Rattle.order_graph.specs.Building.{ends_of}
 use Rattle.order_graph.specs.Frontiers.{IsFrontier, joined_frontiers}
 use Rattle.order_graph.specs.Chains.{AreChains}
 use Rattle.weave_data.proofs.Members.{has_read, has_head, has_tail}
+use Rattle.weave_data.proofs.Results.{on_err_known}
 use Rattle.order_graph.proofs.Stamps.{PartsAreCoherent}
 use Rattle.order_graph.proofs.Adding.{IsFrontierWith, with_itself, chains_lead_on, is_in_turn, put_keeps, raised_keeps, same_chains}
 use Rattle.order_graph.proofs.Raising.{room_raised}
@@ -28,6 +30,40 @@ of_earlier part a b pairs all =
 
 of_later : PartsAreCoherent → (a b : Stamp) (pairs : List GivenPair) → AreCoherent (a ∷ b ∷ ends_of pairs) → AreCoherent (b ∷ ends_of pairs)
 of_later part a b pairs all = part (b ∷ ends_of pairs) (a ∷ b ∷ ends_of pairs) all (λ stamp h. has_tail a (b ∷ ends_of pairs) stamp h)
+
+-- what is seen of a graph
+abbrev seen : List GivenPair → ℕ → PairsView
+seen pairs spare = record { pairs = pairs; spare = spare }
+
+pub of-requires : goal.of-requires
+of-requires c = c.requires.coherent.homes c.args.earlier (has_head c.args.earlier (c.args.later ∷ ends_of c.args.self.now.pairs))
+
+pub invariant_of-self : goal.invariant_of-self
+invariant_of-self c =
+    let same = c.reserve.ensures.items in (
+      subst IsAcyclic (sym same) c.self.invariant.0,
+      subst (λ (ps : List GivenPair). AreChains ps (ends_of ps) c.self.inside.chains) (sym same) c.self.invariant.1,
+      c.self.invariant.2,
+      omega (arith, c.self.invariant.3, c.reserve.ensures.len, c.reserve.ensures.capacity),
+    )
+
+pub returns-in_err-reserve-clause-added : goal.returns-in_err-reserve-clause-added
+returns-in_err-reserve-clause-added c = IfOk-from_err c.from_residual.result _ c.from_residual.ensures.0
+
+pub returns-in_err-reserve-clause-spared : goal.returns-in_err-reserve-clause-spared
+returns-in_err-reserve-clause-spared c = IfOk-from_err c.from_residual.result _ c.from_residual.ensures.0
+
+pub returns-in_err-reserve-clause-room : goal.returns-in_err-reserve-clause-room
+returns-in_err-reserve-clause-room c some =
+    let spare : c.self.inside.spare ≡ c.args.self.now.spare = ap (λ (k : PairsView). k.spare) c.self.view_is in
+    absurd (omega (arith, some, spare, c.self.invariant.3, c.in_err-reserve.ensures.full))
+
+pub returns-in_err-reserve-clause-as_before : goal.returns-in_err-reserve-clause-as_before
+returns-in_err-reserve-clause-as_before c =
+    on_err_known _ _ (ap (λ (ps : List GivenPair). seen ps c.self.inside.spare) c.reserve.ensures.items ∙ c.self.view_is)
+
+pub put_event-requires-clause-rising : goal.put_event-requires-clause-rising
+put_event-requires-clause-rising c = c.self.invariant.1.rising c.args.later.home
 
 pub put_event-requires-clause-home : goal.put_event-requires-clause-home
 put_event-requires-clause-home c = c.requires.coherent.homes c.args.later (later_has c.args.earlier c.args.later (ends_of c.args.self.now.pairs))
@@ -49,6 +85,18 @@ invariant_of-self-in_err-put_event c =
       omega (arith, c.self.invariant.3, c.reserve.ensures.len, c.reserve.ensures.capacity),
     )
 
+pub returns-in_err-put_event-clause-added : goal.returns-in_err-put_event-clause-added
+returns-in_err-put_event-clause-added c =
+    IfOk-from_err c.from_residual-in_err-put_event.result _ c.from_residual-in_err-put_event.ensures.0
+
+pub returns-in_err-put_event-clause-spared : goal.returns-in_err-put_event-clause-spared
+returns-in_err-put_event-clause-spared c =
+    IfOk-from_err c.from_residual-in_err-put_event.result _ c.from_residual-in_err-put_event.ensures.0
+
+pub returns-in_err-put_event-clause-as_before : goal.returns-in_err-put_event-clause-as_before
+returns-in_err-put_event-clause-as_before c =
+    on_err_known _ _ (ap (λ (ps : List GivenPair). seen ps c.self.inside.spare) c.reserve.ensures.items ∙ c.self.view_is)
+
 pub returns-in_err-put_event-clause-room : goal.returns-in_err-put_event-clause-room
 returns-in_err-put_event-clause-room c some =
     let spare : c.self.inside.spare ≡ c.args.self.now.spare = ap (λ (k : PairsView). k.spare) c.self.view_is in
@@ -67,6 +115,9 @@ are_put c =
 pub raise_all-requires-clause-earlier : goal.raise_all-requires-clause-earlier
 raise_all-requires-clause-earlier c gate =
     chains_lead_on c.stamps_keep_the_laws.ensures c.args.self.now.pairs (c.precedence_is_decided.ensures.closed c.args.self.now.pairs) (c.args.later ∷ ends_of c.args.self.now.pairs) c.put_event.new.chains (are_put c) c.args.earlier gate
+
+pub push_reserved-requires : goal.push_reserved-requires
+push_reserved-requires c = omega (arith, c.in_ok-reserve.ensures.ok)
 
 pub raise_all-requires-clause-later : goal.raise_all-requires-clause-later
 raise_all-requires-clause-later c gate =
@@ -100,3 +151,14 @@ invariant_of-self-2 c =
 pub returns-clause-added : goal.returns-clause-added
 returns-clause-added c =
     c.push_reserved.ensures.items ∙ ap (λ (ps : List GivenPair). ps ++ (c.args.earlier, c.args.later) ∷ []) (c.reserve.ensures.items ∙ ap (λ (k : PairsView). k.pairs) c.self.view_is)
+
+pub returns-clause-spared : goal.returns-clause-spared
+returns-clause-spared c =
+    let spare : c.self.inside.spare ≡ c.args.self.now.spare = ap (λ (k : PairsView). k.spare) c.self.view_is in
+    omega (arith, spare, c.saturating_sub-self-inside.ensures)
+
+pub returns-clause-room : goal.returns-clause-room
+returns-clause-room c some = refl
+
+pub returns-clause-as_before : goal.returns-clause-as_before
+returns-clause-as_before c = tt

@@ -1,4 +1,5 @@
-use Rattle.std.proofs.Common.{◌≡◌, ◌+◌, ◌<◌, ◌^◌, ◌++◌, ◌∷◌, [], length, List, Some, None, refl, sym, ap, subst, ◌∙◌, arith}
+use Rattle.std.proofs.Common.{ℕ, ◌≡◌, ◌+◌, ◌<◌, ◌^◌, ◌++◌, ◌∷◌, [], length, List, Some, None, refl, sym, ap, subst, ◌∙◌, arith}
+use Rattle.std.proofs.lemmas.Result.{err_from_is_err_and}
 use Rattle.std.specs.Prelude.{option_copied}
 use Rattle.version_graph.specs.Graphs.{chain_of, after_parts, AreNextUpdates}
 use Rattle.weave_entries.specs.declared.message.Message.{Message}
@@ -11,28 +12,8 @@ use Rattle.shard_node.specs.Keeping.{first_differing}
 use Rattle.shard_node.proofs.Keeping.{keeps_applied}
 use Rattle.shard_node.proofs.LowMarks.{marks-applied}
 use Rattle.shard_node.proofs.Ready.{at_gate, head-found, head-waits, number-is, processed-few, waits-is, next-updates}
+use Rattle.shard_node.proofs.Views.{same_view}
 use Rattle.shard_node.proofs.shard.Shard.apply.Goals as goal
-
-pub returns-in_default-clause-refused : goal.returns-in_default-clause-refused
-returns-in_default-clause-refused c =
-    let inbox = c.index_mut-channel.result.now in
-    let log = c.self.inside.log.items in
-    let below : c.args.gate < c.self.inside.gates = subst (λ (v : ShardView). c.args.gate < v.gates) (sym c.self.view_is) c.requires.gate in
-    let at = at_gate _ _ _ _ c.self.invariant.0 c.args.gate inbox below c.index_mut-channel.ensures.value in
-    let log_is : log ≡ c.args.self.now.log = ap (λ (v : ShardView). v.log) c.self.view_is in
-    ap (head_of c.args.gate) (sym log_is) ∙ head-found _ _ _ _ c.self.invariant.0 c.args.gate inbox _ _ at (c.as_slice.ensures.value ∙ c.reserve.ensures.items) c.head_message.ensures ∙ ap option_copied c.in_default.is
-
-pub returns-in-Some-first_waiting-clause-refused : goal.returns-in-Some-first_waiting-clause-refused
-returns-in-Some-first_waiting-clause-refused c =
-    let inbox = c.index_mut-channel.result.now in
-    let log = c.self.inside.log.items in
-    let below : c.args.gate < c.self.inside.gates = subst (λ (v : ShardView). c.args.gate < v.gates) (sym c.self.view_is) c.requires.gate in
-    let at = at_gate _ _ _ _ c.self.invariant.0 c.args.gate inbox below c.index_mut-channel.ensures.value in
-    let log_is : log ≡ c.args.self.now.log = ap (λ (v : ShardView). v.log) c.self.view_is in
-    let head = c.in-Some.head.now in
-    let is : head_of c.args.gate log ≡ Some head = head-found _ _ _ _ c.self.invariant.0 c.args.gate inbox _ _ at (c.as_slice.ensures.value ∙ c.reserve.ensures.items) c.head_message.ensures ∙ ap option_copied c.in-Some.is in
-    let waits : waits_at head log ≡ Some c.in-Some-first_waiting.vertex = sym (waits-is _ _ _ _ c.self.invariant.0 head) ∙ ap (first_differing c.self.inside.graph) (sym c.as_slice-2.ensures) ∙ sym c.first_waiting.ensures ∙ c.in-Some-first_waiting.is in
-    subst (λ (l : List ShardEntry). (one : Message) × (head_of c.args.gate l ≡ Some one) × (waits_at one l ≡ Some c.in-Some-first_waiting.vertex)) log_is (head, is, waits)
 
 pub apply_parts-requires : goal.apply_parts-requires
 apply_parts-requires c =
@@ -85,30 +66,73 @@ invariant_of-self-2 c =
       marks-applied _ _ _ c.self.invariant.1 c.args.author c.args.gate c.pass_head-number.result head _ below number is longer,
     )
 
-pub returns-clause-next : goal.returns-clause-next
-returns-clause-next c =
-    let inbox = c.index_mut-channel.result.now in
-    let log = c.self.inside.log.items in
-    let below : c.args.gate < c.self.inside.gates = subst (λ (v : ShardView). c.args.gate < v.gates) (sym c.self.view_is) c.requires.gate in
-    let at = at_gate _ _ _ _ c.self.invariant.0 c.args.gate inbox below c.index_mut-channel.ensures.value in
-    let log_is : log ≡ c.args.self.now.log = ap (λ (v : ShardView). v.log) c.self.view_is in
-    let head = c.in-Some.head.now in
-    let is : head_of c.args.gate log ≡ Some head = head-found _ _ _ _ c.self.invariant.0 c.args.gate inbox _ _ at (c.as_slice.ensures.value ∙ c.reserve.ensures.items) c.head_message.ensures ∙ ap option_copied c.in-Some.is in
-    let none : waits_at head log ≡ None = sym (waits-is _ _ _ _ c.self.invariant.0 head) ∙ ap (first_differing c.self.inside.graph) (sym c.as_slice-2.ensures) ∙ sym c.first_waiting.ensures ∙ c.in_default-first_waiting.is in
-    subst (CanApplyHead c.args.gate) log_is (record { head = head; is = is; waits = none })
+pub returns-in_default : goal.returns-in_default
+returns-in_default c = record {
+  next = tt;
+  entry = tt;
+  refused =
+      let inbox = c.index_mut-channel.result.now in
+      let log = c.self.inside.log.items in
+      let below : c.args.gate < c.self.inside.gates = subst (λ (v : ShardView). c.args.gate < v.gates) (sym c.self.view_is) c.requires.gate in
+      let at = at_gate _ _ _ _ c.self.invariant.0 c.args.gate inbox below c.index_mut-channel.ensures.value in
+      let log_is : log ≡ c.args.self.now.log = ap (λ (v : ShardView). v.log) c.self.view_is in
+      ap (head_of c.args.gate) (sym log_is) ∙ head-found _ _ _ _ c.self.invariant.0 c.args.gate inbox _ _ at (c.as_slice.ensures.value ∙ c.reserve.ensures.items) c.head_message.ensures ∙ ap option_copied c.in_default.is;
+  unchanged = same_view c.self.inside.number c.self.inside.gates _ _ _ c.reserve.ensures.items c.self.view_is;
+}
 
-pub returns-clause-entry : goal.returns-clause-entry
-returns-clause-entry c =
-    let inbox = c.index_mut-channel.result.now in
-    let log = c.self.inside.log.items in
-    let below : c.args.gate < c.self.inside.gates = subst (λ (v : ShardView). c.args.gate < v.gates) (sym c.self.view_is) c.requires.gate in
-    let at = at_gate _ _ _ _ c.self.invariant.0 c.args.gate inbox below c.index_mut-channel.ensures.value in
-    let log_is : log ≡ c.args.self.now.log = ap (λ (v : ShardView). v.log) c.self.view_is in
-    let number : c.pass_head-number.result ≡ processed_count c.args.gate log + 1 = c.pass_head-number.ensures.number ∙ ap (λ n. n + 1) (number-is _ _ _ _ c.self.invariant.0 c.args.gate inbox at) in
-    let next : ShardView = record { number = c.self.inside.number; gates = c.self.inside.gates; log = c.push_reserved.new.self.items } in
-    subst (λ (v : ShardView). AddsEntry v next c.args.author (Applied c.args.gate (processed_count c.args.gate v.log + 1))) c.self.view_is
-    (record {
-      log = c.push_reserved.ensures.items ∙ (λ i. c.reserve.ensures.items i ++ record { author = c.args.author; deed = Applied c.args.gate (number i) } ∷ []);
-      number = refl;
-      gates = refl;
-    })
+pub returns-in-Some-first_waiting : goal.returns-in-Some-first_waiting
+returns-in-Some-first_waiting c = record {
+  next = tt;
+  entry = tt;
+  refused =
+      let inbox = c.index_mut-channel.result.now in
+      let log = c.self.inside.log.items in
+      let below : c.args.gate < c.self.inside.gates = subst (λ (v : ShardView). c.args.gate < v.gates) (sym c.self.view_is) c.requires.gate in
+      let at = at_gate _ _ _ _ c.self.invariant.0 c.args.gate inbox below c.index_mut-channel.ensures.value in
+      let log_is : log ≡ c.args.self.now.log = ap (λ (v : ShardView). v.log) c.self.view_is in
+      let head = c.in-Some.head.now in
+      let is : head_of c.args.gate log ≡ Some head = head-found _ _ _ _ c.self.invariant.0 c.args.gate inbox _ _ at (c.as_slice.ensures.value ∙ c.reserve.ensures.items) c.head_message.ensures ∙ ap option_copied c.in-Some.is in
+      let waits : waits_at head log ≡ Some c.in-Some-first_waiting.vertex = sym (waits-is _ _ _ _ c.self.invariant.0 head) ∙ ap (first_differing c.self.inside.graph) (sym c.as_slice-2.ensures) ∙ sym c.first_waiting.ensures ∙ c.in-Some-first_waiting.is in
+      subst (λ (l : List ShardEntry). (one : Message) × (head_of c.args.gate l ≡ Some one) × (waits_at one l ≡ Some c.in-Some-first_waiting.vertex)) log_is (head, is, waits);
+  unchanged = same_view c.self.inside.number c.self.inside.gates _ _ _ c.reserve.ensures.items c.self.view_is;
+}
+
+pub returns : goal.returns
+returns c = record {
+  next =
+      let inbox = c.index_mut-channel.result.now in
+      let log = c.self.inside.log.items in
+      let below : c.args.gate < c.self.inside.gates = subst (λ (v : ShardView). c.args.gate < v.gates) (sym c.self.view_is) c.requires.gate in
+      let at = at_gate _ _ _ _ c.self.invariant.0 c.args.gate inbox below c.index_mut-channel.ensures.value in
+      let log_is : log ≡ c.args.self.now.log = ap (λ (v : ShardView). v.log) c.self.view_is in
+      let head = c.in-Some.head.now in
+      let is : head_of c.args.gate log ≡ Some head = head-found _ _ _ _ c.self.invariant.0 c.args.gate inbox _ _ at (c.as_slice.ensures.value ∙ c.reserve.ensures.items) c.head_message.ensures ∙ ap option_copied c.in-Some.is in
+      let none : waits_at head log ≡ None = sym (waits-is _ _ _ _ c.self.invariant.0 head) ∙ ap (first_differing c.self.inside.graph) (sym c.as_slice-2.ensures) ∙ sym c.first_waiting.ensures ∙ c.in_default-first_waiting.is in
+      subst (CanApplyHead c.args.gate) log_is (record { head = head; is = is; waits = none });
+  entry =
+      let inbox = c.index_mut-channel.result.now in
+      let log = c.self.inside.log.items in
+      let below : c.args.gate < c.self.inside.gates = subst (λ (v : ShardView). c.args.gate < v.gates) (sym c.self.view_is) c.requires.gate in
+      let at = at_gate _ _ _ _ c.self.invariant.0 c.args.gate inbox below c.index_mut-channel.ensures.value in
+      let log_is : log ≡ c.args.self.now.log = ap (λ (v : ShardView). v.log) c.self.view_is in
+      let number : c.pass_head-number.result ≡ processed_count c.args.gate log + 1 = c.pass_head-number.ensures.number ∙ ap (λ n. n + 1) (number-is _ _ _ _ c.self.invariant.0 c.args.gate inbox at) in
+      let next : ShardView = record { number = c.self.inside.number; gates = c.self.inside.gates; log = c.push_reserved.new.self.items } in
+      subst (λ (v : ShardView). AddsEntry v next c.args.author (Applied c.args.gate (processed_count c.args.gate v.log + 1))) c.self.view_is
+      (record {
+        log = c.push_reserved.ensures.items ∙ (λ i. c.reserve.ensures.items i ++ record { author = c.args.author; deed = Applied c.args.gate (number i) } ∷ []);
+        number = refl;
+        gates = refl;
+      });
+  refused = tt;
+  unchanged = tt;
+}
+
+pub returns-in_err-reserve : goal.returns-in_err-reserve
+returns-in_err-reserve c =
+    let p = err_from_is_err_and c.from_residual.result c.from_residual.ensures.1 in
+    rw (p.1, p.2) (record { next = tt; entry = tt; refused = tt; unchanged = same_view c.self.inside.number c.self.inside.gates _ _ _ c.reserve.ensures.items c.self.view_is })
+
+pub returns-in_err-apply_parts : goal.returns-in_err-apply_parts
+returns-in_err-apply_parts c =
+    let p = err_from_is_err_and c.from_residual-in_err-apply_parts.result c.from_residual-in_err-apply_parts.ensures.1 in
+    rw (p.1, p.2) (record { next = tt; entry = tt; refused = tt; unchanged = same_view c.self.inside.number c.self.inside.gates _ _ _ c.reserve.ensures.items c.self.view_is })

@@ -1,4 +1,5 @@
-use Rattle.std.proofs.Common.{◌≤◌, length, None, is_some, true, false, ◌≡◌, ◌≢◌, ◌++◌, ◌∷◌, [], List, All, Contains, ◌⊎◌, refl, sym, ap, subst, ◌∙◌}
+use Rattle.std.proofs.Common.{ℕ, inl, ◌≤◌, length, None, is_some, true, false, ◌≡◌, ◌≢◌, ◌++◌, ◌∷◌, [], List, All, Contains, ◌⊎◌, refl, sym, ap, subst, ◌∙◌}
+use Rattle.std.proofs.lemmas.Result.{err_from_is_err_and}
 use Rattle.vector_stamp.specs.declared.clock.Stamp.{Stamp}
 use Rattle.vector_stamp.specs.Order.{id_of}
 use Rattle.vector_stamp.specs.Coherence.{AreCoherent}
@@ -16,23 +17,8 @@ use Rattle.shard_node.proofs.Keeping.{keeps_visited}
 use Rattle.shard_node.proofs.LowMarks.{last-still, marks-still}
 use Rattle.shard_node.proofs.Ready.{unready-is, seen-chain, seen-stamps, read-few}
 use Rattle.shard_node.proofs.Updates.{updates-are, settled-is, pairs-are, entries-are, reaches-back, view-state}
+use Rattle.shard_node.proofs.Views.{same_view}
 use Rattle.shard_node.proofs.shard.Shard.visit.Goals as goal
-
-pub returns-in-Some-clause-refused : goal.returns-in-Some-clause-refused
-returns-in-Some-clause-refused g c =
-    ap (λ (v : ShardView). first_unready v.gates c.args.stamp v.log) (sym c.self.view_is)
-    ∙ sym (unready-is _ _ _ _ c.self.invariant.0 c.args.stamp)
-    ∙ ap (first_not_ready 0 c.args.stamp) (sym c.as_slice.ensures.value)
-    ∙ sym c.first_unready.ensures
-    ∙ c.in-Some.is
-
-pub returns-clause-ready : goal.returns-clause-ready
-returns-clause-ready g c =
-    ap (λ (v : ShardView). first_unready v.gates c.args.stamp v.log) (sym c.self.view_is)
-    ∙ sym (unready-is _ _ _ _ c.self.invariant.0 c.args.stamp)
-    ∙ ap (first_not_ready 0 c.args.stamp) (sym c.as_slice.ensures.value)
-    ∙ sym c.first_unready.ensures
-    ∙ c.in_default.is
 
 pub see-requires-clause-other_ids : goal.see-requires-clause-other_ids
 see-requires-clause-other_ids g c =
@@ -43,16 +29,6 @@ pub see-requires-clause-coherent : goal.see-requires-clause-coherent
 see-requires-clause-coherent g c =
     let stamps = seen-stamps _ _ _ _ c.self.invariant.0 c.args.vertex ∙ ap (λ (v : ShardView). kept_stamps c.args.vertex v.log) c.self.view_is in
     subst (λ (list : List Stamp). AreCoherent (c.args.stamp ∷ list ++ g.J.Judge.known c.args.judge.now)) (sym stamps) c.requires.coherent
-
-pub returns-in_err-view-clause-known : goal.returns-in_err-view-clause-known
-returns-in_err-view-clause-known g c =
-    let stamps = seen-stamps _ _ _ _ c.self.invariant.0 c.args.vertex ∙ ap (λ (v : ShardView). kept_stamps c.args.vertex v.log) c.self.view_is in
-    λ event has. subst (λ (list : List Stamp). Contains (g.J.Judge.known c.args.judge.now) event ⊎ Contains {X = Stamp} (c.args.stamp ∷ list) event) stamps (c.see.ensures.known event has)
-
-pub returns-clause-known : goal.returns-clause-known
-returns-clause-known g c =
-    let stamps = seen-stamps _ _ _ _ c.self.invariant.0 c.args.vertex ∙ ap (λ (v : ShardView). kept_stamps c.args.vertex v.log) c.self.view_is in
-    λ event has. subst (λ (list : List Stamp). Contains (g.J.Judge.known c.args.judge.now) event ⊎ Contains {X = Stamp} (c.args.stamp ∷ list) event) stamps (c.see.ensures.known event has)
 
 pub see-requires-clause-base : goal.see-requires-clause-base
 see-requires-clause-base g c =
@@ -85,68 +61,132 @@ invariant_of-self-2 g c =
       marks-still _ _ _ c.self.invariant.1 _ (λ gate. ap (last_of gate) longer ∙ last-still log entry refl refl gate),
     )
 
-pub returns-clause-state : goal.returns-clause-state
-returns-clause-state g c =
-    let pairs = g.J.Judge.pairs c.args.judge.now in
-    let log_is : c.self.inside.log.items ≡ c.args.self.now.log = ap (λ (v : ShardView). v.log) c.self.view_is in
-    let chain = seen-chain _ _ _ _ c.self.invariant.0 c.args.vertex ∙ ap (chain_in c.args.vertex) log_is in
-    ap (λ (view : View). view.state) (c.in_ok-view.ensures.view ∙ ap (view_of pairs c.args.stamp) chain)
-    ∙ view-state c.the_last_update_read_is_seen.ensures.skipped pairs c.args.stamp c.args.vertex c.args.self.now.log c.requires.base
+pub returns : goal.returns
+returns g c = record {
+  ready =
+      ap (λ (v : ShardView). first_unready v.gates c.args.stamp v.log) (sym c.self.view_is)
+      ∙ sym (unready-is _ _ _ _ c.self.invariant.0 c.args.stamp)
+      ∙ ap (first_not_ready 0 c.args.stamp) (sym c.as_slice.ensures.value)
+      ∙ sym c.first_unready.ensures
+      ∙ c.in_default.is;
+  state =
+      let pairs = g.J.Judge.pairs c.args.judge.now in
+      let log_is : c.self.inside.log.items ≡ c.args.self.now.log = ap (λ (v : ShardView). v.log) c.self.view_is in
+      let chain = seen-chain _ _ _ _ c.self.invariant.0 c.args.vertex ∙ ap (chain_in c.args.vertex) log_is in
+      ap (λ (view : View). view.state) (c.in_ok-view.ensures.view ∙ ap (view_of pairs c.args.stamp) chain)
+      ∙ view-state c.the_last_update_read_is_seen.ensures.skipped pairs c.args.stamp c.args.vertex c.args.self.now.log c.requires.base;
+  entry =
+      let pairs = g.J.Judge.pairs c.args.judge.now in
+      let log = c.self.inside.log.items in
+      let seen : c.in_ok-view.view ≡ view_of pairs c.args.stamp (chain_in c.args.vertex log) = c.in_ok-view.ensures.view ∙ ap (view_of pairs c.args.stamp) (seen-chain _ _ _ _ c.self.invariant.0 c.args.vertex) in
+      let updates : c.in_ok-view.view.updates ≡ updates_read pairs c.args.stamp c.args.vertex log = ap (λ (view : View). view.updates) seen ∙ updates-are pairs c.args.stamp c.args.vertex log in
+      let settled : c.in_ok-view.view.settled ≡ is_settled_by pairs c.args.stamp c.args.vertex log = ap (λ (view : View). view.settled) seen ∙ settled-is pairs c.args.stamp c.args.vertex log in
+      let next : ShardView = record { number = c.self.inside.number; gates = c.self.inside.gates; log = c.push_reserved.new.self.items } in
+      subst (λ (v : ShardView). AddsEntry v next c.args.author (Visited c.args.request c.args.stamp c.args.vertex (updates_read pairs c.args.stamp c.args.vertex v.log) (is_settled_by pairs c.args.stamp c.args.vertex v.log))) c.self.view_is
+      (record {
+        log = c.push_reserved.ensures.items ∙ (λ i. c.reserve.ensures.items i ++ record { author = c.args.author; deed = Visited c.args.request c.args.stamp c.args.vertex (updates i) (settled i) } ∷ []);
+        number = refl;
+        gates = refl;
+      });
+  pairs =
+      let pairs = g.J.Judge.pairs c.args.judge.now in
+      let chain = seen-chain _ _ _ _ c.self.invariant.0 c.args.vertex ∙ ap (λ (v : ShardView). chain_in c.args.vertex v.log) c.self.view_is in
+      c.in_ok-view.ensures.pairs
+      ∙ ap (λ (k : ChainView). pairs ++ pairs_of (put_before pairs c.args.stamp k) c.args.stamp) chain
+      ∙ pairs-are pairs c.args.stamp c.args.vertex c.args.self.now.log;
+  no_pair = tt;
+  known =
+      let stamps = seen-stamps _ _ _ _ c.self.invariant.0 c.args.vertex ∙ ap (λ (v : ShardView). kept_stamps c.args.vertex v.log) c.self.view_is in
+      λ event has. subst (λ (list : List Stamp). Contains (g.J.Judge.known c.args.judge.now) event ⊎ Contains {X = Stamp} (c.args.stamp ∷ list) event) stamps (c.see.ensures.known event has);
+  stay_known = c.see.ensures.stay_known;
+  logged =
+      let pairs = g.J.Judge.pairs c.args.judge.now in
+      let chain = seen-chain _ _ _ _ c.self.invariant.0 c.args.vertex ∙ ap (λ (v : ShardView). chain_in c.args.vertex v.log) c.self.view_is in
+      λ keeps.
+      c.in_ok-view.ensures.logged keeps
+      ∙ ap (λ (k : ChainView). g.J.Judge.log_of c.args.judge.now ++ entries_for pairs c.args.author c.args.stamp k) chain
+      ∙ ap (λ entries. g.J.Judge.log_of c.args.judge.now ++ entries) (entries-are pairs c.args.stamp c.args.vertex c.args.self.now.log c.args.author);
+  not_logged = tt;
+  not_ready =
+      λ some.
+      let none : first_unready c.args.self.now.gates c.args.stamp c.args.self.now.log ≡ None =
+      ap (λ (v : ShardView). first_unready v.gates c.args.stamp v.log) (sym c.self.view_is)
+      ∙ sym (unready-is _ _ _ _ c.self.invariant.0 c.args.stamp)
+      ∙ ap (first_not_ready 0 c.args.stamp) (sym c.as_slice.ensures.value)
+      ∙ sym c.first_unready.ensures
+      ∙ c.in_default.is in
+      let never : false ≡ true = sym (ap is_some none) ∙ some in absurd cc;
+  not_asked = λ none. c.see.ensures.not_asked (ap (has_unordered c.args.stamp) (seen-stamps _ _ _ _ c.self.invariant.0 c.args.vertex ∙ ap (λ (v : ShardView). kept_stamps c.args.vertex v.log) c.self.view_is) ∙ none);
+  refused = tt;
+  unchanged = tt;
+}
 
-pub returns-clause-pairs : goal.returns-clause-pairs
-returns-clause-pairs g c =
-    let pairs = g.J.Judge.pairs c.args.judge.now in
-    let chain = seen-chain _ _ _ _ c.self.invariant.0 c.args.vertex ∙ ap (λ (v : ShardView). chain_in c.args.vertex v.log) c.self.view_is in
-    c.in_ok-view.ensures.pairs
-    ∙ ap (λ (k : ChainView). pairs ++ pairs_of (put_before pairs c.args.stamp k) c.args.stamp) chain
-    ∙ pairs-are pairs c.args.stamp c.args.vertex c.args.self.now.log
+pub returns-in-Some : goal.returns-in-Some
+returns-in-Some g c = record {
+  ready = tt;
+  state = tt;
+  entry = tt;
+  pairs = tt;
+  no_pair = refl;
+  known = λ event has. inl has;
+  stay_known = λ event has. has;
+  logged = tt;
+  not_logged = λ keeps. refl;
+  not_ready = λ some. refl;
+  not_asked = λ none. refl;
+  refused =
+      ap (λ (v : ShardView). first_unready v.gates c.args.stamp v.log) (sym c.self.view_is)
+      ∙ sym (unready-is _ _ _ _ c.self.invariant.0 c.args.stamp)
+      ∙ ap (first_not_ready 0 c.args.stamp) (sym c.as_slice.ensures.value)
+      ∙ sym c.first_unready.ensures
+      ∙ c.in-Some.is;
+  unchanged = refl;
+}
 
-pub returns-clause-logged : goal.returns-clause-logged
-returns-clause-logged g c =
-    let pairs = g.J.Judge.pairs c.args.judge.now in
-    let chain = seen-chain _ _ _ _ c.self.invariant.0 c.args.vertex ∙ ap (λ (v : ShardView). chain_in c.args.vertex v.log) c.self.view_is in
-    λ keeps.
-    c.in_ok-view.ensures.logged keeps
-    ∙ ap (λ (k : ChainView). g.J.Judge.log_of c.args.judge.now ++ entries_for pairs c.args.author c.args.stamp k) chain
-    ∙ ap (λ entries. g.J.Judge.log_of c.args.judge.now ++ entries) (entries-are pairs c.args.stamp c.args.vertex c.args.self.now.log c.args.author)
-
-pub returns-clause-entry : goal.returns-clause-entry
-returns-clause-entry g c =
-    let pairs = g.J.Judge.pairs c.args.judge.now in
-    let log = c.self.inside.log.items in
-    let seen : c.in_ok-view.view ≡ view_of pairs c.args.stamp (chain_in c.args.vertex log) = c.in_ok-view.ensures.view ∙ ap (view_of pairs c.args.stamp) (seen-chain _ _ _ _ c.self.invariant.0 c.args.vertex) in
-    let updates : c.in_ok-view.view.updates ≡ updates_read pairs c.args.stamp c.args.vertex log = ap (λ (view : View). view.updates) seen ∙ updates-are pairs c.args.stamp c.args.vertex log in
-    let settled : c.in_ok-view.view.settled ≡ is_settled_by pairs c.args.stamp c.args.vertex log = ap (λ (view : View). view.settled) seen ∙ settled-is pairs c.args.stamp c.args.vertex log in
-    let next : ShardView = record { number = c.self.inside.number; gates = c.self.inside.gates; log = c.push_reserved.new.self.items } in
-    subst (λ (v : ShardView). AddsEntry v next c.args.author (Visited c.args.request c.args.stamp c.args.vertex (updates_read pairs c.args.stamp c.args.vertex v.log) (is_settled_by pairs c.args.stamp c.args.vertex v.log))) c.self.view_is
-    (record {
-      log = c.push_reserved.ensures.items ∙ (λ i. c.reserve.ensures.items i ++ record { author = c.args.author; deed = Visited c.args.request c.args.stamp c.args.vertex (updates i) (settled i) } ∷ []);
-      number = refl;
-      gates = refl;
+pub returns-in_err-reserve : goal.returns-in_err-reserve
+returns-in_err-reserve g c =
+    let p = err_from_is_err_and c.from_residual.result c.from_residual.ensures.1 in
+    rw (p.1, p.2) (record {
+      ready = tt;
+      state = tt;
+      entry = tt;
+      pairs = tt;
+      no_pair = refl;
+      known = λ event has. inl has;
+      stay_known = λ event has. has;
+      logged = tt;
+      not_logged = λ keeps. refl;
+      not_ready = λ some. refl;
+      not_asked = λ none. refl;
+      refused = tt;
+      unchanged = same_view c.self.inside.number c.self.inside.gates _ _ _ c.reserve.ensures.items c.self.view_is;
     })
 
-pub returns-clause-not_asked : goal.returns-clause-not_asked
-returns-clause-not_asked g c = λ none. c.see.ensures.not_asked (ap (has_unordered c.args.stamp) (seen-stamps _ _ _ _ c.self.invariant.0 c.args.vertex ∙ ap (λ (v : ShardView). kept_stamps c.args.vertex v.log) c.self.view_is) ∙ none)
-
-pub returns-in_err-view-clause-not_asked : goal.returns-in_err-view-clause-not_asked
-returns-in_err-view-clause-not_asked g c = λ none. c.see.ensures.not_asked (ap (has_unordered c.args.stamp) (seen-stamps _ _ _ _ c.self.invariant.0 c.args.vertex ∙ ap (λ (v : ShardView). kept_stamps c.args.vertex v.log) c.self.view_is) ∙ none)
-
-pub returns-clause-not_ready : goal.returns-clause-not_ready
-returns-clause-not_ready g c = λ some.
-    let none : first_unready c.args.self.now.gates c.args.stamp c.args.self.now.log ≡ None =
-    ap (λ (v : ShardView). first_unready v.gates c.args.stamp v.log) (sym c.self.view_is)
-    ∙ sym (unready-is _ _ _ _ c.self.invariant.0 c.args.stamp)
-    ∙ ap (first_not_ready 0 c.args.stamp) (sym c.as_slice.ensures.value)
-    ∙ sym c.first_unready.ensures
-    ∙ c.in_default.is in
-    let never : false ≡ true = sym (ap is_some none) ∙ some in absurd cc
-
-pub returns-in_err-view-clause-not_ready : goal.returns-in_err-view-clause-not_ready
-returns-in_err-view-clause-not_ready g c = λ some.
-    let none : first_unready c.args.self.now.gates c.args.stamp c.args.self.now.log ≡ None =
-    ap (λ (v : ShardView). first_unready v.gates c.args.stamp v.log) (sym c.self.view_is)
-    ∙ sym (unready-is _ _ _ _ c.self.invariant.0 c.args.stamp)
-    ∙ ap (first_not_ready 0 c.args.stamp) (sym c.as_slice.ensures.value)
-    ∙ sym c.first_unready.ensures
-    ∙ c.in_default.is in
-    let never : false ≡ true = sym (ap is_some none) ∙ some in absurd cc
+pub returns-in_err-view : goal.returns-in_err-view
+returns-in_err-view g c =
+    let p = err_from_is_err_and c.from_residual-in_err-view.result c.from_residual-in_err-view.ensures.1 in
+    rw (p.1, p.2) (record {
+      ready = tt;
+      state = tt;
+      entry = tt;
+      pairs = tt;
+      no_pair = c.in_err-view.ensures.no_pair;
+      known =
+          let stamps = seen-stamps _ _ _ _ c.self.invariant.0 c.args.vertex ∙ ap (λ (v : ShardView). kept_stamps c.args.vertex v.log) c.self.view_is in
+          λ event has. subst (λ (list : List Stamp). Contains (g.J.Judge.known c.args.judge.now) event ⊎ Contains {X = Stamp} (c.args.stamp ∷ list) event) stamps (c.see.ensures.known event has);
+      stay_known = c.see.ensures.stay_known;
+      logged = tt;
+      not_logged = c.in_err-view.ensures.not_logged;
+      not_ready =
+          λ some.
+          let none : first_unready c.args.self.now.gates c.args.stamp c.args.self.now.log ≡ None =
+          ap (λ (v : ShardView). first_unready v.gates c.args.stamp v.log) (sym c.self.view_is)
+          ∙ sym (unready-is _ _ _ _ c.self.invariant.0 c.args.stamp)
+          ∙ ap (first_not_ready 0 c.args.stamp) (sym c.as_slice.ensures.value)
+          ∙ sym c.first_unready.ensures
+          ∙ c.in_default.is in
+          let never : false ≡ true = sym (ap is_some none) ∙ some in absurd cc;
+      not_asked = λ none. c.see.ensures.not_asked (ap (has_unordered c.args.stamp) (seen-stamps _ _ _ _ c.self.invariant.0 c.args.vertex ∙ ap (λ (v : ShardView). kept_stamps c.args.vertex v.log) c.self.view_is) ∙ none);
+      refused = tt;
+      unchanged = same_view c.self.inside.number c.self.inside.gates _ _ _ c.reserve.ensures.items c.self.view_is;
+    })
