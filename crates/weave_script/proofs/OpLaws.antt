@@ -1,6 +1,6 @@
 -- An operation is read only from its one line, and that is read as it.
 -- Used by Reached and ReadAgain.
-use Rattle.std.proofs.Common.{◌≡◌, true, false, cond, [], ◌∷◌, Option, Some, None, Ok, Err, refl, sym, ap, ◌∙◌, subst}
+use Rattle.std.proofs.Common.{◌≡◌, true, false, [], ◌∷◌, Option, Some, None, Ok, Err, ap, ◌∙◌, subst}
 use Rattle.std.specs.Prelude.{codes}
 use Rattle.std.specs.List.{AllByRecursion, list_all}
 use Rattle.std.proofs.lemmas.Bool.{cond-true}
@@ -11,7 +11,7 @@ use Rattle.graph_ops.specs.declared.op.Op.{Op}
 use Rattle.weave_text.specs.Lines.{Line}
 use Rattle.weave_script.specs.declared.fault.Cause.{Cause}
 use Rattle.weave_script.specs.declared.fault.Cause.TheVariants as causes
-use Rattle.weave_script.specs.Fields.{ReadOrCause, or_refused}
+use Rattle.weave_script.specs.Fields.{or_refused}
 use Rattle.weave_script.specs.Ops.{op_of, is_end}
 use Rattle.weave_script.specs.ScriptLines.{op_line, end_line}
 use Rattle.weave_script.specs.Scripts.{IsName, IsOperation}

@@ -1,5 +1,5 @@
 -- The operation of a line whose words are read one after another.
--- Used by OpLaws, `op_of_one`, `op_of_two`, `op_of_three` and `op_of_four`.
+-- Used by `op_of_four`, `op_of_one`, `op_of_three`, `op_of_two` and OpLaws.
 use Rattle.std.proofs.Common.{◌≡◌, Bool, true, false, cond, [], ◌∷◌, ◌&&◌, Option, Some, None, Ok, Err, refl, sym, ap, ◌∙◌}
 use Rattle.std.specs.Prelude.{codes}
 use Rattle.std.specs.List.{list_all}

@@ -1,5 +1,5 @@
 -- Machines with their notes fit the locks that were opened for them.
--- Used by `new`.
+-- Used by `fill_locks`.
 use Rattle.std.proofs.Common.{◌≡◌, ◌<◌, List, [], ◌∷◌, length, map, get_or, sym, ap, ◌∙◌, arith}
 use Rattle.std.specs.List.{All}
 use Rattle.std.proofs.lemmas.List.{get_or-map, length-map}

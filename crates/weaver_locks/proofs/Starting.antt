@@ -1,5 +1,5 @@
 -- Locks that were opened for machines of legal logs which refer to nothing but themselves.
--- Used by `new`.
+-- Used by `fill_locks` and `new`.
 use Rattle.std.proofs.Common.{◌≡◌, inr, ℕ, ◌<◌, List, [], ◌∷◌, ◌++◌, length, map, get_or, set, refl, sym, ap, ◌∙◌, subst, arith, length-append}
 use Rattle.std.proofs.lemmas.List.{get_or-map, length-map, set-get_or}
 use Rattle.weave_entries.specs.declared.gate_log.GateDeed.{GateDeed}

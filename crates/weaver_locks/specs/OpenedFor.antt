@@ -5,7 +5,7 @@ use Rattle.weave_entries.specs.declared.store_log.StoreEntry.{StoreEntry}
 use Rattle.weaver_locks.specs.declared.opened_locks.OpenedLocks.{OpenedLocks}
 use Rattle.weaver_locks.specs.Opened.{passes_of, AreEmpty, AreOpened, HaveFirst}
 
--- a lock for each machine, opened for it, with that many passes, and empty
+-- a lock for each machine, opened for it and empty, with that many passes: one for each hand
 pub record IsOpenedFor (store : List StoreEntry) (oracle : List OracleEntry) (passes : ℕ) (opened : OpenedLocks)
     : Type 0 where
   pub are_opened : AreOpened opened.locks (map (λ b. b.gate) opened.gates.items) store oracle

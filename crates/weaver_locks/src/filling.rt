@@ -1,4 +1,4 @@
-//! The hands of a run, and its machines with their notes in their locks.
+//! Hands get their passes, and each machine goes into its lock with its notes.
 ghost use Rattle.std.specs.Prelude.{◌≡◌, ◌≤◌, ◌<◌, ℕ, IfOk, map, slice_index_or, vec_len};
 ghost use Rattle.weaver_locks.specs.Closing.{MayStart};
 ghost use Rattle.weaver_locks.specs.Noted.{AreFilled};

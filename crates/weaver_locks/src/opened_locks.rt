@@ -27,7 +27,7 @@ pub(crate) struct OpenedLocks {
     pub(crate) shards: Vec<BareShard<NotedGate, NotedStore, NotedOracle>>,
 }
 
-/// Makes locks with that many passes, and opens them for these machines.
+/// Makes locks with a pass for each hand, and opens them for these machines.
 pub(crate) fn open_locks(
     alloc: Global,
     gates: Vec<Gate>,

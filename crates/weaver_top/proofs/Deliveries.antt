@@ -1,5 +1,5 @@
 -- What was read, and what was delivered of an answer to it.
--- Used by `execute`, `prepare_from_input`, `prepare_run` and `weave`.
+-- Used by CallEnds and Unread.
 use Rattle.std.proofs.Common.{◌≡◌, ℕ, ◌<◌, ◌≤◌, List, [], length, true, false, IsTrue, Option, Some, None, IfSome, Result, IfOk, ◌⊎◌, inl, inr, refl, sym, ap, ◌∙◌, subst, arith}
 use Rattle.weave_io.specs.Told.{ToldBytes, TakesAtMost, Tells, Writes, WritesPrefix}
 use Rattle.weaver_top.specs.declared.answer.Answer.{Answer}
@@ -23,7 +23,7 @@ too_long_told command None answer long fits = tt
 too_long_told command (Some input) answer long fits = fits input (omega (arith, long))
 
 -- what a command reads is what the source has left, or nothing
-read_told : (command : Command) (left : ToldBytes) → reads_input command ≡ true → input_told command left ≡ left
+pub read_told : (command : Command) (left : ToldBytes) → reads_input command ≡ true → input_told command left ≡ left
 read_told Run left reads = refl
 read_told Check left reads = refl
 read_told Trace left reads = refl
@@ -60,7 +60,8 @@ no_write Check ends = cc
 no_write Trace ends = cc
 no_write (Load seed size) ends = cc
 
-not_write : (command : Command) (status : Status) → IsTrue (can_end command status) → status ≡ Write → ⊥
+-- so the status of no answer is `Write`
+pub not_write : (command : Command) (status : Status) → IsTrue (can_end command status) → status ≡ Write → ⊥
 not_write command status ends failed = let P : Status → Type 0 = λ status. IsTrue (can_end command status) in no_write command (subst P failed ends)
 
 -- if a command ended with another status than that, its text was written whole
@@ -168,25 +169,9 @@ prefix_read Trace left before after written = written
 prefix_read (Load seed size) None before after written = tt
 prefix_read (Load seed size) (Some input) before after (text, tells, prefix) = (text, (Done, (load_only seed size tells.0 [] text tells.1).1), prefix)
 
--- two commands that the words ask for are the same
-pub same_command : (asked : Option Command) (other command : Command) → Some other ≡ asked → asked ≡ Some command → other ≡ command
-same_command asked other command other_is asks = cc
-
 -- what it was answered with is how it ended
 pub ended_as : (before after : ToldBytes) (answer : Answer) (status : Status) (Failed : Type 0) → Delivers answer status before after Failed → (status ≡ Done) ⊎ (status ≡ NotRight) → (answer.status ≡ Done) ⊎ (answer.status ≡ NotRight)
 ended_as before after answer status Failed (inl (is, appended)) (inl done) = inl (sym is ∙ done)
 ended_as before after answer status Failed (inl (is, appended)) (inr wrong) = inr (sym is ∙ wrong)
 ended_as before after answer status Failed (inr (is, failed, prefix)) (inl done) = absurd (cc)
 ended_as before after answer status Failed (inr (is, failed, prefix)) (inr wrong) = absurd (cc)
-
--- of two commands that the words ask for, if one reads an input so does the other
-pub reads_too : (asked : Option Command) (other command : Command) → Some other ≡ asked → asked ≡ Some command → IsTrue (reads_input command) → IsTrue (reads_input other)
-reads_too asked other command other_is asks reads =
-    let P : Command → Type 0 = λ one. IsTrue (reads_input one) in
-    subst P (sym (same_command asked other command other_is asks)) reads
-
--- a command that the words ask for reads no input if they ask for `load`
-pub unread_too : (seed size : ℕ) (asked : Option Command) (other : Command) → Some other ≡ asked → asked ≡ Some (Load seed size) → reads_input other ≡ false
-unread_too seed size asked other other_is asks =
-    let P : Command → Type 0 = λ one. reads_input one ≡ false in
-    subst P (sym (same_command asked other (Load seed size) other_is asks)) refl

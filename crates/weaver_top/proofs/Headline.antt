@@ -8,12 +8,16 @@ use Rattle.report_rules.specs.ReportOf.{IsReportOf}
 use Rattle.report_rules.specs.RightReport.{IsRightReport}
 use Rattle.report_rules.specs.Meetings.{MeetingsAreOrdered, PhasesAreKept}
 use Rattle.report_rules.specs.PrintedOrder.{IsPrintedOrder}
+use Rattle.weave_account.specs.declared.account.Account.{Account}
+use Rattle.weave_account.specs.Report.{IsReportOfAccount}
 use Rattle.weave_report.specs.ReportText.{report_text}
 use Rattle.weave_script.specs.ScriptLines.{IsTextOf}
 use Rattle.weave_report.specs.TextOf.{IsReportTextOf}
 use Rattle.weave_script.specs.CheckText.{IsCheckTextOf}
 use Rattle.weaver_top.specs.Acceptance.{IsAcceptedByCheck}
 use Rattle.weaver_top.specs.Answers.{TellsRun}
+use Rattle.weaver_top.specs.PhaseByPhase.{IsWholeRun}
+use Rattle.weaver_top.proofs.PhaseEnds.{all-replied}
 
 -- what the laws say of the report of a run
 pub record IsWellRun (script : Script) (report : Report) : Type 0 where
@@ -44,9 +48,23 @@ accepted follow input text script report is_text is_report right front ends shor
     }
 
 -- all that is promised of what `run` writes
-pub run_told : (input : List ℕ) (script : Script) (report : Report) (text : List ℕ) → length input ≤ 4194304 → IsTextOf input script → text ≡ report_text script report → IsWellRun script report → IsAcceptedByCheck input text → TellsRun input text
-run_told input script report text is_short is_text printed run accept =
+pub run_told : (input : List ℕ) (script : Script) (report : Report) (text : List ℕ) → length input ≤ 4194304 → IsTextOf input script → text ≡ report_text script report → IsWellRun script report
+    → (logs : Account) → IsWholeRun script logs → IsReportOfAccount script logs report → IsAcceptedByCheck input text → TellsRun input text
+run_told input script report text is_short is_text printed run logs whole by accept =
     record {
+      by_logs = record {
+        script = script;
+        input_is_its_text = is_text;
+        report = report;
+        no_steps = run.no_steps;
+        text_is_printed = printed;
+        logs = logs;
+        is_account = whole.is_account;
+        by_logs = by;
+        by_phases = whole.by_phases;
+        replied = all-replied script logs whole;
+        no_epoch = whole.epochs;
+      };
       right_report = record {
         input_is_short = is_short;
         script = script;

@@ -1,4 +1,6 @@
 pub mod Deliveries
+pub mod Unread
+pub mod CallEnds
 pub mod Begun
 pub mod Unanswered
 pub mod Onward

@@ -1,10 +1,12 @@
 -- What is promised of what `load` writes.
 -- Used by `loaded` and `summary_of`.
-use Rattle.std.proofs.Common.{◌≡◌, ℕ, ◌*◌, List, length, sym, ap, ◌∙◌, subst}
+use Rattle.std.proofs.Common.{◌≡◌, ℕ, ◌*◌, List, length, IsTrue, Some, sym, ap, ◌∙◌, subst}
 use Rattle.std.proofs.lemmas.Option.{slice_get_within}
 use Rattle.program_defs.specs.Limits.{IsWithinLimits}
+use Rattle.program_defs.specs.declared.script.Request.{Request}
 use Rattle.program_defs.specs.declared.script.Script.{Script}
-use Rattle.report_rules.specs.Lookups.{EveryReplyIsFinal}
+use Rattle.weave_entries.specs.SessionReplay.{has_reply_in}
+use Rattle.report_rules.specs.Lookups.{EveryReplyIsFinal, request_at}
 use Rattle.report_rules.specs.Meetings.{MeetingsAreOrdered}
 use Rattle.report_rules.specs.ReportOf.{IsReportOf}
 use Rattle.report_rules.specs.RightReport.{IsRightReport}
@@ -12,6 +14,8 @@ use Rattle.report_rules.specs.declared.report.Report.{Report}
 use Rattle.step_rules.specs.CoreState.{CoreState}
 use Rattle.step_rules.specs.IsCore.{IsCore}
 use Rattle.step_rules.specs.Trace.{trace_of}
+use Rattle.weave_account.specs.declared.account.Account.{Account}
+use Rattle.weave_account.specs.Account.{session_log}
 use Rattle.weave_account.specs.GoesOn.{GoesOn}
 use Rattle.weave_account.specs.IsAccount.{IsAccount}
 use Rattle.weave_account.specs.Report.{IsReportOfAccount}
@@ -28,6 +32,10 @@ use Rattle.weaver_top.proofs.GoingOn.{driven-on}
 use Rattle.weaver_top.proofs.KeptPairs.{pairs-kept}
 use Rattle.weaver_top.proofs.KeptReport.{stamps-kept, states-kept}
 use Rattle.weaver_top.proofs.MadeScripts.{requests-made, steps-made}
+
+-- each request of the script has its reply in these logs
+abbrev AreAllReplied : Script → Account → Type 0
+AreAllReplied script logs = (r : ℕ) (request : Request) → request_at script r ≡ Some request → IsTrue (has_reply_in r (session_log logs request.session))
 
 -- the core of a script, after its own steps and then driven: the script is the same all the way
 pub loaded-so : LoadLaws → (first second third : Script) (middle last : CoreState) (upto size : ℕ) → second ≡ first → third ≡ second
@@ -80,6 +88,9 @@ module _ (laws : LoadLaws) (script : Script) (limits : IsWithinLimits script) (s
         meetings_are_ordered = subst (λ s. MeetingsAreOrdered s report) made (laws.meetings script state.account report limits account reported);
         every_reply_is_final = each-final;
         logs = state.account;
+        is_account = subst (λ s. IsAccount s state.account) made account;
+        replied = subst (λ (s : Script). AreAllReplied s state.account) made (λ r request there. loaded.replied r request (slice_get_within script.requests r request there) there);
+        logs_go_on = subst (λ (s : Script). GoesOn (account_of_own_steps s) state.account) made loaded.goes_on;
         by_logs = subst (λ s. IsReportOfAccount s state.account report) made reported;
         logs_stay = subst (λ (s : Script). ReportStays s (account_of_own_steps s) state.account) made loaded.stays;
         steps_are_kept = subst (λ s. KeepsStepReport s report) made steps-kept;

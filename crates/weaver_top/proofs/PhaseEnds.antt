@@ -281,6 +281,7 @@ module _ (laws : LawsForCommands) (script : Script) (limits : IsWithinLimits scr
           ends-phase phase ended.0 last (ends.runs).is_account (below-more bound (length script.requests) account last run.within run.deeds (ends.runs).gates)
               (carried (length script.requests) phase ended.0 account last ends.runs ended.1),
         ));
+    epochs = none-raised (length script.requests) last (below-more bound (length script.requests) account last run.within run.deeds (ends.runs).gates);
     replied = ends.replied;
   }
 

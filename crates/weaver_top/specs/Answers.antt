@@ -11,11 +11,13 @@ use Rattle.weaver_top.specs.Commands.{reads_input}
 use Rattle.weaver_top.specs.Headlines.{TellsRightReport, TellsTrace, TellsYes}
 use Rattle.weaver_top.specs.Loads.{TellsLoad}
 use Rattle.weaver_top.specs.Refusals.{TellsRefusal}
+use Rattle.weaver_top.specs.RunLogs.{TellsByLogs}
 use Rattle.weaver_top.specs.VerdictLines.{TellsNo}
 
--- the text is a right report for the script in the input, and `check` says so
+-- the text is a right report for the script in the input, the report of logs, and `check` says that it is right
 pub record TellsRun (input text : List ℕ) : Type 0 where
   pub right_report : TellsRightReport input text
+  pub by_logs : TellsByLogs input text
   pub accepted_by_check : IsAcceptedByCheck input text
 
 -- the text is the report of the steps of the script in the input, and `check` says that it is right

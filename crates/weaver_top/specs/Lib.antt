@@ -8,6 +8,8 @@ pub mod Summaries
 pub mod Loads
 pub mod LoadProgress
 pub mod LoadLaws
+pub mod RunLogs
 pub mod Answers
+pub mod CallEnds
 pub mod PhaseByPhase
 pub mod LowerLaws

@@ -1,17 +1,21 @@
 -- The headline of `load`: what the text is that it wrote when it ended with status 0.
 use Rattle.std.specs.Prelude.{◌≡◌, ◌+◌, ◌*◌, ℕ, List, length, IsTrue, Some}
 use Rattle.vector_stamp.specs.declared.clock.Stamp.{Stamp}
+use Rattle.program_defs.specs.declared.script.Request.{Request}
 use Rattle.program_defs.specs.declared.script.Script.{Script}
+use Rattle.weave_entries.specs.SessionReplay.{has_reply_in}
 use Rattle.report_rules.specs.declared.report.Reply.{Reply}
 use Rattle.report_rules.specs.declared.report.Report.{Report}
-use Rattle.report_rules.specs.Lookups.{EveryReplyIsFinal, is_final, reply_at, stamp_at}
+use Rattle.report_rules.specs.Lookups.{EveryReplyIsFinal, is_final, reply_at, request_at, stamp_at}
 use Rattle.report_rules.specs.Meetings.{MeetingsAreOrdered}
 use Rattle.report_rules.specs.PrintedOrder.{IsPrintedOrder}
 use Rattle.report_rules.specs.ReportOf.{IsReportOf}
 use Rattle.report_rules.specs.RightReport.{IsRightReport}
 use Rattle.step_rules.specs.Trace.{trace_of}
 use Rattle.weave_account.specs.declared.account.Account.{Account}
-use Rattle.weave_account.specs.GoesOn.{IsBeginningOf}
+use Rattle.weave_account.specs.Account.{session_log}
+use Rattle.weave_account.specs.GoesOn.{GoesOn, IsBeginningOf}
+use Rattle.weave_account.specs.IsAccount.{IsAccount}
 use Rattle.weave_account.specs.Report.{IsReportOfAccount}
 use Rattle.weave_drive.specs.Staying.{ReportStays}
 use Rattle.weave_io.specs.Told.{ToldBytes, Appends, AppendsPrefix}
@@ -35,8 +39,9 @@ KeepsStepReport script report =
 
 -- `load`: the text is the summary of a report for the script of the seed, which has `size` requests and four times as
 -- many steps. The report is right, in the printed order; of two requests that meet at a vertex one precedes the other.
--- Every request has its final reply. It is the report of logs that keep what the logs of the script's own steps say,
--- and it keeps what the report of these steps says. So the four counts add up to the number of requests.
+-- Every request has its final reply. The report is that of logs: an account of the script, which goes on from the logs
+-- of the script's own steps and keeps what those say; by it each request has its reply. The report keeps what the
+-- report of those steps says. So the four counts add up to the number of requests.
 pub record TellsLoad (seed size : ℕ) (text : List ℕ) : Type 0 where
   pub requests : length (script_of seed size).requests ≡ size
   pub steps : length (steps_of (script_of seed size).steps) ≡ 4 * size
@@ -47,7 +52,11 @@ pub record TellsLoad (seed size : ℕ) (text : List ℕ) : Type 0 where
   pub meetings_are_ordered : MeetingsAreOrdered (script_of seed size) report
   pub every_reply_is_final : EveryReplyIsFinal report
   pub logs : Account
+  pub is_account : IsAccount (script_of seed size) logs
   pub by_logs : IsReportOfAccount (script_of seed size) logs report
+  pub replied : (r : ℕ) (request : Request) → request_at (script_of seed size) r ≡ Some request
+      → IsTrue (has_reply_in r (session_log logs request.session))
+  pub logs_go_on : GoesOn (trace_of (script_of seed size) (steps_of (script_of seed size).steps)).state.account logs
   pub logs_stay : ReportStays (script_of seed size)
       (trace_of (script_of seed size) (steps_of (script_of seed size).steps)).state.account logs
   pub steps_are_kept : KeepsStepReport (script_of seed size) report

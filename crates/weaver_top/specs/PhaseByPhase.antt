@@ -55,8 +55,9 @@ pub record IsRunUpTo (script : Script) (phases bound : ℕ) (account : Account) 
       → IsTrue (is_driving_deed bound entry.deed)
   pub ended : (phase : ℕ) → phase < phases → (logs : Account) × HasEnded script phase logs account
 
--- the account is that of a whole run: phase by phase, and each request has its reply
+-- the account is that of a whole run: phase by phase, each request has its reply, and no epoch was raised
 pub record IsWholeRun (script : Script) (account : Account) : Type 0 where
   pub is_account : IsAccount script account
   pub by_phases : IsRunByPhases script account
+  pub epochs : (epoch : ℕ) → ¬ IsTrue (is_raised account epoch)
   pub replied : AreReplied script (length script.requests) account

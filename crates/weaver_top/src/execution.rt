@@ -1,22 +1,24 @@
 //! All that a command does, except for threads.
-ghost use Rattle.std.specs.Prelude.{◌≡◌, ◌≢◌, ◌⊎◌, ◌↔◌, ◌+◌, ℕ, false, [], map, string_bytes, IsTrue, Err, None, IfOk, OnOk, IfSome};
+ghost use Rattle.std.specs.Prelude.{◌≡◌, ◌⊎◌, ◌↔◌, ◌+◌, ℕ, [], map, string_bytes, IsTrue, None, IfSome};
 ghost use Rattle.weave_io.specs.Counts.{HasRisen};
 ghost use Rattle.weave_io.specs.Told.{IsReadWhole, KeepsWritten, Tells, TakesAtMost, Writes, WritesPrefix};
 ghost use Rattle.weaver_top.specs.Acceptance.{IsAcceptedByCheck};
-ghost use Rattle.weaver_top.specs.Answers.{Delivers, IsAnswerTo, TellsAnswer, can_end, input_told};
-ghost use Rattle.weaver_top.specs.Commands.{AreWordsOf, IsSized, command_of, reads_input};
+ghost use Rattle.weaver_top.specs.Answers.{TellsAnswer};
+ghost use Rattle.weaver_top.specs.CallEnds.{IsCallEnd};
+ghost use Rattle.weaver_top.specs.Commands.{AreWordsOf, command_of, reads_input};
 ghost use Rattle.weaver_top.specs.Headlines.{TellsRightReport, TellsTrace, TellsYes};
 ghost use Rattle.weaver_top.specs.Loads.{WritesLoad, WritesLoadPrefix};
 ghost use Rattle.weaver_top.specs.Refusals.{CanBeTaken, TellsRefusal, check_input, script_input};
+ghost use Rattle.weaver_top.specs.RunLogs.{TellsByLogs};
 ghost use Rattle.weaver_top.specs.VerdictLines.{TellsNo};
 ghost use Rattle.weave_data.specs.Limits.{most_bytes};
 
-use crate::answer::{Answer, too_long};
-use crate::command::{Command, command_of, reads_input};
+use crate::command::{Command, command_of};
+use crate::delivering::deliver;
+use crate::preparing::prepare;
 use crate::status::Status;
-use crate::which_answer::answer_to;
 use std::alloc::Global;
-use weave_io::{ReadFault, Sink, Source, read_all, write_all};
+use weave_io::{Sink, Source};
 
 /// Runs the command of the command line: `run` reads a script to the end of the source, runs it, and writes its report
 /// to the sink; `trace` does the script's steps instead, and writes their report; `check` reads a script and then a
@@ -46,7 +48,9 @@ pub fn execute<S: Source, K: Sink>(
         → IsTrue (reads_input command) → (result ≡ Status.Done) ⊎ (result ≡ Status.NotRight)
         → Tells (S.left source.new) [] }
 
-    // What `run` does besides: `check` accepts its report.
+    // What `run` does besides: its report is that of logs which are an account of the script, and `check` accepts it.
+    ensures by_logs { AreWordsOf (map string_bytes words.now) Command.Run → result ≡ Status.Done
+        → Writes TellsByLogs (S.left source.old) (K.written sink.old) (K.written sink.new) }
     ensures accepted_by_check { AreWordsOf (map string_bytes words.now) Command.Run → result ≡ Status.Done
         → Writes IsAcceptedByCheck (S.left source.old) (K.written sink.old) (K.written sink.new) }
 
@@ -111,92 +115,24 @@ pub fn execute<S: Source, K: Sink>(
         → ¬ HasRisen (K.stalls sink.old) (K.stalls sink.new)
         → (result ≡ Status.Done) ⊎ (result ≡ Status.Memory) }
 {
+    execute_words(alloc, words, source, sink)
+}
+
+/// What `execute` does. All that it promises follows from one fact on how the call ends.
+pub(crate) fn execute_words<S: Source, K: Sink>(
+    alloc: Global,
+    words: &[String],
+    source: &mut S,
+    sink: &mut K,
+) -> Status
+    ensures { IsCallEnd (command_of (map string_bytes words.now)) result (S.left source.old) (S.left source.new)
+        (K.written sink.old) (K.written sink.new) (HasRisen (S.faults source.old) (S.faults source.new))
+        (source.new ≡ source.old) (HasRisen (K.faults sink.old) (K.faults sink.new))
+        (HasRisen (K.stalls sink.old) (K.stalls sink.new)) (K.stalls sink.new ≡ K.stalls sink.old) }
+{
     let Some(command) = command_of(words) else {
         return Status::Words;
     };
-    match prepare(alloc, command, source) {
-        Ok(answer) => write_answer(sink, &answer),
-        Err(PrepareError::Read) => Status::Read,
-        Err(PrepareError::Memory) => Status::Memory,
-    }
-}
-
-// Reads the input, if the command has one, and finds out what is to be written.
-fn prepare<S: Source>(
-    alloc: Global,
-    command: Command,
-    source: &mut S,
-) -> Result<Answer, PrepareError>
-    requires { IsSized command }
-    ensures fits { IfOk result (λ answer. IfSome (input_told command (S.left source.old))
-        (λ input. IsAnswerTo command input answer)) }
-    ensures ends { IfOk result (λ answer. IsTrue (can_end command answer.status)) }
-    ensures all_is_read { IsTrue (reads_input command) → IfOk result (λ answer.
-        (answer.status ≡ Status.Done) ⊎ (answer.status ≡ Status.NotRight) → Tells (S.left source.new) []) }
-    ensures read { result ≡ Err PrepareError.Read → HasRisen (S.faults source.old) (S.faults source.new) }
-    ensures read_in_time { result ≡ Err PrepareError.Read
-        → TakesAtMost (S.left source.old) (S.left source.new) most_bytes }
-    ensures read_first { IsTrue (reads_input command)
-        → OnOk result (IsReadWhole (S.left source.old) (S.left source.new)) }
-    ensures rest { TakesAtMost (S.left source.old) (S.left source.new) (most_bytes + 1) }
-    ensures unread { reads_input command ≡ false
-        → (source.new ≡ source.old) × (result ≢ Err PrepareError.Read) }
-{
-    if reads_input(command) {
-        return prepare_from_input(alloc, command, source);
-    }
-    match answer_to(alloc, command, &[]) {
-        Ok(answer) => Ok(answer),
-        Err(_) => Err(PrepareError::Memory),
-    }
-}
-
-// Reads the input of a command that has one, and finds out what is to be written.
-fn prepare_from_input<S: Source>(
-    alloc: Global,
-    command: Command,
-    source: &mut S,
-) -> Result<Answer, PrepareError>
-    requires sized { IsSized command }
-    requires reads { IsTrue (reads_input command) }
-    ensures fits { IfOk result (λ answer. IfSome (S.left source.old) (λ input. IsAnswerTo command input answer)) }
-    ensures ends { IfOk result (λ answer. IsTrue (can_end command answer.status)) }
-    ensures all_is_read { IfOk result (λ answer. (answer.status ≡ Status.Done) ⊎ (answer.status ≡ Status.NotRight)
-        → Tells (S.left source.new) []) }
-    ensures read { result ≡ Err PrepareError.Read → HasRisen (S.faults source.old) (S.faults source.new) }
-    ensures read_in_time { result ≡ Err PrepareError.Read
-        → TakesAtMost (S.left source.old) (S.left source.new) most_bytes }
-    ensures read_first { OnOk result (IsReadWhole (S.left source.old) (S.left source.new)) }
-    ensures rest { TakesAtMost (S.left source.old) (S.left source.new) (most_bytes + 1) }
-{
-    match read_all(alloc, source) {
-        Ok(input) => match answer_to(alloc, command, &input) {
-            Ok(answer) => Ok(answer),
-            Err(_) => Err(PrepareError::Memory),
-        },
-        Err(ReadFault::TooLong) => match too_long(alloc) {
-            Ok(answer) => Ok(answer),
-            Err(_) => Err(PrepareError::Memory),
-        },
-        Err(ReadFault::Read) => Err(PrepareError::Read),
-        Err(ReadFault::Memory) => Err(PrepareError::Memory),
-    }
-}
-
-/// Writes an answer's text.
-pub(crate) fn write_answer<K: Sink>(sink: &mut K, answer: &Answer) -> Status
-    ensures delivered { Delivers answer.now result (K.written sink.old) (K.written sink.new)
-        (HasRisen (K.faults sink.old) (K.faults sink.new) ⊎ HasRisen (K.stalls sink.old) (K.stalls sink.new)) }
-    ensures without_stall { result ≢ Status.Write → K.stalls sink.new ≡ K.stalls sink.old }
-{
-    match write_all(sink, answer.text.as_slice()) {
-        Ok(()) => answer.status,
-        Err(_) => Status::Write,
-    }
-}
-
-/// Why there is nothing to write.
-pub(crate) enum PrepareError {
-    Read,
-    Memory,
+    let prepared = prepare(alloc, command, source);
+    deliver(sink, prepared)
 }

@@ -13,12 +13,14 @@
 mod answer;
 mod check_command;
 mod command;
+mod delivering;
 mod execution;
 mod load_command;
 mod load_laws;
 mod lower_laws;
 mod on_threads;
 mod phases;
+mod preparing;
 mod run_command;
 mod status;
 mod summary;

@@ -1,5 +1,5 @@
 //! A script run by workers on threads, phase by phase.
-ghost use Rattle.std.specs.Prelude.{◌≡◌, ◌≤◌, ◌<◌, ◌+◌, length, IfOk};
+ghost use Rattle.std.specs.Prelude.{◌≡◌, ◌≤◌, ◌<◌, ◌+◌, ◌^◌, length, IfOk, OnErr};
 ghost use Rattle.step_rules.specs.CoreState.{start_state};
 ghost use Rattle.weave_script.specs.Scripts.{IsScript, RiseTo};
 ghost use Rattle.weaver_workers.specs.Phases.{phase_end, phase_start};
@@ -40,7 +40,8 @@ pub(crate) fn run_on_threads<R: Threads + Wait + Sync, P: Pace>(
 
 // How many `phase` lines the script has. It refuses 2^32 or more, which no text has that is short enough to be read.
 fn count_phases(core: &Core) -> Result<u32, AllocError>
-    ensures { IfOk result (λ count. count ≡ length core.now.script.phases) }
+    ensures count { IfOk result (λ count. count ≡ length core.now.script.phases) }
+    ensures too_many { OnErr result (2 ^ 32 ≤ length core.now.script.phases) }
 {
     let count = core.script().phases.as_slice().len();
     if count > u32::MAX as usize {

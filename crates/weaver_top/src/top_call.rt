@@ -1,25 +1,29 @@
 //! The top call.
-ghost use Rattle.std.specs.Prelude.{◌≡◌, ◌⊎◌, ◌↔◌, ◌+◌, ℕ, [], map, string_bytes, IsTrue, Err, None, IfOk, OnOk, IfSome};
+ghost use Rattle.std.specs.Prelude.{◌≡◌, ◌⊎◌, ◌↔◌, ◌+◌, ℕ, [], map, string_bytes, IsTrue, None, IfSome};
 ghost use Rattle.weave_io.specs.Counts.{HasRisen};
 ghost use Rattle.weave_io.specs.Told.{IsReadWhole, KeepsWritten, Tells, TakesAtMost, Writes, WritesPrefix};
 ghost use Rattle.weaver_top.specs.Acceptance.{IsAcceptedByCheck};
-ghost use Rattle.weaver_top.specs.Answers.{IsAnswerTo, TellsAnswer, can_end};
+ghost use Rattle.weaver_top.specs.Answers.{TellsAnswer};
+ghost use Rattle.weaver_top.specs.CallEnds.{IsCallEnd, IsPrepared};
 ghost use Rattle.weaver_top.specs.Commands.{AreWordsOf, command_of, reads_input};
 ghost use Rattle.weaver_top.specs.Headlines.{TellsRightReport, TellsTrace, TellsYes};
 ghost use Rattle.weaver_top.specs.Loads.{WritesLoad, WritesLoadPrefix};
 ghost use Rattle.weaver_top.specs.Refusals.{CanBeTaken, TellsRefusal, check_input, script_input};
+ghost use Rattle.weaver_top.specs.RunLogs.{TellsByLogs};
 ghost use Rattle.weaver_top.specs.VerdictLines.{TellsNo};
 ghost use Rattle.weave_data.specs.Limits.{most_bytes};
 
-use crate::answer::{Answer, too_long};
+use crate::answer::Answer;
 use crate::command::{Command, command_of};
-use crate::execution::{PrepareError, execute, write_answer};
+use crate::delivering::deliver;
+use crate::execution::execute_words;
+use crate::preparing::{PrepareError, answer_unread};
 use crate::run_command::report_on_threads;
 use crate::status::Status;
 use std::alloc::Global;
 use std::sync::Wait;
 use std::thread::Threads;
-use weave_io::{ReadFault, Sink, Source, read_all};
+use weave_io::{Sink, Source, read_all};
 use weaver_workers::Pace;
 
 /// Runs the command of the command line. `run` runs its script phase by phase: in each phase with requests there is a
@@ -50,7 +54,9 @@ pub fn weave<R: Threads + Wait + Sync, S: Source, K: Sink, P: Pace>(
         → IsTrue (reads_input command) → (result ≡ Status.Done) ⊎ (result ≡ Status.NotRight)
         → Tells (S.left source.new) [] }
 
-    // What `run` does besides: `check` accepts its report.
+    // What `run` does besides: its report is that of logs which are an account of the script, and `check` accepts it.
+    ensures by_logs { AreWordsOf (map string_bytes words.now) Command.Run → result ≡ Status.Done
+        → Writes TellsByLogs (S.left source.old) (K.written sink.old) (K.written sink.new) }
     ensures accepted_by_check { AreWordsOf (map string_bytes words.now) Command.Run → result ≡ Status.Done
         → Writes IsAcceptedByCheck (S.left source.old) (K.written sink.old) (K.written sink.new) }
 
@@ -115,14 +121,28 @@ pub fn weave<R: Threads + Wait + Sync, S: Source, K: Sink, P: Pace>(
         → ¬ HasRisen (K.stalls sink.old) (K.stalls sink.new)
         → (result ≡ Status.Done) ⊎ (result ≡ Status.Memory) }
 {
-    match command_of(words) {
-        Some(Command::Run) => match prepare_run(rt, alloc, source, pace) {
-            Ok(answer) => write_answer(sink, &answer),
-            Err(PrepareError::Read) => Status::Read,
-            Err(PrepareError::Memory) => Status::Memory,
-        },
-        _ => execute(alloc, words, source, sink),
-    }
+    weave_words(rt, alloc, words, source, sink, pace)
+}
+
+// What `weave` does. All that it promises follows from one fact on how the call ends.
+fn weave_words<R: Threads + Wait + Sync, S: Source, K: Sink, P: Pace>(
+    rt: &R,
+    alloc: Global,
+    words: &[String],
+    source: &mut S,
+    sink: &mut K,
+    pace: &P,
+) -> Status
+    ensures { IsCallEnd (command_of (map string_bytes words.now)) result (S.left source.old) (S.left source.new)
+        (K.written sink.old) (K.written sink.new) (HasRisen (S.faults source.old) (S.faults source.new))
+        (source.new ≡ source.old) (HasRisen (K.faults sink.old) (K.faults sink.new))
+        (HasRisen (K.stalls sink.old) (K.stalls sink.new)) (K.stalls sink.new ≡ K.stalls sink.old) }
+{
+    let Some(Command::Run) = command_of(words) else {
+        return execute_words(alloc, words, source, sink);
+    };
+    let prepared = prepare_run(rt, alloc, source, pace);
+    deliver(sink, prepared)
 }
 
 // Reads a script, runs it by workers on threads, and finds out what is to be written.
@@ -132,26 +152,14 @@ fn prepare_run<R: Threads + Wait + Sync, S: Source, P: Pace>(
     source: &mut S,
     pace: &P,
 ) -> Result<Answer, PrepareError>
-    ensures fits { IfOk result (λ answer. IfSome (S.left source.old) (λ input. IsAnswerTo Command.Run input answer)) }
-    ensures ends { IfOk result (λ answer. IsTrue (can_end Command.Run answer.status)) }
-    ensures all_is_read { IfOk result (λ answer. (answer.status ≡ Status.Done) ⊎ (answer.status ≡ Status.NotRight)
-        → Tells (S.left source.new) []) }
-    ensures read { result ≡ Err PrepareError.Read → HasRisen (S.faults source.old) (S.faults source.new) }
-    ensures read_in_time { result ≡ Err PrepareError.Read
-        → TakesAtMost (S.left source.old) (S.left source.new) most_bytes }
-    ensures read_first { OnOk result (IsReadWhole (S.left source.old) (S.left source.new)) }
-    ensures rest { TakesAtMost (S.left source.old) (S.left source.new) (most_bytes + 1) }
+    ensures { IsPrepared Command.Run result (S.left source.old) (S.left source.new)
+        (HasRisen (S.faults source.old) (S.faults source.new)) (source.new ≡ source.old) }
 {
     match read_all(alloc, source) {
         Ok(input) => match report_on_threads(rt, alloc, &input, pace) {
             Ok(answer) => Ok(answer),
             Err(_) => Err(PrepareError::Memory),
         },
-        Err(ReadFault::TooLong) => match too_long(alloc) {
-            Ok(answer) => Ok(answer),
-            Err(_) => Err(PrepareError::Memory),
-        },
-        Err(ReadFault::Read) => Err(PrepareError::Read),
-        Err(ReadFault::Memory) => Err(PrepareError::Memory),
+        Err(fault) => answer_unread(alloc, fault),
     }
 }

@@ -1,40 +1,87 @@
-use Rattle.weaver_top.proofs.Deliveries.{ended_so, load_prefix_so, not_right, prefix_read, prefix_so, reads_to_refuse, refusal_read, writes_less}
-use Rattle.weaver_top.specs.Acceptance.{IsAcceptedByCheck}
-use Rattle.weaver_top.specs.Answers.{TellsRun, TellsTraceAccepted}
-use Rattle.weaver_top.specs.Headlines.{TellsRightReport, TellsTrace}
-use Rattle.weaver_top.specs.declared.status.Status.TheVariants.{Done, Refused}
-use Rattle.weaver_top.specs.declared.command.Command.TheVariants.{Run, Check, Trace, Load}
+-- Each clause follows from how the call ends.
+use Rattle.weaver_top.proofs.CallEnds as end
 use Rattle.weaver_top.proofs.execution.execute.Goals as goal
 
-pub returns-in-Ok-clause-right_report : goal.returns-in-Ok-clause-right_report
-returns-in-Ok-clause-right_report g c asks done = writes_less TellsRun TellsRightReport (λ input text tells. tells.right_report) _ _ _ (ended_so Run Done _ _ _ _ _ _ _ _ (λ wrong. cc) c.in-Some.ensures.asked asks done c.in-Ok.ensures.fits c.write_answer.ensures.delivered)
+pub returns-clause-right_report : goal.returns-clause-right_report
+returns-clause-right_report g c = end.right_report c.execute_words.ensures
 
-pub returns-in-Ok-clause-accepted_by_check : goal.returns-in-Ok-clause-accepted_by_check
-returns-in-Ok-clause-accepted_by_check g c asks done = writes_less TellsRun IsAcceptedByCheck (λ input text tells. tells.accepted_by_check) _ _ _ (ended_so Run Done _ _ _ _ _ _ _ _ (λ wrong. cc) c.in-Some.ensures.asked asks done c.in-Ok.ensures.fits c.write_answer.ensures.delivered)
+pub returns-clause-traced : goal.returns-clause-traced
+returns-clause-traced g c = end.traced c.execute_words.ensures
 
-pub returns-in-Ok-clause-yes : goal.returns-in-Ok-clause-yes
-returns-in-Ok-clause-yes g c asks done = ended_so Check Done _ _ _ _ _ _ _ _ (λ wrong. cc) c.in-Some.ensures.asked asks done c.in-Ok.ensures.fits c.write_answer.ensures.delivered
+pub returns-clause-yes : goal.returns-clause-yes
+returns-clause-yes g c = end.yes c.execute_words.ensures
 
-pub returns-in-Ok-clause-no : goal.returns-in-Ok-clause-no
-returns-in-Ok-clause-no g c is = not_right _ _ _ _ _ _ _ _ c.in-Some.ensures.asked is c.in-Ok.ensures.ends c.in-Ok.ensures.fits c.write_answer.ensures.delivered
+pub returns-clause-no : goal.returns-clause-no
+returns-clause-no g c = end.no c.execute_words.ensures
 
-pub returns-in-Ok-clause-prefix : goal.returns-in-Ok-clause-prefix
-returns-in-Ok-clause-prefix g c command asks failed = prefix_read command _ _ _ (prefix_so _ _ command _ _ _ _ _ _ c.in-Some.ensures.asked asks failed c.in-Ok.ensures.fits c.in-Ok.ensures.ends c.write_answer.ensures.delivered)
+pub returns-clause-loaded : goal.returns-clause-loaded
+returns-clause-loaded g c = end.loaded c.execute_words.ensures
 
-pub returns-in-Ok-clause-traced : goal.returns-in-Ok-clause-traced
-returns-in-Ok-clause-traced g c asks done = writes_less TellsTraceAccepted TellsTrace (λ input text tells. tells.traced) _ _ _ (ended_so Trace Done _ _ _ _ _ _ _ _ (λ wrong. cc) c.in-Some.ensures.asked asks done c.in-Ok.ensures.fits c.write_answer.ensures.delivered)
+pub returns-clause-all_is_read : goal.returns-clause-all_is_read
+returns-clause-all_is_read g c = end.all_is_read c.execute_words.ensures
 
-pub returns-in-Ok-clause-trace_accepted : goal.returns-in-Ok-clause-trace_accepted
-returns-in-Ok-clause-trace_accepted g c asks done = writes_less TellsTraceAccepted IsAcceptedByCheck (λ input text tells. tells.accepted_by_check) _ _ _ (ended_so Trace Done _ _ _ _ _ _ _ _ (λ wrong. cc) c.in-Some.ensures.asked asks done c.in-Ok.ensures.fits c.write_answer.ensures.delivered)
+pub returns-clause-by_logs : goal.returns-clause-by_logs
+returns-clause-by_logs g c = end.by_logs c.execute_words.ensures
 
-pub returns-in-Ok-clause-refused : goal.returns-in-Ok-clause-refused
-returns-in-Ok-clause-refused g c command asks refused = refusal_read command _ _ _ (ended_so command Refused _ _ _ _ _ _ _ _ (λ wrong. cc) c.in-Some.ensures.asked asks refused c.in-Ok.ensures.fits c.write_answer.ensures.delivered)
+pub returns-clause-accepted_by_check : goal.returns-clause-accepted_by_check
+returns-clause-accepted_by_check g c = end.accepted_by_check c.execute_words.ensures
 
-pub returns-in-Ok-clause-input_refused : goal.returns-in-Ok-clause-input_refused
-returns-in-Ok-clause-input_refused g c command asks refused = reads_to_refuse _ _ command _ _ _ _ _ _ c.in-Some.ensures.asked asks refused c.in-Ok.ensures.fits c.in-Ok.ensures.ends c.write_answer.ensures.delivered
+pub returns-clause-trace_accepted : goal.returns-clause-trace_accepted
+returns-clause-trace_accepted g c = end.trace_accepted c.execute_words.ensures
 
-pub returns-in-Ok-clause-loaded : goal.returns-in-Ok-clause-loaded
-returns-in-Ok-clause-loaded g c seed size asks done = ended_so (Load seed size) Done _ _ _ _ _ _ _ _ (λ wrong. cc) c.in-Some.ensures.asked asks done c.in-Ok.ensures.fits c.write_answer.ensures.delivered
+pub returns-clause-words : goal.returns-clause-words
+returns-clause-words g c = end.words c.execute_words.ensures
 
-pub returns-in-Ok-clause-load_prefix : goal.returns-in-Ok-clause-load_prefix
-returns-in-Ok-clause-load_prefix g c seed size asks failed = load_prefix_so seed size _ _ (prefix_so _ _ (Load seed size) _ _ _ _ _ _ c.in-Some.ensures.asked asks failed c.in-Ok.ensures.fits c.in-Ok.ensures.ends c.write_answer.ensures.delivered)
+pub returns-clause-read : goal.returns-clause-read
+returns-clause-read g c = λ is. (end.read c.execute_words.ensures is).0
+
+pub returns-clause-refused : goal.returns-clause-refused
+returns-clause-refused g c = end.refused c.execute_words.ensures
+
+pub returns-clause-input_refused : goal.returns-clause-input_refused
+returns-clause-input_refused g c = end.input_refused c.execute_words.ensures
+
+pub returns-clause-write : goal.returns-clause-write
+returns-clause-write g c = end.write c.execute_words.ensures
+
+pub returns-clause-prefix : goal.returns-clause-prefix
+returns-clause-prefix g c = end.prefix c.execute_words.ensures
+
+pub returns-clause-load_prefix : goal.returns-clause-load_prefix
+returns-clause-load_prefix g c = end.load_prefix c.execute_words.ensures
+
+pub returns-clause-read_first : goal.returns-clause-read_first
+returns-clause-read_first g c = end.read_first c.execute_words.ensures
+
+pub returns-clause-without_stall : goal.returns-clause-without_stall
+returns-clause-without_stall g c = end.without_stall c.execute_words.ensures
+
+pub returns-clause-nothing_written : goal.returns-clause-nothing_written
+returns-clause-nothing_written g c = end.nothing_written c.execute_words.ensures
+
+pub returns-clause-nothing_read : goal.returns-clause-nothing_read
+returns-clause-nothing_read g c = end.nothing_read c.execute_words.ensures
+
+pub returns-clause-load_reads_nothing : goal.returns-clause-load_reads_nothing
+returns-clause-load_reads_nothing g c = end.load_reads_nothing c.execute_words.ensures
+
+pub returns-clause-read_in_time : goal.returns-clause-read_in_time
+returns-clause-read_in_time g c = λ is. (end.read c.execute_words.ensures is).1
+
+pub returns-clause-rest : goal.returns-clause-rest
+returns-clause-rest g c = end.rest_left c.execute_words.ensures
+
+pub returns-clause-written_stays : goal.returns-clause-written_stays
+returns-clause-written_stays g c = end.written_stays c.execute_words.ensures
+
+pub returns-clause-all_run : goal.returns-clause-all_run
+returns-clause-all_run g c = end.all_run c.execute_words.ensures
+
+pub returns-clause-all_judged : goal.returns-clause-all_judged
+returns-clause-all_judged g c = end.all_judged c.execute_words.ensures
+
+pub returns-clause-all_traced : goal.returns-clause-all_traced
+returns-clause-all_traced g c = end.all_traced c.execute_words.ensures
+
+pub returns-clause-all_loaded : goal.returns-clause-all_loaded
+returns-clause-all_loaded g c = end.all_loaded c.execute_words.ensures

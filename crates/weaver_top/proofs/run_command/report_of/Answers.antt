@@ -28,4 +28,4 @@ returns c input short is_text =
     let names = c.script_names_are_distinct.ensures in
     let told : IsReportTextOf script (report_text script report) report = c.printed_text_is_text.ensures script report (names.told script valid) (names.typed script valid) well.of_script c.in_ok-text.ensures.typed in
     let here = subst (λ bytes. IsReportTextOf script bytes report) (sym printed) told in
-    run_told input script report _ short is_text printed well (accepted c.report_texts_follow_script_texts.ensures input _ script report is_text here well.right)
+    run_told input script report _ short is_text printed well _ run by (accepted c.report_texts_follow_script_texts.ensures input _ script report is_text here well.right)

@@ -1,20 +1,87 @@
-use Rattle.std.proofs.Common.{Some, sym, ap, ◌∙◌}
-use Rattle.weaver_top.proofs.Deliveries.{ended_so, prefix_read, prefix_so, refusal_read, writes_less}
-use Rattle.weaver_top.specs.Acceptance.{IsAcceptedByCheck}
-use Rattle.weaver_top.specs.Answers.{TellsRun}
-use Rattle.weaver_top.specs.Headlines.{TellsRightReport}
-use Rattle.weaver_top.specs.declared.status.Status.TheVariants.{Done, Refused}
-use Rattle.weaver_top.specs.declared.command.Command.TheVariants.{Run}
+-- Each clause follows from how the call ends.
+use Rattle.weaver_top.proofs.CallEnds as end
 use Rattle.weaver_top.proofs.top_call.weave.Goals as goal
 
-pub returns-in-Ok-clause-right_report : goal.returns-in-Ok-clause-right_report
-returns-in-Ok-clause-right_report g c asks done = writes_less TellsRun TellsRightReport (λ input text tells. tells.right_report) _ _ _ (ended_so Run Done _ Run _ _ _ _ _ _ (λ wrong. cc) (ap Some (sym c.in-Some-Run.field-0-is) ∙ c.in-Some-Run.ensures.asked) asks done c.in-Ok.ensures.fits c.write_answer.ensures.delivered)
+pub returns-clause-right_report : goal.returns-clause-right_report
+returns-clause-right_report g c = end.right_report c.weave_words.ensures
 
-pub returns-in-Ok-clause-accepted_by_check : goal.returns-in-Ok-clause-accepted_by_check
-returns-in-Ok-clause-accepted_by_check g c asks done = writes_less TellsRun IsAcceptedByCheck (λ input text tells. tells.accepted_by_check) _ _ _ (ended_so Run Done _ Run _ _ _ _ _ _ (λ wrong. cc) (ap Some (sym c.in-Some-Run.field-0-is) ∙ c.in-Some-Run.ensures.asked) asks done c.in-Ok.ensures.fits c.write_answer.ensures.delivered)
+pub returns-clause-traced : goal.returns-clause-traced
+returns-clause-traced g c = end.traced c.weave_words.ensures
 
-pub returns-in-Ok-clause-prefix : goal.returns-in-Ok-clause-prefix
-returns-in-Ok-clause-prefix g c command asks failed = prefix_read command _ _ _ (prefix_so _ Run command _ _ _ _ _ _ (ap Some (sym c.in-Some-Run.field-0-is) ∙ c.in-Some-Run.ensures.asked) asks failed c.in-Ok.ensures.fits c.in-Ok.ensures.ends c.write_answer.ensures.delivered)
+pub returns-clause-yes : goal.returns-clause-yes
+returns-clause-yes g c = end.yes c.weave_words.ensures
 
-pub returns-in-Ok-clause-refused : goal.returns-in-Ok-clause-refused
-returns-in-Ok-clause-refused g c command asks refused = refusal_read command _ _ _ (ended_so command Refused _ Run _ _ _ _ _ _ (λ wrong. cc) (ap Some (sym c.in-Some-Run.field-0-is) ∙ c.in-Some-Run.ensures.asked) asks refused c.in-Ok.ensures.fits c.write_answer.ensures.delivered)
+pub returns-clause-no : goal.returns-clause-no
+returns-clause-no g c = end.no c.weave_words.ensures
+
+pub returns-clause-loaded : goal.returns-clause-loaded
+returns-clause-loaded g c = end.loaded c.weave_words.ensures
+
+pub returns-clause-all_is_read : goal.returns-clause-all_is_read
+returns-clause-all_is_read g c = end.all_is_read c.weave_words.ensures
+
+pub returns-clause-by_logs : goal.returns-clause-by_logs
+returns-clause-by_logs g c = end.by_logs c.weave_words.ensures
+
+pub returns-clause-accepted_by_check : goal.returns-clause-accepted_by_check
+returns-clause-accepted_by_check g c = end.accepted_by_check c.weave_words.ensures
+
+pub returns-clause-trace_accepted : goal.returns-clause-trace_accepted
+returns-clause-trace_accepted g c = end.trace_accepted c.weave_words.ensures
+
+pub returns-clause-words : goal.returns-clause-words
+returns-clause-words g c = end.words c.weave_words.ensures
+
+pub returns-clause-read : goal.returns-clause-read
+returns-clause-read g c = λ is. (end.read c.weave_words.ensures is).0
+
+pub returns-clause-refused : goal.returns-clause-refused
+returns-clause-refused g c = end.refused c.weave_words.ensures
+
+pub returns-clause-input_refused : goal.returns-clause-input_refused
+returns-clause-input_refused g c = end.input_refused c.weave_words.ensures
+
+pub returns-clause-write : goal.returns-clause-write
+returns-clause-write g c = end.write c.weave_words.ensures
+
+pub returns-clause-prefix : goal.returns-clause-prefix
+returns-clause-prefix g c = end.prefix c.weave_words.ensures
+
+pub returns-clause-load_prefix : goal.returns-clause-load_prefix
+returns-clause-load_prefix g c = end.load_prefix c.weave_words.ensures
+
+pub returns-clause-read_first : goal.returns-clause-read_first
+returns-clause-read_first g c = end.read_first c.weave_words.ensures
+
+pub returns-clause-without_stall : goal.returns-clause-without_stall
+returns-clause-without_stall g c = end.without_stall c.weave_words.ensures
+
+pub returns-clause-nothing_written : goal.returns-clause-nothing_written
+returns-clause-nothing_written g c = end.nothing_written c.weave_words.ensures
+
+pub returns-clause-nothing_read : goal.returns-clause-nothing_read
+returns-clause-nothing_read g c = end.nothing_read c.weave_words.ensures
+
+pub returns-clause-load_reads_nothing : goal.returns-clause-load_reads_nothing
+returns-clause-load_reads_nothing g c = end.load_reads_nothing c.weave_words.ensures
+
+pub returns-clause-read_in_time : goal.returns-clause-read_in_time
+returns-clause-read_in_time g c = λ is. (end.read c.weave_words.ensures is).1
+
+pub returns-clause-rest : goal.returns-clause-rest
+returns-clause-rest g c = end.rest_left c.weave_words.ensures
+
+pub returns-clause-written_stays : goal.returns-clause-written_stays
+returns-clause-written_stays g c = end.written_stays c.weave_words.ensures
+
+pub returns-clause-all_run : goal.returns-clause-all_run
+returns-clause-all_run g c = end.all_run c.weave_words.ensures
+
+pub returns-clause-all_judged : goal.returns-clause-all_judged
+returns-clause-all_judged g c = end.all_judged c.weave_words.ensures
+
+pub returns-clause-all_traced : goal.returns-clause-all_traced
+returns-clause-all_traced g c = end.all_traced c.weave_words.ensures
+
+pub returns-clause-all_loaded : goal.returns-clause-all_loaded
+returns-clause-all_loaded g c = end.all_loaded c.weave_words.ensures
