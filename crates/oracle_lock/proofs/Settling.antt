@@ -1,6 +1,6 @@
 -- What the oracle's entries speak of was begun, and stays so when it is asked.
--- Used by `known_events_are_begun`, `meet`, `pairs_tell_entries`, `settling_keeps` and crates shard_lock, store_lock
--- and weaver_locks.
+-- Used by `known_events_are_begun`, `lend`, `meet`, `pairs_tell_entries`, `settling_keeps` and crates shard_lock,
+-- store_lock and weaver_locks.
 use Rattle.std.proofs.Common.{◌≡◌, ◌⊎◌, ℕ, ◌≤◌, List, [], ◌∷◌, ◌++◌, length, map, Contains, Option, None, Some, inl, inr, refl, sym, ap, ◌∙◌, subst, arith}
 use Rattle.std.specs.Prelude.{slice_get}
 use Rattle.std.specs.Option.{option_map}

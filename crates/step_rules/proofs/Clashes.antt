@@ -1,7 +1,7 @@
 -- What equations of constructors say, each proved with nothing else in scope: `cc` and `omega` read all that is in
 -- scope, and beside the laws of the crates below one call of `cc` takes seconds.
--- Used by BeginStep, GateSteps, JudgeStep, NopStep, QuietGateEntry, QuietSteps, Replying, SendStep, Verdicts, VisitStep
--- and Visiting.
+-- Used by BeginStep, GateSteps, JudgeStep, NopStep, QuietGateEntry, QuietSteps, Replying, SendStep, Verdicts,
+-- VisitStep and Visiting.
 use Rattle.std.proofs.Common.{◌≡◌, false, List, [], ◌∷◌, Option, None, Some, refl, ap}
 use Rattle.std.specs.Prelude.{is_some}
 use Rattle.std.proofs.lemmas.Bool.{both_ways}

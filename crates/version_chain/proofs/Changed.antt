@@ -23,7 +23,7 @@ use Rattle.version_chain.specs.Keeping.{kept_from, base_of, HaveParts, IsKept}
 use Rattle.version_chain.specs.Updates.{ResultFrom, ResultFromOldest, oldest_state, all_changes}
 use Rattle.version_chain.proofs.LookBack.{take-front}
 use Rattle.version_chain.proofs.Collecting.{none-older, one-kept}
-use Rattle.version_chain.proofs.Histories.{place_kept, kept_length, kept_append, kept_drop, kept_same, newest_kept, items_of, have_on, have_more, have_first, have_later, have_results, have_most, have_exact}
+use Rattle.version_chain.proofs.Histories.{place_kept, kept_length, kept_append, kept_drop, kept_same, newest_kept, items_of, have_on, have_more, have_first, have_later, have_results, have_sum}
 
 -- The base of a history
 
@@ -69,11 +69,11 @@ module _ (dropped before : ℕ) (was now : Lists) (stamps : List Stamp) (kept : 
   same_base : size_of (state_at base now) ≡ size_of (state_at base was)
   same_base = ap size_of (earlier base within_base)
 
-  same_parts : ((update : ℕ) → update ≤ before → items_of now update ≡ items_of was update) → HaveParts dropped base now kept.history.updates
+  same_parts : ((update : ℕ) → update ≤ before → items_of now update ≡ items_of was update) → HaveParts base now kept.history.updates
   same_parts counts =
       let whole = kept.history.count in
-      have_on dropped dropped base was now kept.history.updates (λ update after within. earlier update (omega (arith, within, whole, count)))
-      (λ update after within. let same = counts update (omega (arith, within, whole, count)) in (omega (arith, same), λ none. (none, same))) kept.history.parts
+      have_on base was now kept.history.updates (λ update after within. earlier update (omega (arith, within, whole, count)))
+      (λ update after within. counts update (omega (arith, within, whole, count))) kept.history.parts
 
   -- after an update that was refused the invariant holds, if no later item is left and the counts are as before
   pub refused_kept : AreUpTo before now → ((test : ℕ → Bool) → count_updates test now ≡ count_updates test was) → IsKept dropped now stamps
@@ -117,11 +117,11 @@ module _ (dropped before : ℕ) (was now : Lists) (stamps : List Stamp) (kept : 
       history = record {
         updates = kept.history.updates ++ ops ∷ [];
         count = (let whole = kept.history.count in omega (arith, longer, whole, length-append kept.history.updates (ops ∷ [])));
-        parts = have_more dropped now base kept.history.updates ops before (let whole = kept.history.count in omega (arith, whole, count))
+        parts = have_more now base kept.history.updates ops before (let whole = kept.history.count in omega (arith, whole, count))
             (same_parts (λ update old. not_now (λ other. other == update) (ne_eqb (before + 1) update (λ same. omega (arith, same, old)))))
             (subst (λ (s : State). IsTrue (none_refused ops s)) (sym (earlier before (omega arith))) passes)
             (state ∙ ap (state_after_ops ops) (sym (earlier before (omega arith))))
-            (record { most = omega (arith, items_now); exact = λ none. items_now });
+            items_now;
         older = (let same = not_now (λ update. nat_le update base) (lt-leb (before + 1) base (let old = within_base in omega (arith, old))) in let older = kept.history.older in omega (arith, same, older, same_base));
       };
     }
@@ -189,9 +189,9 @@ module _ (dropped newest : ℕ) (was now : Lists) (stamps rest gone : List Stamp
       history = record {
         updates = left;
         count = whole;
-        parts = have_on dropped dropped (base_of dropped) was now left (λ update after below. states update (omega (arith, below, whole, count)))
-            (λ update after below. let same = same_count (λ other. other == update) (λ other same. let e = eqb-true other update same in omega (arith, e, below, whole, count)) in (omega (arith, same), λ none. (none, same)))
-            (have_first dropped was (base_of dropped) (length kept.history.updates - 1) kept.history.updates kept.history.parts);
+        parts = have_on (base_of dropped) was now left (λ update after below. states update (omega (arith, below, whole, count)))
+            (λ update after below. same_count (λ other. other == update) (λ other same. let e = eqb-true other update same in omega (arith, e, below, whole, count)))
+            (have_first was (base_of dropped) (length kept.history.updates - 1) kept.history.updates kept.history.parts);
         older = (
             let same = same_count (λ update. nat_le update (base_of dropped)) (λ update old. let e = leb-true update (base_of dropped) old in let room = base_left in omega (arith, e, room)) in
             let size : size_of (state_at (base_of dropped) now) ≡ size_of (state_at (base_of dropped) was) = ap size_of (states (base_of dropped) base_left) in
@@ -215,7 +215,7 @@ module _ (dropped older : ℕ) (was now : Lists) (stamps : List Stamp) (kept : I
   pub collected_versions : kept_from gone now (drop older stamps) ≡ drop older (kept_from dropped was stamps)
   collected_versions = kept_same now was gone (drop older stamps) (λ update after within. states update (omega (arith, after))) ∙ kept_drop was dropped older stamps
 
-  module _ (within : AreUpTo (dropped + length stamps) now) (counts : (test : ℕ → Bool) → count_updates test now ≤ count_updates test was)
+  module _ (within : AreUpTo (dropped + length stamps) now) (later : (update : ℕ) → gone + 1 < update → items_of now update ≡ items_of was update)
       (oldest : count_updates (λ update. nat_le update (gone + 1)) now ≤ size_of (state_at (gone + 1) was)) where
     abbrev past : ℕ
     past = gone + 1 - base_of dropped
@@ -239,7 +239,8 @@ module _ (dropped older : ℕ) (was now : Lists) (stamps : List Stamp) (kept : I
         let low = old_base in
         omega (arith, count, low, new_base, updates_left, left_length, some, inside)
 
-    -- the invariant holds after that, if no items came and those up to the oldest version are at most its state's parts
+    -- the invariant holds after that, if later updates have as many items, and those up to the oldest version have at
+    -- most as many as its state has parts
     pub collected_kept : IsKept gone now (drop older stamps)
     collected_kept = record {
       small = (let small = kept.small in omega (arith, small, left_length, inside));
@@ -249,9 +250,9 @@ module _ (dropped older : ℕ) (was now : Lists) (stamps : List Stamp) (kept : I
       history = record {
         updates = drop past kept.history.updates;
         count = whole_left;
-        parts = have_on dropped gone (base_of gone) was now (drop past kept.history.updates) (λ update after below. states update (omega (arith, after, new_base)))
-            (λ update after below. (counts (λ other. other == update), λ none. absurd (omega (arith, none, some))))
-            (have_later dropped was (base_of dropped) past kept.history.updates (base_of gone) (let low = old_base in omega (arith, new_base, low, some)) kept.history.parts);
+        parts = have_on (base_of gone) was now (drop past kept.history.updates) (λ update after below. states update (omega (arith, after, new_base)))
+            (λ update after below. later update (omega (arith, after, new_base)))
+            (have_later was (base_of dropped) past kept.history.updates (base_of gone) (let low = old_base in omega (arith, new_base, low, some)) kept.history.parts);
         older = (
             let size : size_of (state_at (gone + 1) now) ≡ size_of (state_at (gone + 1) was) = ap size_of (states (gone + 1) (omega arith)) in
             subst (λ (n : ℕ). count_updates (λ update. nat_le update n) now ≤ size_of (state_at n now)) (sym new_base) (omega (arith, oldest, size))
@@ -278,30 +279,32 @@ module _ (dropped : ℕ) (lists : Lists) (stamps : List Stamp) (kept : IsKept dr
       let whole = kept.history.count in
       let older = kept.history.older in
       let nothing : size_of (state_at first_base lists) ≡ 0 = ap size_of first in
-      let sum = have_exact dropped lists one_more none first_base kept.history.updates kept.history.parts in (
+      let sum = have_sum lists one_more first_base kept.history.updates kept.history.parts in (
         kept.history.updates,
         subst (λ (s : State). ResultFrom s kept.history.updates (kept_from dropped lists stamps)) first
             (subst (λ (n : ℕ). ResultFrom (state_at first_base lists) kept.history.updates (kept_from n lists stamps)) (from_start ∙ sym none)
-            (have_results dropped lists first_base kept.history.updates stamps (omega (arith, whole, from_start, none)) kept.history.parts)),
+            (have_results lists first_base kept.history.updates stamps (omega (arith, whole, from_start, none)) kept.history.parts)),
         omega (arith, sum, all_items, older, nothing),
       )
 
-  -- if some were dropped, there are at most as many parts as the updates after the oldest version and its state have
-  pub most_count : 1 ≤ dropped → (updates : List (List Op)) × ResultFromOldest updates (kept_from dropped lists stamps) × (parts ≤ all_changes updates + size_of (oldest_state (kept_from dropped lists stamps)))
-  most_count some = by stamps (kept.one some) kept.history.count
+  -- if some were dropped, there are as many parts as the updates after the oldest version and its state have, if the
+  -- state has no more parts than there are items of the updates up to it
+  pub oldest_count : ((update : ℕ) → size_of (state_at update lists) ≤ count_updates (λ other. nat_le other update) lists) → 1 ≤ dropped
+      → (updates : List (List Op)) × ResultFromOldest updates (kept_from dropped lists stamps) × (parts ≡ all_changes updates + size_of (oldest_state (kept_from dropped lists stamps)))
+  oldest_count sizes some = by stamps (kept.one some) kept.history.count
     where
       by : (xs : List Stamp) → 1 ≤ length xs → first_base + length kept.history.updates ≡ dropped + length xs
-          → (updates : List (List Op)) × ResultFromOldest updates (kept_from dropped lists xs) × (parts ≤ all_changes updates + size_of (oldest_state (kept_from dropped lists xs)))
+          → (updates : List (List Op)) × ResultFromOldest updates (kept_from dropped lists xs) × (parts ≡ all_changes updates + size_of (oldest_state (kept_from dropped lists xs)))
       by [] one whole = absurd (omega (arith, one))
       by (oldest ∷ rest) one whole =
           let next : first_base ≡ dropped + 1 = base_some dropped some in
           let older = kept.history.older in
-          let sum = have_most dropped lists one_more first_base kept.history.updates kept.history.parts in
+          let sum = have_sum lists one_more first_base kept.history.updates kept.history.parts in
           let size : size_of (state_at first_base lists) ≡ size_of (state_at (dropped + 1) lists) = ap (λ (n : ℕ). size_of (state_at n lists)) next in (
             kept.history.updates,
             subst (λ (n : ℕ). ResultFrom (state_at n lists) kept.history.updates (kept_from n lists rest)) next
-                (have_results dropped lists first_base kept.history.updates rest (omega (arith, whole, next)) kept.history.parts),
-            omega (arith, sum, all_items, older, size),
+                (have_results lists first_base kept.history.updates rest (omega (arith, whole, next)) kept.history.parts),
+            omega (arith, sum, all_items, older, size, sizes first_base),
           )
 
 -- Which versions a collection drops

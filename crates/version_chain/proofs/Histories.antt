@@ -1,8 +1,9 @@
 -- The updates that a chain results from, as it changes.
--- Used by `count`, `kept`, `look_back`, `newest`, `take_back` and Changed.
-use Rattle.std.proofs.Common.{◌≡◌, ◌≤◌, ◌<◌, ◌+◌, ◌==◌, ℕ, zero, suc, List, [], ◌∷◌, ◌++◌, take, drop, length, None, IsTrue, refl, sym, ap, subst, ◌∙◌, arith}
+-- Used by `count`, `kept`, `look_back`, `newest`, `parts`, `take_back` and Changed.
+use Rattle.std.proofs.Common.{◌≡◌, ◌≤◌, ◌<◌, ◌+◌, ◌==◌, ℕ, zero, suc, List, [], ◌∷◌, ◌++◌, take, drop, length, None, All, IsTrue, refl, sym, ap, subst, ◌∙◌, arith}
 use Rattle.std.specs.Prelude.{nat_le, fold}
 use Rattle.std.proofs.lemmas.List.{length-append}
+use Rattle.std.proofs.lemmas.List.Elements.{All-cons, All-nil}
 use Rattle.graph_ops.specs.declared.op.Op.{Op}
 use Rattle.graph_ops.specs.Operations.{State}
 use Rattle.graph_ops.specs.VertexOps.{state_after_ops, none_refused}
@@ -15,7 +16,7 @@ use Rattle.version_parts.specs.Counts.{count_updates, changes}
 use Rattle.version_parts.specs.States.{state_at}
 use Rattle.version_chain.specs.declared.version.Version.{Version}
 use Rattle.version_chain.specs.Chains.{stamps_of_versions, newest_state}
-use Rattle.version_chain.specs.Keeping.{kept_from, IsCounted, HaveParts}
+use Rattle.version_chain.specs.Keeping.{kept_from, HaveParts}
 use Rattle.version_chain.specs.Updates.{ResultFrom, all_changes}
 
 -- The versions that are kept
@@ -61,6 +62,12 @@ module _ (lists : Lists) where
       let same : dropped + 1 + length stamps ≡ dropped + suc (length stamps) = omega arith in
       newest_from (dropped + 1) stamps ∙ ap (λ (n : ℕ). state_at n lists) same
 
+  -- what is true of every state of the parts is true of the state of each version
+  pub kept_all : (P : State → Type 0) → ((update : ℕ) → P (state_at update lists)) → (before : ℕ) (stamps : List Stamp) → All (λ (version : Version). P version.state) (kept_from before lists stamps)
+  kept_all P holds before [] = All-nil (λ (version : Version). P version.state)
+  kept_all P holds before (stamp ∷ stamps) =
+      All-cons (λ (version : Version). P version.state) (record { stamp = stamp; state = state_at (before + 1) lists }) (kept_from (before + 1) lists stamps) (holds (before + 1)) (kept_all P holds (before + 1) stamps)
+
   -- the last version before a bound is at the place of the last stamp before it
   pub place_kept : (bound : Clock) (before : ℕ) (stamps : List Stamp) → last_place (λ (version : Version). is_before version.stamp.clock bound) (kept_from before lists stamps) ≡ last_place (λ (stamp : Stamp). is_before stamp.clock bound) stamps
   place_kept bound before [] = refl
@@ -90,78 +97,62 @@ kept_same now was before (stamp ∷ stamps) same =
 abbrev pub items_of : Lists → ℕ → ℕ
 items_of lists number = count_updates (λ update. update == number) lists
 
--- the counts of an update stay, or become less if versions are dropped
-abbrev pub CountsOn : ℕ → ℕ → Lists → Lists → ℕ → Type 0
-CountsOn dropped now_dropped was now update = (items_of now update ≤ items_of was update) × (now_dropped ≡ 0 → (dropped ≡ 0) × (items_of now update ≡ items_of was update))
-
--- if states stay, and no update gains items, nor loses any unless versions are dropped, the parts still fit the updates
-pub have_on : (dropped now_dropped before : ℕ) (was now : Lists) (updates : List (List Op))
+-- if states stay, and each update has as many items as before, the parts still fit the updates
+pub have_on : (before : ℕ) (was now : Lists) (updates : List (List Op))
     → ((update : ℕ) → before ≤ update → update ≤ before + length updates → state_at update now ≡ state_at update was)
-    → ((update : ℕ) → before < update → update ≤ before + length updates → CountsOn dropped now_dropped was now update)
-    → HaveParts dropped before was updates → HaveParts now_dropped before now updates
-have_on dropped now_dropped before was now [] states counts have = tt
-have_on dropped now_dropped before was now (ops ∷ updates) states counts have =
+    → ((update : ℕ) → before < update → update ≤ before + length updates → items_of now update ≡ items_of was update)
+    → HaveParts before was updates → HaveParts before now updates
+have_on before was now [] states counts have = tt
+have_on before was now (ops ∷ updates) states counts have =
     let here : state_at before now ≡ state_at before was = states before (omega arith) (omega arith) in
-    let next : state_at (before + 1) now ≡ state_at (before + 1) was = states (before + 1) (omega arith) (omega arith) in
-    let count : CountsOn dropped now_dropped was now (before + 1) = counts (before + 1) (omega arith) (omega arith) in (
+    let next : state_at (before + 1) now ≡ state_at (before + 1) was = states (before + 1) (omega arith) (omega arith) in (
       subst (λ (state : State). IsTrue (none_refused ops state)) (sym here) have.0,
       next ∙ have.1 ∙ ap (state_after_ops ops) (sym here),
-      record { most = (let less = count.0 in let most = have.2.most in omega (arith, less, most)); exact = λ none. let both = count.1 none in both.1 ∙ have.2.exact both.0 },
-      have_on dropped now_dropped (before + 1) was now updates (λ update after within. states update (omega (arith, after)) (omega (arith, within))) (λ update after within. counts update (omega (arith, after)) (omega (arith, within))) have.3,
+      counts (before + 1) (omega arith) (omega arith) ∙ have.2,
+      have_on (before + 1) was now updates (λ update after within. states update (omega (arith, after)) (omega (arith, within))) (λ update after within. counts update (omega (arith, after)) (omega (arith, within))) have.3,
     )
 
-module _ (dropped : ℕ) (lists : Lists) where
+module _ (lists : Lists) where
   -- if the parts fit the updates, they fit them with one more that isn't refused, gives the next state and is counted
-  pub have_more : (before : ℕ) (updates : List (List Op)) (ops : List Op) (last : ℕ) → last ≡ before + length updates → HaveParts dropped before lists updates
-      → IsTrue (none_refused ops (state_at last lists)) → state_at (last + 1) lists ≡ state_after_ops ops (state_at last lists) → IsCounted dropped (items_of lists (last + 1)) (changes ops)
-      → HaveParts dropped before lists (updates ++ ops ∷ [])
+  pub have_more : (before : ℕ) (updates : List (List Op)) (ops : List Op) (last : ℕ) → last ≡ before + length updates → HaveParts before lists updates
+      → IsTrue (none_refused ops (state_at last lists)) → state_at (last + 1) lists ≡ state_after_ops ops (state_at last lists) → items_of lists (last + 1) ≡ changes ops
+      → HaveParts before lists (updates ++ ops ∷ [])
   have_more before [] ops last is have passes state count =
       let same : last ≡ before = omega (arith, is) in (
         subst (λ (n : ℕ). IsTrue (none_refused ops (state_at n lists))) same passes,
         subst (λ (n : ℕ). state_at (n + 1) lists ≡ state_after_ops ops (state_at n lists)) same state,
-        subst (λ (n : ℕ). IsCounted dropped (items_of lists (n + 1)) (changes ops)) same count,
+        subst (λ (n : ℕ). items_of lists (n + 1) ≡ changes ops) same count,
         tt,
       )
   have_more before (first ∷ updates) ops last is have passes state count = (have.0, have.1, have.2, have_more (before + 1) updates ops last (omega (arith, is)) have.3 passes state count)
 
   -- parts of updates are also parts of any number of the first of them
-  pub have_first : (before n : ℕ) (updates : List (List Op)) → HaveParts dropped before lists updates → HaveParts dropped before lists (take n updates)
+  pub have_first : (before n : ℕ) (updates : List (List Op)) → HaveParts before lists updates → HaveParts before lists (take n updates)
   have_first before zero updates have = tt
   have_first before (suc n) [] have = tt
   have_first before (suc n) (ops ∷ updates) have = (have.0, have.1, have.2, have_first (before + 1) n updates have.3)
 
   -- and of those after any number, counted on from there
-  pub have_later : (before n : ℕ) (updates : List (List Op)) (at : ℕ) → at ≡ before + n → HaveParts dropped before lists updates → HaveParts dropped at lists (drop n updates)
-  have_later before zero updates at is have = let same : before ≡ at = omega (arith, is) in subst (λ (m : ℕ). HaveParts dropped m lists updates) same have
+  pub have_later : (before n : ℕ) (updates : List (List Op)) (at : ℕ) → at ≡ before + n → HaveParts before lists updates → HaveParts at lists (drop n updates)
+  have_later before zero updates at is have = let same : before ≡ at = omega (arith, is) in subst (λ (m : ℕ). HaveParts m lists updates) same have
   have_later before (suc n) [] at is have = tt
   have_later before (suc n) (ops ∷ updates) at is have = have_later (before + 1) n updates at (omega (arith, is)) have.3
 
   -- the versions result from the updates
-  pub have_results : (before : ℕ) (updates : List (List Op)) (stamps : List Stamp) → length updates ≡ length stamps → HaveParts dropped before lists updates → ResultFrom (state_at before lists) updates (kept_from before lists stamps)
+  pub have_results : (before : ℕ) (updates : List (List Op)) (stamps : List Stamp) → length updates ≡ length stamps → HaveParts before lists updates → ResultFrom (state_at before lists) updates (kept_from before lists stamps)
   have_results before [] [] same have = tt
   have_results before [] (stamp ∷ stamps) same have = absurd (omega (arith, same))
   have_results before (ops ∷ updates) [] same have = absurd (omega (arith, same))
   have_results before (ops ∷ updates) (stamp ∷ stamps) same have = (have.0, have.1, have_results (before + 1) updates stamps (omega (arith, same)) have.3)
 
   module _ (one_more : (update : ℕ) → count_updates (λ other. nat_le other (update + 1)) lists ≡ count_updates (λ other. nat_le other update) lists + items_of lists (update + 1)) where
-    -- the items of updates add up
-    pub have_most : (before : ℕ) (updates : List (List Op)) → HaveParts dropped before lists updates
-        → count_updates (λ other. nat_le other (before + length updates)) lists ≤ count_updates (λ other. nat_le other before) lists + all_changes updates
-    have_most before [] have = let same : before + 0 ≡ before = omega arith in
-        subst (λ (n : ℕ). count_updates (λ other. nat_le other n) lists ≤ count_updates (λ other. nat_le other before) lists + 0) (sym same) (omega arith)
-    have_most before (ops ∷ updates) have =
-        let same : before + 1 + length updates ≡ before + suc (length updates) = omega arith in
-        let rest = have_most (before + 1) updates have.3 in
-        let most = have.2.most in
-        subst (λ (n : ℕ). count_updates (λ other. nat_le other n) lists ≤ count_updates (λ other. nat_le other before) lists + (changes ops + all_changes updates)) same (omega (arith, rest, most, one_more before))
-
-    -- if no version was dropped, updates add as many items as they have operations other than `get`
-    pub have_exact : dropped ≡ 0 → (before : ℕ) (updates : List (List Op)) → HaveParts dropped before lists updates
+    -- updates add as many items as they have operations other than `get`
+    pub have_sum : (before : ℕ) (updates : List (List Op)) → HaveParts before lists updates
         → count_updates (λ other. nat_le other (before + length updates)) lists ≡ count_updates (λ other. nat_le other before) lists + all_changes updates
-    have_exact none before [] have = let same : before + 0 ≡ before = omega arith in
+    have_sum before [] have = let same : before + 0 ≡ before = omega arith in
         subst (λ (n : ℕ). count_updates (λ other. nat_le other n) lists ≡ count_updates (λ other. nat_le other before) lists + 0) (sym same) (omega arith)
-    have_exact none before (ops ∷ updates) have =
+    have_sum before (ops ∷ updates) have =
         let same : before + 1 + length updates ≡ before + suc (length updates) = omega arith in
-        let rest = have_exact none (before + 1) updates have.3 in
-        let exact = have.2.exact none in
+        let rest = have_sum (before + 1) updates have.3 in
+        let exact = have.2 in
         subst (λ (n : ℕ). count_updates (λ other. nat_le other n) lists ≡ count_updates (λ other. nat_le other before) lists + (changes ops + all_changes updates)) same (omega (arith, rest, exact, one_more before))

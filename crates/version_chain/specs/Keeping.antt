@@ -19,25 +19,20 @@ kept_from before lists (stamp ∷ stamps) =
 abbrev pub base_of : ℕ → ℕ
 base_of dropped = cond (dropped == 0) 0 (dropped + 1)
 
--- no more items than operations that change something, and the same number if no version was dropped
-pub record IsCounted (dropped items operations : ℕ) : Type 0 where
-  pub most : items ≤ operations
-  pub exact : dropped ≡ 0 → items ≡ operations
-
 -- the parts are those of updates with these operations, after the first `before` ones
-abbrev pub HaveParts : ℕ → ℕ → Lists → List (List Op) → Type 0
-HaveParts dropped before lists [] = Unit {0}
-HaveParts dropped before lists (ops ∷ updates) =
+abbrev pub HaveParts : ℕ → Lists → List (List Op) → Type 0
+HaveParts before lists [] = Unit {0}
+HaveParts before lists (ops ∷ updates) =
     IsTrue (none_refused ops (state_at before lists))
     × (state_at (before + 1) lists ≡ state_after_ops ops (state_at before lists))
-    × IsCounted dropped (count_updates (λ update. update == before + 1) lists) (changes ops)
-    × HaveParts dropped (before + 1) lists updates
+    × (count_updates (λ update. update == before + 1) lists ≡ changes ops)
+    × HaveParts (before + 1) lists updates
 
 -- updates from which what is kept results, with no more older items than the first known state has parts
 pub record HasHistory (dropped : ℕ) (lists : Lists) (kept : ℕ) : Type 0 where
   pub updates : List (List Op)
   pub count : base_of dropped + length updates ≡ dropped + kept
-  pub parts : HaveParts dropped (base_of dropped) lists updates
+  pub parts : HaveParts (base_of dropped) lists updates
   pub older : count_updates (λ update. nat_le update (base_of dropped)) lists ≤ size_of
       (state_at (base_of dropped) lists)
 

@@ -1,5 +1,5 @@
 -- The updates that a vertex's versions result from.
-use Rattle.std.specs.Prelude.{◌≡◌, ◌≤◌, ◌+◌, ℕ, List, [], ◌∷◌, None, IsTrue}
+use Rattle.std.specs.Prelude.{◌≡◌, ◌+◌, ℕ, List, [], ◌∷◌, None, IsTrue}
 use Rattle.graph_ops.specs.declared.op.Op.{Op}
 use Rattle.graph_ops.specs.Operations.{State}
 use Rattle.graph_ops.specs.VertexOps.{state_after_ops, none_refused}
@@ -35,7 +35,7 @@ abbrev pub IsPartCount : ChainView → ℕ → Type 0
 IsPartCount chain parts = (updates : List (List Op)) × ResultFrom None updates chain.kept
     × (parts ≡ all_changes updates)
 
--- otherwise no more than in the updates after the oldest version, and parts of its state
-abbrev pub IsPartBound : ChainView → ℕ → Type 0
-IsPartBound chain parts = (updates : List (List Op)) × ResultFromOldest updates chain.kept
-    × (parts ≤ all_changes updates + size_of (oldest_state chain.kept))
+-- otherwise as many as operations other than `get` in the updates after the oldest version, and parts of its state
+abbrev pub IsPartCountFromOldest : ChainView → ℕ → Type 0
+IsPartCountFromOldest chain parts = (updates : List (List Op)) × ResultFromOldest updates chain.kept
+    × (parts ≡ all_changes updates + size_of (oldest_state chain.kept))

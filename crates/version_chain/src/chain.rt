@@ -5,10 +5,11 @@ ghost use Rattle.vector_stamp.specs.Order.{id_of, is_at_most};
 ghost use Rattle.vector_stamp.specs.Coherence.{AreCoherent};
 ghost use Rattle.vector_stamp.specs.Precedence.{GivenPair};
 ghost use Rattle.vector_stamp.specs.Settling.{pairs_of};
+ghost use Rattle.version_parts.specs.Counts.{size_of};
 ghost use Rattle.version_chain.specs.declared.version.Version.{Version};
 ghost use Rattle.version_chain.specs.Chains.{ChainView, no_updates, update_count, stamps_of_versions, newest_state, with_version, with_update, IsNextUpdate, KeepsOne};
 ghost use Rattle.version_chain.specs.Collection.{collected_chain};
-ghost use Rattle.version_chain.specs.Updates.{IsPartCount, IsPartBound};
+ghost use Rattle.version_chain.specs.Updates.{IsPartCount, IsPartCountFromOldest};
 ghost use Rattle.version_chain.specs.Views.{has_unordered, view_of, put_before, entries_for, ReachesBack};
 
 use crate::collection::older_versions;
@@ -77,10 +78,12 @@ impl Chain {
     }
 
     /// How many parts are kept: items of the vertex's presence, its properties, edges and tags.
-    /// If nothing was dropped, each operation other than `get` wrote one.
+    /// Each operation other than `get` wrote one. If versions were dropped, there are those of the operations after the
+    /// oldest version, and one for each part of its state. No state that is kept has more parts.
     pub fn parts(&self) -> u64
         ensures all { self.now.dropped ≡ 0 → IsPartCount self.now result }
-        ensures some { 1 ≤ self.now.dropped → IsPartBound self.now result }
+        ensures some { 1 ≤ self.now.dropped → IsPartCountFromOldest self.now result }
+        ensures least { All (λ version. size_of version.state ≤ result) self.now.kept }
     {
         items_are_placed();
         self.parts.count()

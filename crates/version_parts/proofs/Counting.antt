@@ -1,5 +1,6 @@
 -- How many items there are after an operation, and after a cut.
--- Used by `collect`, `count_edge`, `count_edge_pairs`, `count_of`, `count_pairs`, `cut`, `take_back` and Updating.
+-- Used by `collect`, `count_edge`, `count_edge_pairs`, `count_of`, `count_pairs`, `cut`, `take_back`, Sequences, Sizes
+-- and Updating.
 use Rattle.std.proofs.Common.{◌≡◌, ◌≤◌, ◌<◌, ◌+◌, ℕ, Bool, true, false, not, ◌&&◌, ◌||◌, cond, List, [], ◌∷◌, ◌++◌, filter, length, drop, get_or, drop-cons, add-one, Option, Some, None, is_some, IfSome, refl, sym, ap, ◌∙◌, subst, arith}
 use Rattle.std.specs.Prelude.{nat_le}
 use Rattle.std.specs.declared.cmp.Ordering.TheVariants.{Less, Equal, Greater}
@@ -46,7 +47,8 @@ module _ {A : Type 0} (f : A → ℕ) where
         | Greater ↦ λ greater. let rest = total_put key value es (sorted_tail name_cmp e.0 (keys_of es) rising) in omega (arith, rest)
       ] refl
 
-  with_total : (key : Name) (value : Option A) (es : List (Name × A)) → total f (with_value key value es) ≡ of_option f value + total f es
+  -- a value that is there adds its number to the total
+  pub with_total : (key : Name) (value : Option A) (es : List (Name × A)) → total f (with_value key value es) ≡ of_option f value + total f es
   with_total key None es = omega arith
   with_total key (Some value) es = refl
 
@@ -75,7 +77,8 @@ module _ {A B : Type 0} (f : B → ℕ) (h : A → Option B) where
       let here = less e.1 in
       omega (arith, rest, here, with_total f e.0 (h e.1) (kept_values h es), with_total g e.0 (v e.1) (kept_values v es))
 
-total_ones : {A : Type 0} (es : List (Name × A)) → total (λ (value : A). 1) es ≡ length es
+-- counting one for each value gives the number of values
+pub total_ones : {A : Type 0} (es : List (Name × A)) → total (λ (value : A). 1) es ≡ length es
 total_ones [] = refl
 total_ones (e ∷ es) = let rest = total_ones es in omega (arith, rest)
 
@@ -222,11 +225,13 @@ op_count test time op lists none rise =
 
 -- A cut
 
-left_count : (test : ℕ → Bool) (items : List (Item Name)) → of_option (count_items test) (cond (has_items items) (Some items) None) ≡ count_items test items
+-- an empty list that goes had no items
+pub left_count : (test : ℕ → Bool) (items : List (Item Name)) → of_option (count_items test) (cond (has_items items) (Some items) None) ≡ count_items test items
 left_count test [] = refl
 left_count test (item ∷ rest) = refl
 
-left_edge_count : (test : ℕ → Bool) (targets : List (Item Name)) (tags : Tracks) → of_option (count_edge test) (cond (has_items targets || has_items tags) (Some (record { targets = targets; tags = tags })) None) ≡ count_edge test (record { targets = targets; tags = tags })
+-- an edge that goes had no items
+pub left_edge_count : (test : ℕ → Bool) (targets : List (Item Name)) (tags : Tracks) → of_option (count_edge test) (cond (has_items targets || has_items tags) (Some (record { targets = targets; tags = tags })) None) ≡ count_edge test (record { targets = targets; tags = tags })
 left_edge_count test [] [] = refl
 left_edge_count test [] (tag ∷ tags) = refl
 left_edge_count test (item ∷ rest) tags = refl
@@ -268,7 +273,8 @@ edges_none : (update : ℕ) (edges : List (Name × EdgeItems)) → edges_at upda
 edges_none update [] = refl
 edges_none update (pair ∷ rest) = ap (λ (o : Option (Time × Name)). with_value pair.0 (option_map (live_edge update pair.1.tags) o) (edges_at update None rest)) (none_since update (last_at update pair.1.targets)) ∙ edges_none update rest
 
-one_value : (o : Option (Time × Name)) → of_option (λ (live : Time × Name). 1) o ≡ of_option (λ (value : Name). 1) (option_map (λ (live : Time × Name). live.1) o)
+-- a part that is there has one value
+pub one_value : (o : Option (Time × Name)) → of_option (λ (live : Time × Name). 1) o ≡ of_option (λ (value : Name). 1) (option_map (λ (live : Time × Name). live.1) o)
 one_value None = refl
 one_value (Some live) = refl
 

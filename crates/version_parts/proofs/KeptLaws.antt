@@ -1,6 +1,6 @@
 -- Maps under names of which each value is changed or goes: what a change at one key does to them.
 -- Used by `add_to`, `add_to_edge`, `cut_edge_pairs`, `cut_edges`, `cut_pairs`, `cut_tracks`, `edges_at`, `values_at`,
--- Counting, Cutting, OneMore and Placing.
+-- Counting, Cutting, OneMore, Placing and Sequences.
 use Rattle.std.proofs.Common.{◌≡◌, List, [], ◌∷◌, Bool, true, false, cond, Option, Some, None, refl, sym, ap, ◌∙◌, subst}
 use Rattle.std.specs.declared.cmp.Ordering.TheVariants.{Less, Equal, Greater}
 use Rattle.std.specs.Cmp.Lexicographic.{nat_list_cmp_total}

@@ -5,6 +5,8 @@ pub mod KeptLaws
 pub mod OneMore
 pub mod Placing
 pub mod Pushing
+pub mod Sequences
+pub mod Sizes
 pub mod Splitting
 pub mod Swapping
 pub mod Updating

@@ -1,5 +1,5 @@
 -- The central law: the state after one more operation. And the states before it, which stay.
--- Used by `items_make_states`, Counting, Cutting, Placing and Updating.
+-- Used by `items_make_states`, Counting, Cutting, Placing, Sequences and Updating.
 use Rattle.std.proofs.Common.{◌≡◌, ◌≤◌, ◌<◌, inl, ℕ, Bool, true, false, not, cond, List, [], ◌∷◌, ◌++◌, Option, Some, None, is_some, IfSome, IsTrue, Err, is_ok, refl, sym, ap, ◌∙◌, arith}
 use Rattle.std.specs.List.{AllByRecursion}
 use Rattle.std.specs.Option.{option_map, option_and_then}

@@ -1,5 +1,5 @@
 -- When the items were added: what operations and cuts keep, and what follows of states and counts.
--- Used by `add_op`, `add_update`, `collect`, `items_are_placed`, `take_back`, AddingUp and Updating.
+-- Used by `add_op`, `add_update`, `collect`, `items_are_placed`, `take_back`, AddingUp, Sequences and Updating.
 use Rattle.std.proofs.Common.{◌≡◌, ◌≤◌, ◌+◌, ℕ, Bool, true, false, not, ◌&&◌, cond, List, [], ◌∷◌, ◌++◌, filter, Option, Some, None, is_some, refl, sym, ap, ◌∙◌, subst, arith}
 use Rattle.std.specs.Prelude.{nat_le}
 use Rattle.std.specs.List.{AllByRecursion}
@@ -29,7 +29,8 @@ use Rattle.version_parts.proofs.Splitting.{in_time}
 -- One more operation
 
 module _ (P : Time → Type 0) where
-  items_of : (key : Name) (tracks : Tracks) → AllInTracks P tracks → AllTimes P (items_or_none (at_key key tracks))
+  -- what holds of all times of lists by name holds of those at a key
+  pub items_of : (key : Name) (tracks : Tracks) → AllInTracks P tracks → AllTimes P (items_or_none (at_key key tracks))
   items_of key tracks all =
       elim (at_key key tracks) as (λ (o : Option (List (Item Name))). at_key key tracks ≡ o → AllTimes P (items_or_none o)) [
         | None ↦ λ e. tt
@@ -108,7 +109,8 @@ inner_left : {X : Type 0} (cut : Cut) (items : List (Item X)) (time : Time) → 
 inner_left (Newer newest) items time left = left
 inner_left (Older oldest since) items time left = tt
 
-all_kept : {A B : Type 0} (h : A → Option B) (P : A → Type 0) (Q : B → Type 0) → ((value : A) (left : B) → P value → h value ≡ Some left → Q left) → (es : List (Name × A)) → AllByRecursion (λ (pair : Name × A). P pair.1) es → AllByRecursion (λ (pair : Name × B). Q pair.1) (kept_values h es)
+-- what holds of each value that is left of one of which another fact holds is true of all that are left
+pub all_kept : {A B : Type 0} (h : A → Option B) (P : A → Type 0) (Q : B → Type 0) → ((value : A) (left : B) → P value → h value ≡ Some left → Q left) → (es : List (Name × A)) → AllByRecursion (λ (pair : Name × A). P pair.1) es → AllByRecursion (λ (pair : Name × B). Q pair.1) (kept_values h es)
 all_kept h P Q step [] all = tt
 all_kept {A} {B} h P Q step (e ∷ es) all =
     let rest : AllByRecursion (λ (pair : Name × B). Q pair.1) (kept_values h es) = all_kept h P Q step es all.1 in
@@ -117,12 +119,14 @@ all_kept {A} {B} h P Q step (e ∷ es) all =
       | Some left ↦ λ is. (step e.1 left all.0 is, rest)
     ] refl
 
-left_is : {A : Type 0} (b : Bool) (value left : A) → cond b (Some value) None ≡ Some left → value ≡ left
+-- what is left of a value that stays is the value
+pub left_is : {A : Type 0} (b : Bool) (value left : A) → cond b (Some value) None ≡ Some left → value ≡ left
 left_is true value left is = cc
 left_is false value left is = absurd cc
 
 module _ (P Q : Time → Type 0) where
-  cut_all : {X : Type 0} (cut : Cut) → ((time : Time) → P time → IsLeftBy cut time → Q time) → (items : List (Item X)) → AllTimes P items → AllTimes Q (cut_items cut items)
+  -- what follows from a fact of all times of a list, and from what a cut says of those it leaves, is true of these
+  pub cut_all : {X : Type 0} (cut : Cut) → ((time : Time) → P time → IsLeftBy cut time → Q time) → (items : List (Item X)) → AllTimes P items → AllTimes Q (cut_items cut items)
   cut_all (Newer newest) keeps [] all = tt
   cut_all {X} (Newer newest) keeps (item ∷ rest) all =
       let more : AllTimes Q (filter (λ (x : Item X). nat_le x.time.update newest) rest) = cut_all (Newer newest) keeps rest all.1 in

@@ -14,6 +14,7 @@ use Rattle.version_parts.specs.declared.time.Time.{Time}
 use Rattle.version_parts.specs.declared.track.Item.{Item}
 use Rattle.version_parts.specs.Counts.{count_updates, count_in_lists, changes, changes_of}
 use Rattle.version_parts.specs.Cuts.{lists_until}
+use Rattle.version_parts.specs.InOrder.{ListsInOrder}
 use Rattle.version_parts.specs.Ordered.{IsEarlierTime, AreBefore, KeysRise}
 use Rattle.version_parts.specs.Placed.{AllInLists, AreUpTo}
 use Rattle.version_parts.specs.States.{state_at, with_op}
@@ -23,6 +24,7 @@ use Rattle.version_parts.proofs.Cutting.{until_stays}
 use Rattle.version_parts.proofs.OneMore.{earlier_stay, one_more}
 use Rattle.version_parts.proofs.Placing.{all_op, lists_weaker, state_past, counts_agree}
 use Rattle.version_parts.proofs.Pushing.{no_later_update}
+use Rattle.version_parts.proofs.Sequences.{op_push}
 
 zero : (b : Bool) → cond {A = ℕ} b 0 0 ≡ 0
 zero true = refl
@@ -32,10 +34,11 @@ cond_sum : (b : Bool) (x y : ℕ) → cond b (x + y) 0 ≡ cond b x 0 + cond b y
 cond_sum true x y = refl
 cond_sum false x y = omega arith
 
--- an update is under way with no items yet if all items are of earlier ones and its operations pass
-pub begun : (update : ℕ) (ops : List Op) (start : Lists) → AllInLists (λ time. time.update < update) start → IsTrue (none_refused ops (state_at update start)) → IsUnderWay update 0 ops start start
-begun update ops start before passes = record {
+-- an update is under way with no items yet if all items are of earlier ones, in order, and its operations pass
+pub begun : (update : ℕ) (ops : List Op) (start : Lists) → AllInLists (λ time. time.update < update) start → ListsInOrder start → IsTrue (none_refused ops (state_at update start)) → IsUnderWay update 0 ops start start
+begun update ops start before order passes = record {
   before = lists_weaker (λ time. time.update < update) (λ time. IsEarlierTime time (record { update = update; place = 0 })) (λ time below. inl below) start before;
+  order = order;
   earlier = λ other below. refl;
   passes = passes;
   state = refl;
@@ -71,6 +74,7 @@ module _ (update place : ℕ) (ops : List Op) (start now : Lists) (way : IsUnder
     next = record {
       before = all_op (λ earlier. IsEarlierTime earlier (record { update = update; place = place + 1 })) time op now
           (lists_weaker (λ earlier. IsEarlierTime earlier time) (λ earlier. IsEarlierTime earlier (record { update = update; place = place + 1 })) (next_before update place) now way.before) (inr (refl, omega arith));
+      order = op_push time op now (lists_weaker (λ earlier. IsEarlierTime earlier time) (λ earlier. earlier.update ≤ update) (λ earlier is. no_later_update earlier time is) now way.before) way.order;
       earlier = λ other below. earlier_stay other time now below op rise ∙ way.earlier other below;
       passes = subst (λ (s : State). IsTrue (none_refused rest s)) (sym after) both.1;
       state = ap (state_after_ops rest) after ∙ ap (λ (xs : List Op). state_after_ops xs state) (sym split) ∙ way.state;

@@ -1,5 +1,6 @@
 pub mod Counts
 pub mod Cuts
+pub mod InOrder
 pub mod KeptValues
 pub mod Ordered
 pub mod Placed

@@ -4,6 +4,7 @@ use Rattle.graph_ops.specs.declared.op.Op.{Op}
 use Rattle.graph_ops.specs.VertexOps.{state_after_ops, none_refused}
 use Rattle.version_parts.specs.declared.lists.Lists.{Lists}
 use Rattle.version_parts.specs.Counts.{count_updates, changes}
+use Rattle.version_parts.specs.InOrder.{ListsInOrder}
 use Rattle.version_parts.specs.Ordered.{AreBefore}
 use Rattle.version_parts.specs.States.{state_at}
 
@@ -11,6 +12,7 @@ use Rattle.version_parts.specs.States.{state_at}
 -- them
 pub record IsUnderWay (update place : ℕ) (ops : List Op) (start now : Lists) : Type 0 where
   pub before : AreBefore (record { update = update; place = place }) now
+  pub order : ListsInOrder now
   pub earlier : (other : ℕ) → other < update → state_at other now ≡ state_at other start
   pub passes : IsTrue (none_refused (drop place ops) (state_at update now))
   pub state : state_after_ops (drop place ops) (state_at update now) ≡ state_after_ops ops (state_at update start)

@@ -2,6 +2,7 @@
 ghost use Rattle.std.specs.Prelude.{◌≡◌, ◌≤◌, ◌<◌, ◌+◌, ℕ, Bool, cond, false, length, IsTrue, OnOk, OnErr};
 ghost use Rattle.graph_ops.specs.VertexOps.{state_after_ops, none_refused};
 ghost use Rattle.version_parts.specs.Counts.{count_updates, changes, changes_of};
+ghost use Rattle.version_parts.specs.InOrder.{ListsInOrder};
 ghost use Rattle.version_parts.specs.Ordered.{AreBefore, KeysRise};
 ghost use Rattle.version_parts.specs.Placed.{AllInLists, AreUpTo};
 ghost use Rattle.version_parts.specs.States.{state_at, with_op};
@@ -42,11 +43,13 @@ pub(crate) fn add_ops(
     ops: &[Op],
 ) -> Result<(), AllocError>
     requires before { AllInLists (λ time. time.update < update) lists.old }
+    requires order { ListsInOrder lists.old }
     requires numbered { 1 ≤ update }
     requires passes { IsTrue (none_refused ops.now (state_at update lists.old)) }
     ensures state { OnOk result (state_at update lists.new ≡ state_after_ops ops.now (state_at update lists.old)) }
     ensures earlier { (earlier : ℕ) → earlier < update → state_at earlier lists.new ≡ state_at earlier lists.old }
     ensures within { AreUpTo update lists.new }
+    ensures order { ListsInOrder lists.new }
     ensures counts { OnOk result ((test : ℕ → Bool) → count_updates test lists.new
         ≡ count_updates test lists.old + cond (test update) (changes ops.now) 0) }
     ensures others { (test : ℕ → Bool) → test update ≡ false

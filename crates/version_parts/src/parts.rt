@@ -1,8 +1,9 @@
 //! The parts of a vertex's versions.
-ghost use Rattle.std.specs.Prelude.{◌≡◌, ◌≤◌, ◌<◌, ◌+◌, ◌-◌, ◌^◌, ◌&&◌, ℕ, Bool, cond, nat_le, IsTrue, IfOk, OnOk, OnErr};
+ghost use Rattle.std.specs.Prelude.{◌≡◌, ◌≤◌, ◌<◌, ◌+◌, ◌-◌, ◌^◌, ◌&&◌, ◌==◌, ℕ, Bool, cond, nat_le, IsTrue, IfOk, OnOk, OnErr};
 ghost use Rattle.graph_ops.specs.VertexOps.{state_after_ops, none_refused};
 ghost use Rattle.version_parts.specs.Counts.{count_updates, count_in_lists, changes, size_of};
 ghost use Rattle.version_parts.specs.Cuts.{cut_lists, lists_until, collected_lists};
+ghost use Rattle.version_parts.specs.InOrder.{ListsInOrder};
 ghost use Rattle.version_parts.specs.Placed.{AreUpTo};
 ghost use Rattle.version_parts.specs.States.{no_items, state_at};
 
@@ -24,15 +25,14 @@ pub struct Parts {
 }
 
 impl Model for Parts {
-    ghost use Rattle.std.specs.Prelude.{◌≡◌};
-    ghost use Rattle.version_parts.specs.Counts.{count_in_lists};
+    ghost use Rattle.version_parts.specs.InOrder.{AreCountedInOrder};
     ghost use Rattle.version_parts.specs.declared.lists.Lists.{Lists};
 
     ghost Value = { Lists };
 
     ghost view = { λ parts. parts.lists };
 
-    ghost invariant = { λ parts. parts.count ≡ count_in_lists parts.lists };
+    ghost invariant = { λ parts. AreCountedInOrder parts.count parts.lists };
 }
 
 impl Parts {
@@ -108,6 +108,8 @@ impl Parts {
         ensures states { (update : ℕ) → oldest ≤ update → state_at update self.new ≡ state_at update self.old }
         ensures within { (newest : ℕ) → AreUpTo newest self.old → AreUpTo newest self.new }
         ensures counts { (test : ℕ → Bool) → count_updates test self.new ≤ count_updates test self.old }
+        ensures later { (update : ℕ) → oldest < update → count_updates (λ other. other == update) self.new
+            ≡ count_updates (λ other. other == update) self.old }
         ensures oldest { count_updates (λ update. nat_le update oldest) self.new ≤ size_of (state_at oldest self.old) }
     {
         self.cut(Cut::Older {
@@ -116,9 +118,10 @@ impl Parts {
         });
     }
 
-    // Drops items, and counts those that are left.
+    // Drops items, and counts those that are left. The items are in order.
     fn cut(&mut self, cut: Cut)
-        ensures { self.new ≡ cut_lists cut self.old }
+        ensures items { self.new ≡ cut_lists cut self.old }
+        ensures order { ListsInOrder self.old }
     {
         self.lists.cut(cut);
         self.count = count_of(&self.lists);

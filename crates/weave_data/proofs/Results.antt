@@ -1,5 +1,5 @@
 -- What follows from a clause on a result, for each way in which a call can end.
--- Used by 5 crates above.
+-- Used by 8 crates above.
 use Rattle.std.proofs.Common.{Result, Ok, Err, IsOk, OnOk, OnErr}
 
 -- what follows from what holds on success holds on success

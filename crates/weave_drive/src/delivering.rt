@@ -1,5 +1,5 @@
 //! Messages that were sent arrive.
-ghost use Rattle.std.specs.Prelude.{◌≡◌, ◌+◌, ◌<◌, ◌≤◌, IfOk, OnOk};
+ghost use Rattle.std.specs.Prelude.{◌≡◌, ◌+◌, ◌-◌, ◌<◌, ◌≤◌, ◌^◌, IfOk, OnErr, OnOk};
 ghost use Rattle.weave_drive.specs.Driving.{Drives};
 ghost use Rattle.weave_drive.specs.Progress.{DeliversMessage, DeliversAll, DeliversTo};
 
@@ -34,7 +34,8 @@ fn deliver(
 
 // The number after it. The one error is out of memory: a channel with more messages than numbers can't be kept.
 fn number_after(number: u64) -> Result<u64, AllocError>
-    ensures { IfOk result (λ next. next ≡ number + 1) }
+    ensures next { IfOk result (λ next. next ≡ number + 1) }
+    ensures memory { OnErr result (number ≡ 2 ^ 64 - 1) }
 {
     if number == u64::MAX {
         return Err(AllocError);

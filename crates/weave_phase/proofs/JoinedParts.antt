@@ -1,6 +1,6 @@
 -- What came out of the locks after a phase can be joined to a core again.
 -- Used by `run_parts`.
-use Rattle.std.proofs.Common.{◌≡◌, ℕ, ◌<◌, List, length, map, All, Contains, refl, sym, ap, subst, ◌∙◌}
+use Rattle.std.proofs.Common.{◌≡◌, ℕ, ◌<◌, List, length, map, All, Contains, inl, inr, refl, sym, ap, subst, ◌∙◌}
 use Rattle.std.specs.List.{range_with_len}
 use Rattle.std.proofs.lemmas.List.{length-map}
 use Rattle.std.proofs.lemmas.List.Elements.{All-contains}
@@ -22,14 +22,17 @@ use Rattle.weaver_locks.specs.declared.shared.Shared.{Shared}
 use Rattle.weaver_locks.specs.Closing.{entries_by, logs_of, seen_by_number, AreInOrder}
 use Rattle.weaver_locks.specs.Hands.{hand_number, made_by, seen_by}
 use Rattle.weaver_locks.specs.Locks.{gate_count, hands_of, shard_count, start_of}
-use Rattle.weaver_workers.specs.Phases.{phase_end}
+use Rattle.weaver_workers.specs.Phases.{phase_end, phase_start}
 use Rattle.workers_account.specs.Phase.{IsClosedBy, IsPhaseEnd, IsPhaseRun}
+use Rattle.workers_account.specs.SessionRuns.{WasRunForSession}
 use Rattle.weave_phase.specs.Parts.{AreReadyParts, PartsGoOn}
+use Rattle.weave_phase.specs.Ran.{WorkersHaveEnded}
 use Rattle.weave_phase.specs.StartLaws.{StartLaws}
 
 module _ (laws : StartLaws) (phase : ℕ) (split : Split) (parts : AreReadyParts phase split) (shared : Shared) (hands : List Hand) (new : Split)
     (script_is : new.script ≡ split.script) (notices_are : new.notices.items ≡ split.notices.items)
     (run : IsPhaseRun shared split.script (phase_end split.script phase) (account_of split) split.clients.items new.clients.items hands)
+    (ended : WorkersHaveEnded shared split.script phase new.clients.items hands)
     (gates : length new.gates.items ≡ gate_count shared) (shards : length new.shards.items ≡ shard_count shared)
     (order : AreInOrder new.gates.items new.shards.items)
     (legal : AreLegal (gate_count shared) (shard_count shared) (logs_of new.gates.items new.store new.oracle new.shards.items))
@@ -92,6 +95,13 @@ module _ (laws : StartLaws) (phase : ℕ) (split : Split) (parts : AreReadyParts
   ends : IsPhaseEnd script (phase_end script phase) start new.clients.items closed
   ends = laws.ends shared script (phase_end script phase) start split.clients.items new.clients.items hands closed run closed-by
 
+  ran : (session : ℕ) → WasRunForSession script (phase_end script phase) session start closed
+  ran session =
+      elim (ended session) [
+        | inl one ↦ laws.ran_as shared script (phase_end script phase) start split.clients.items new.clients.items hands closed run closed-by session one
+        | inr none ↦ laws.ran_idle script (phase_start script phase) (phase_end script phase) session start closed none parts.answered ends.goes_on
+      ]
+
   can-join : CanBeJoined new
   can-join =
       let for = laws.parts new.script new.gates.items new.shards.items
@@ -115,7 +125,8 @@ module _ (laws : StartLaws) (phase : ℕ) (split : Split) (parts : AreReadyParts
         landed = ends.landed;
       }
 
-  -- what came out of the locks can be joined; its logs went on, and no request of a later phase was begun
+  -- what came out of the locks can be joined; its logs went on, no request of a later phase was begun, and the phase was
+  -- run for each session
   pub parts-go-on : PartsGoOn phase split new
   parts-go-on = record {
     joined = can-join;
@@ -123,4 +134,5 @@ module _ (laws : StartLaws) (phase : ℕ) (split : Split) (parts : AreReadyParts
     goes_on = ends.goes_on;
     begins = ends.begins;
     pairs = ends.pairs;
+    sessions = ran;
   }

@@ -24,16 +24,17 @@ use Rattle.weaver_workers.specs.declared.ended.Ended.{Ended}
 use Rattle.weaver_workers.specs.declared.worker.Worker.{Worker}
 use Rattle.weaver_workers.specs.declared.worker.Worker.TheVariants.{ClientWork, GateWork, ShardWork}
 use Rattle.weaver_workers.specs.Keeping.{AreLocksOf}
-use Rattle.weaver_workers.specs.Phases.{phase_end}
+use Rattle.weaver_workers.specs.Phases.{phase_end, phase_start}
 use Rattle.weaver_workers.specs.Workers.{Works}
 use Rattle.workers_account.specs.Phase.{HasDone, IsPhaseRun, IsPhaseStart}
+use Rattle.workers_account.specs.SessionRuns.{HasNoRequest}
 use Rattle.workers_account.proofs.GoneOn.{keeps-at-end}
 use Rattle.weave_phase.specs.declared.seats.Seat.{Seat}
 use Rattle.weave_phase.specs.Parts.{AreReadyParts}
-use Rattle.weave_phase.specs.Ran.{PartsAreOpened, AreSeated, HaveRunPhase, IsHandAtStart}
+use Rattle.weave_phase.specs.Ran.{PartsAreOpened, AreSeated, HaveRunPhase, IsHandAtStart, WorkersHaveEnded}
 use Rattle.weave_phase.specs.Seats.{client_in, hand_in, SeatsAreDealt, ArePutBack, AreTaken, HaveRun}
 use Rattle.weave_phase.specs.StartLaws.{StartLaws}
-use Rattle.weave_phase.proofs.RanSeats.{hands-after, in-or-not, phase-run}
+use Rattle.weave_phase.proofs.RanSeats.{hands-after, in-or-not, phase-run, workers-ended}
 use Rattle.weave_phase.proofs.ReadySeats.{something-at}
 
 -- Kinds of workers
@@ -203,6 +204,11 @@ module _ (laws : StartLaws) (phase : ℕ) (split : Split) (parts : AreReadyParts
             -- the phase was run by these hands, and each session was left as it was or followed by one of them
             pub whole-run : IsPhaseRun shared script (phase_end script phase) start split.clients.items left (hands-after laws shared script phase start split.clients.items sessions hands seats seated left after many-left run-is)
             whole-run = phase-run laws shared script phase start split.clients.items sessions hands seats seated left after many-left run-is
+
+            -- each session's worker has ended, unless the session has no request in the phase
+            pub all-ended : ((session : ℕ) → ¬ Contains sessions session → HasNoRequest script (phase_start script phase) (phase_end script phase) session)
+                → WorkersHaveEnded shared script phase left (hands-after laws shared script phase start split.clients.items sessions hands seats seated left after many-left run-is)
+            all-ended others = workers-ended laws shared script phase start split.clients.items sessions hands seats seated left after many-left run-is others
 
             -- each hand is one of the locks'
             pub hands-are : All (IsHand shared) (hands-after laws shared script phase start split.clients.items sessions hands seats seated left after many-left run-is)

@@ -1,6 +1,6 @@
 -- What a phase leaves of a core, by what it leaves of its parts.
 -- Used by `run_phase`.
-use Rattle.std.proofs.Common.{◌≡◌, ℕ, [], inl, refl, sym, ap, subst, ◌∙◌}
+use Rattle.std.proofs.Common.{◌≡◌, ℕ, ◌≤◌, [], inl, refl, sym, ap, subst, ◌∙◌, arith}
 use Rattle.std.proofs.lemmas.List.{append-nil}
 use Rattle.weave_data.proofs.Members.{has_none}
 use Rattle.program_defs.specs.declared.script.Script.{Script}
@@ -14,12 +14,15 @@ use Rattle.weaver_core.specs.Cores.{CoreView}
 use Rattle.weaver_core.specs.Splitting.{account_of, state_of}
 use Rattle.weaver_workers.specs.Phases.{phase_end}
 use Rattle.workers_account.specs.Pairs.{AddsOpenPairs, GainBelow}
+use Rattle.workers_account.specs.Ready.{IsAnsweredUpTo}
+use Rattle.workers_account.specs.SessionRuns.{WasRunForSession}
 use Rattle.weave_phase.specs.Parts.{PartsGoOn}
 use Rattle.weave_phase.specs.RunsPhase.{RunsPhase}
 
--- if nothing is in flight in a core, doing nothing runs a phase of it
-pub runs-none : (upto : ℕ) (core : CoreView) → NoneInFlight core.state.account → RunsPhase upto core core
-runs-none upto core landed =
+-- if nothing is in flight in a core, and each earlier request has its reply, doing nothing runs a phase without requests
+pub runs-none : (from upto : ℕ) (core : CoreView) → upto ≤ from → NoneInFlight core.state.account
+    → IsAnsweredUpTo core.script from core.state.account → RunsPhase upto core core
+runs-none from upto core no-later landed answered =
     let account = core.state.account in
     record {
       script = refl;
@@ -38,6 +41,7 @@ runs-none upto core landed =
         epochs = λ entry h epoch. absurd (has_none entry h);
       };
       pairs = λ earlier later h. inl h;
+      sessions = λ session. inl (λ r asked at of low. answered.replied r asked (omega (arith, low, no-later)) at);
     }
 
 -- if the parts of a core went on as a phase does, the core ran the phase
@@ -56,4 +60,7 @@ runs-parts phase core next split left script_is state_is parts next_script next_
       pairs = subst (λ (s : Script). AddsOpenPairs s core.state.account next.state.account) script_is
           (subst (λ (a : Account). AddsOpenPairs split.script a next.state.account) old
           (subst (λ (b : Account). AddsOpenPairs split.script (account_of split) b) new parts.pairs));
+      sessions = λ session. subst (λ (s : Script). WasRunForSession s (phase_end s phase) session core.state.account next.state.account) script_is
+          (subst (λ (a : Account). WasRunForSession split.script (phase_end split.script phase) session a next.state.account) old
+          (subst (λ (b : Account). WasRunForSession split.script (phase_end split.script phase) session (account_of split) b) new (parts.sessions session)));
     }

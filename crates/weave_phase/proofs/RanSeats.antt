@@ -1,5 +1,5 @@
--- When the workers of a phase have run, each hand has carried or followed a session, and each session was left or
--- followed.
+-- When the workers of a phase have run, each hand has carried or followed a session, each session was left or followed,
+-- and the worker of each session with requests in the phase has ended.
 -- Used by `run_parts` and PhaseParts.
 use Rattle.std.proofs.Common.{◌≡◌, ℕ, zero, suc, ◌+◌, ◌-◌, ◌<◌, ◌≤◌, Bool, List, [], ◌∷◌, length, map, AllPairs, Contains, Option, None, Some, ◌⊎◌, inl, inr, refl, sym, ap, subst, ◌∙◌, cond, eqb, eq-eqb, arith}
 use Rattle.std.specs.Prelude.{slice_get}
@@ -20,14 +20,15 @@ use Rattle.weaver_locks.specs.Locks.{hands_of}
 use Rattle.weaver_workers.specs.declared.ended.Ended.{Ended}
 use Rattle.weaver_workers.specs.declared.worker.Worker.{Worker}
 use Rattle.weaver_workers.specs.declared.worker.Worker.TheVariants.{ClientWork, GateWork, ShardWork}
-use Rattle.weaver_workers.specs.ClientWork.{Goes, Stand}
+use Rattle.weaver_workers.specs.ClientWork.{Goes, Stand, WorkerEndsAs}
 use Rattle.weaver_workers.specs.Keeping.{KeepsClient}
-use Rattle.weaver_workers.specs.Phases.{phase_end}
+use Rattle.weaver_workers.specs.Phases.{phase_end, phase_start}
 use Rattle.weaver_workers.specs.Workers.{Works}
-use Rattle.workers_account.specs.Phase.{CarriedOn, FollowedOn, HasDone, IsOfSession, IsPartBy, IsPhaseRun}
+use Rattle.workers_account.specs.Phase.{CarriedOn, FollowedOn, HasDone, IsOfSession, IsPartBy, IsPhaseRun, WorkerHasEnded}
+use Rattle.workers_account.specs.SessionRuns.{HasNoRequest}
 use Rattle.workers_account.proofs.GoneOn.{number-and-more}
 use Rattle.weave_phase.specs.declared.seats.Seat.{Seat}
-use Rattle.weave_phase.specs.Ran.{AreSeated, HaveRunPhase, IsHandAtStart}
+use Rattle.weave_phase.specs.Ran.{AreSeated, HaveRunPhase, IsHandAtStart, WorkersHaveEnded}
 use Rattle.weave_phase.specs.Seats.{client_in, hand_in, IsDealt}
 use Rattle.weave_phase.specs.StartLaws.{StartLaws}
 use Rattle.weave_phase.proofs.ReadySeats.{client-keeps, something-at}
@@ -77,12 +78,16 @@ record ClientRan (shared : Shared) (script : Script) (phase session : ℕ) (hand
   left_is : client_in worker ≡ Some left
   path : List Stand
   went : Goes shared script session (phase_end script phase) (record { hand = hand; client = client }) path (record { hand = hand_in worker; client = left })
+  keeps : KeepsClient shared script session (hand_in worker) left
+  ended : Ended
+  ends : WorkerEndsAs shared script (phase_end script phase) (record { hand = hand_in worker; client = left }) ended
 
 client-ran : (shared : Shared) (script : Script) (phase session : ℕ) (hand : Hand) (client : Client) (worker : Worker) (ended : Ended)
     → KeepsClient shared script session hand client → Works shared script phase (ClientWork hand client) worker ended → ClientRan shared script phase session hand client worker
 client-ran shared script phase session hand client (ClientWork after left) ended keeps works =
-    let goes = (works session keeps).goes in
-    record { left = left; left_is = refl; path = goes.path; went = goes.went }
+    let did = works session keeps in
+    let goes = did.goes in
+    record { left = left; left_is = refl; path = goes.path; went = goes.went; keeps = goes.keeps; ended = ended; ends = did.ends }
 client-ran shared script phase session hand client (GateWork after gate) ended keeps works = absurd works
 client-ran shared script phase session hand client (ShardWork after shard) ended keeps works = absurd works
 
@@ -155,19 +160,32 @@ module _ (laws : StartLaws) (shared : Shared) (script : Script) (phase : ℕ) (s
     works : (ended : Ended) × Works shared script phase (was.0).worker seat.worker ended
     works = ran.ran.each k was.0 seat was.1 at (ran.done k seat at)
 
+    -- its worker ran, if it is a session's
+    ran-for : (low : k < length sessions) → ClientRan shared script phase (of.session low).session hand-was.0 (of.session low).client seat.worker
+    ran-for low =
+        let dealt = of.session low in
+        client-ran shared script phase dealt.session hand-was.0 dealt.client seat.worker works.0
+        (client-keeps laws shared script phase start clients sessions hands seats seated k hand-was.0 new dealt.session dealt.client dealt.client_is)
+        (subst (λ (w : Worker). Works shared script phase w seat.worker works.0) dealt.worker_is works.1)
+
+    -- its client is back in the session's place
+    left-there : (low : k < length sessions) → slice_get left (of.session low).session ≡ Some (ran-for low).left
+    left-there low =
+        let dealt = of.session low in
+        let one = ran-for low in
+        some-inside (slice_get left dealt.session) one.left
+        (sym (slice_get-map Some left dealt.session) ∙ ran.back.back k dealt.session seat dealt.session_is at ∙ ap Some one.left_is)
+
     followed : (low : k < length sessions) → (hand : Hand) → hand_in seat.worker ≡ hand → FollowedOn shared script upto clients left (of.session low).session hand-was.0 hand
     followed low hand same =
         let dealt = of.session low in
-        let one = client-ran shared script phase dealt.session hand-was.0 dealt.client seat.worker works.0
-        (client-keeps laws shared script phase start clients sessions hands seats seated k hand-was.0 new dealt.session dealt.client dealt.client_is)
-        (subst (λ (w : Worker). Works shared script phase w seat.worker works.0) dealt.worker_is works.1) in
+        let one = ran-for low in
         record {
           within = seated.few dealt.session (k, slice_get_within sessions k dealt.session dealt.session_is, get_or_from_slice_get sessions k dealt.session dealt.session dealt.session_is);
           client = dealt.client;
           client_is = dealt.client_is;
           left = one.left;
-          left_is = some-inside (slice_get left dealt.session) one.left
-              (sym (slice_get-map Some left dealt.session) ∙ ran.back.back k dealt.session seat dealt.session_is at ∙ ap Some one.left_is);
+          left_is = left-there low;
           keeps = client-keeps laws shared script phase start clients sessions hands seats seated k hand-was.0 new dealt.session dealt.client dealt.client_is;
           path = one.path;
           went = subst (λ (h : Hand). Goes shared script dealt.session upto (record { hand = hand-was.0; client = dealt.client }) one.path (record { hand = h; client = one.left })) same one.went;
@@ -270,6 +288,33 @@ module _ (laws : StartLaws) (shared : Shared) (script : Script) (phase : ℕ) (s
       (has_map hand_number hands-after one.0 (number, slice_get_within hands-after number one.0 one.1, get_or_from_slice_get hands-after number one.0 one.0 one.1))
 
   -- Sessions
+
+  -- the worker of a session has ended
+  session-ended : (session k : ℕ) → slice_get sessions k ≡ Some session → WorkerHasEnded shared script upto left hands-after session
+  session-ended session k at =
+      let low = slice_get_within sessions k session at in
+      let seat = something-at after k (let many = ran.ran.many in let dealt = seated.dealt.many in let all = seated.many in omega (arith, low, many, dealt, all)) in
+      let dealt = (of k seat.0 seat.1).session low in
+      let one = ran-for k seat.0 seat.1 low in
+      subst (WorkerHasEnded shared script upto left hands-after) (same_Some dealt.session session (sym dealt.session_is ∙ at))
+      (record {
+        hand = hand_in (seat.0).worker;
+        there = has_map (λ (s : Seat). hand_in s.worker) after seat.0 (k, slice_get_within after k seat.0 seat.1, get_or_from_slice_get after k seat.0 seat.0 seat.1);
+        client = one.left;
+        client_is = left-there k seat.0 seat.1 low;
+        keeps = one.keeps;
+        ended = one.ended;
+        ends = one.ends;
+      })
+
+  -- each session's worker has ended, unless the session has no request in the phase
+  pub workers-ended : ((session : ℕ) → ¬ Contains sessions session → HasNoRequest script (phase_start script phase) upto session)
+      → WorkersHaveEnded shared script phase left hands-after
+  workers-ended others session =
+      elim (in-or-not sessions session) [
+        | inl there ↦ inl (session-ended session there.0 there.1)
+        | inr none ↦ inr (others session none)
+      ]
 
   session-there : (session k : ℕ) → slice_get sessions k ≡ Some session → (hand : Hand) × (h : Contains hands-after hand)
       × IsOfSession shared script upto clients left (place_in sessions) (part-at hand (hand-at hand h)).from hand session (part-at hand (hand-at hand h)).did

@@ -1,5 +1,6 @@
 pub use Rattle.workers_account.specs.Pairs
 pub use Rattle.workers_account.specs.Ready
+pub use Rattle.workers_account.specs.SessionRuns
 pub mod Sessions
 pub mod Seats
 pub mod StartLaws

@@ -1,5 +1,5 @@
 -- What is known when the workers of a phase have run. No public contract cites this.
-use Rattle.std.specs.Prelude.{◌≡◌, ℕ, ◌+◌, ◌<◌, true, List, length, map, slice_get, slice_index_or, AllPairs, Contains, Option, Some}
+use Rattle.std.specs.Prelude.{◌≡◌, ◌⊎◌, ℕ, ◌+◌, ◌<◌, true, List, length, map, slice_get, slice_index_or, AllPairs, Contains, Option, Some}
 use Rattle.weave_data.specs.Limits.{most_sessions}
 use Rattle.program_defs.specs.declared.script.Script.{Script}
 use Rattle.weave_account.specs.declared.account.Account.{Account}
@@ -10,9 +10,10 @@ use Rattle.weaver_locks.specs.Hands.{hand_number, seen_by, IsHand}
 use Rattle.weaver_core.specs.declared.split.Split.{Split}
 use Rattle.weaver_locks.specs.Closing.{logs_of}
 use Rattle.weaver_locks.specs.Locks.{gate_count, hands_of, shard_count, start_of}
-use Rattle.workers_account.specs.Phase.{IsPhaseStart}
+use Rattle.weaver_workers.specs.Phases.{phase_end, phase_start}
+use Rattle.workers_account.specs.Phase.{IsPhaseStart, WorkerHasEnded}
 use Rattle.workers_account.specs.Ready.{IsAnsweredUpTo}
-use Rattle.weaver_workers.specs.Phases.{phase_start}
+use Rattle.workers_account.specs.SessionRuns.{HasNoRequest}
 use Rattle.weave_phase.specs.declared.seats.Seat.{Seat}
 use Rattle.weave_phase.specs.Seats.{SeatsAreDealt, AreTaken, ArePutBack, HaveRun}
 
@@ -43,6 +44,12 @@ pub record HaveRunPhase (shared : Shared) (script : Script) (phase : ℕ) (sessi
   pub between : List (Option Client)
   pub taken : AreTaken sessions (map Some clients) between
   pub back : ArePutBack sessions after between (map Some left)
+
+-- each session's worker has ended, unless the session has no request in the phase
+abbrev pub WorkersHaveEnded : Shared → Script → ℕ → List Client → List Hand → Type 0
+WorkersHaveEnded shared script phase left hands = (session : ℕ)
+    → WorkerHasEnded shared script (phase_end script phase) left hands session
+    ⊎ HasNoRequest script (phase_start script phase) (phase_end script phase) session
 
 -- The machines of these parts are behind locks, with a new hand for each of these sessions, which rise, each gatekeeper
 -- and each shard.

@@ -12,7 +12,9 @@ use Rattle.weaver_locks.specs.declared.shared.Shared.{Shared}
 use Rattle.weaver_locks.specs.Hands.{seen_by, IsHand}
 use Rattle.weaver_locks.specs.Locks.{hands_of, start_of}
 use Rattle.weaver_workers.specs.Keeping.{HasLanded, KeepsClient}
-use Rattle.workers_account.specs.Phase.{IsClosedBy, IsPhaseEnd, IsPhaseRun, IsPhaseStart}
+use Rattle.workers_account.specs.Phase.{IsClosedBy, IsPhaseEnd, IsPhaseRun, IsPhaseStart, WorkerHasEnded}
+use Rattle.workers_account.specs.Ready.{IsAnsweredUpTo}
+use Rattle.workers_account.specs.SessionRuns.{HasNoRequest, WasRunForSession}
 use Rattle.gatekeeper.specs.Gates.{GateView}
 use Rattle.program_defs.specs.Limits.{IsWithinLimits}
 use Rattle.seen_logs.specs.Seen.{VisitsOwnPrograms, without_sessions}
@@ -66,6 +68,14 @@ pub record StartLaws : Type 0 where
   pub ends : (shared : Shared) (script : Script) (upto : ℕ) (start : Account) (was is : List Client)
       (hands : List Hand) (closed : Account) → IsPhaseRun shared script upto start was is hands
       → IsClosedBy shared script start is hands closed → IsPhaseEnd script upto start is closed
+  -- sessions_run_as_their_workers_end
+  pub ran_as : (shared : Shared) (script : Script) (upto : ℕ) (start : Account) (was is : List Client)
+      (hands : List Hand) (closed : Account) → IsPhaseRun shared script upto start was is hands
+      → IsClosedBy shared script start is hands closed → (session : ℕ)
+      → WorkerHasEnded shared script upto is hands session → WasRunForSession script upto session start closed
+  pub ran_idle : (script : Script) (from upto session : ℕ) (start closed : Account)
+      → HasNoRequest script from upto session → IsAnsweredUpTo script from start → GoesOn start closed
+      → WasRunForSession script upto session start closed
   -- hands_of_a_phase_visit_their_own
   pub own_visits : (shared : Shared) (script : Script) (upto : ℕ) (start : Account) (was is : List Client)
       (hands : List Hand) → IsPhaseRun shared script upto start was is hands → (number : ℕ) → number < hands_of shared

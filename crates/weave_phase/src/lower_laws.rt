@@ -7,8 +7,8 @@ use crate::order::{
 use weave_account::laws::facts_stay_true;
 use weave_entries::laws::sessions_go_in_turn;
 use workers_account::laws::{
-    closed_parts_can_be_joined, hands_of_a_phase_visit_their_own, split_clients_are_ready,
-    split_machines_may_start,
+    closed_parts_can_be_joined, hands_of_a_phase_visit_their_own,
+    sessions_run_as_their_workers_end, split_clients_are_ready, split_machines_may_start,
 };
 
 /// The laws that a phase relies on.
@@ -20,6 +20,7 @@ pub(crate) fn phases_keep_their_laws()
     facts_stay_true();
     hands_of_a_phase_visit_their_own();
     sessions_go_in_turn();
+    sessions_run_as_their_workers_end();
     split_clients_are_ready();
     split_machines_are_in_order();
     split_machines_may_start();

@@ -5,6 +5,7 @@ ghost use Rattle.weave_account.specs.Account.{NoneInFlight};
 ghost use Rattle.weaver_workers.specs.Phases.{phase_end, phase_start};
 ghost use Rattle.weaver_workers.specs.Workers.{HasPhase};
 ghost use Rattle.workers_account.specs.Ready.{IsAnsweredUpTo};
+ghost use Rattle.workers_account.specs.SessionRuns.{HasNoRequest};
 ghost use Rattle.weave_phase.specs.Parts.{AreReadyParts, PartsGoOn};
 ghost use Rattle.weave_phase.specs.RunsPhase.{RunsPhase};
 
@@ -22,9 +23,13 @@ use weaver_locks::{Closed, Shared};
 use weaver_workers::{Pace, end_of_phase, start_of_phase};
 
 /// Runs a phase, numbered from 0, on as many threads as it has workers: one for each session with requests in it, each
-/// gatekeeper and each shard. A phase without requests has none. It may wait. How far the workers came, no clause says:
-/// a client stops if its gatekeeper was busy 16 times one after another, or if a shard was not ready after a nudge, and
-/// what is left is for whoever drives the core afterwards.
+/// gatekeeper and each shard. A phase without requests has none. It may wait.
+///
+/// Each session then has the replies to all its requests before the end of the phase, or its client stopped for one of
+/// two reasons. Its next request is a transaction, and at some time in the phase another one was in flight at its
+/// gatekeeper. Or its program was begun in the phase and has no reply, and at some time in the phase the shard of the
+/// vertex that it visits next was not ready for it. How often the client tried again before it stopped, no clause says.
+/// What is left is for whoever drives the core afterwards.
 ///
 /// The one error is out of memory, and then the core is gone.
 pub fn run_phase<R: Threads + Wait + Sync, P: Pace>(
@@ -52,7 +57,7 @@ pub fn run_phase<R: Threads + Wait + Sync, P: Pace>(
     Ok(Core::join(left))
 }
 
-// Runs a phase on the parts of a core, with workers for these sessions.
+// Runs a phase on the parts of a core, with workers for these sessions. All others have no request in the phase.
 fn run_parts<R: Threads + Wait + Sync, P: Pace>(
     rt: &R,
     alloc: Global,
@@ -65,6 +70,8 @@ fn run_parts<R: Threads + Wait + Sync, P: Pace>(
     requires rising { AllPairs (λ (a b : ℕ). a < b) sessions.now }
     requires few { (session : ℕ) → Contains sessions.now session → session < most_sessions }
     requires count { length sessions.now ≤ most_sessions }
+    requires all { (session : ℕ) → ¬ Contains sessions.now session
+        → HasNoRequest split.script (phase_start split.script phase) (phase_end split.script phase) session }
     ensures { IfOk result (PartsGoOn phase split) }
 {
     phases_keep_their_laws();

@@ -1,12 +1,12 @@
 -- Steps of loops that read words one after another.
 -- Used by `counted_stamp`.
 use Rattle.std.proofs.Common.{◌≡◌, ℕ, suc, ◌+◌, ◌<◌, List, ◌∷◌, length, map, drop, get_or, Bor, sym, ap, ◌∙◌, add-one}
-use Rattle.std.specs.Prelude.{Ok, Err}
+use Rattle.std.specs.Prelude.{Result, Ok, Err}
 use Rattle.std.proofs.Math.Seq.{drop-cons}
 use Rattle.std.proofs.lemmas.List.{drop-map}
 use Rattle.weave_report.specs.declared.fault.LineFault.{LineFault}
 use Rattle.weave_report.specs.declared.fault.LineFault.TheVariants.{Refused, Memory}
-use Rattle.weave_report.specs.ReadAnswers.{Gives, Changes}
+use Rattle.weave_report.specs.ReadAnswers.{Gives, GivesExactly, Changes}
 use Rattle.weave_data.specs.Steps.{◌>>=◌}
 use Rattle.weave_report.specs.ReadingFields.{ReadResult}
 
@@ -32,3 +32,9 @@ module _ {A B : Type 0} where
   pub changing_fails : (fault : LineFault) (new : A) (one : ReadResult A) (next : A → ReadResult B) (whole : ReadResult B) → (one >>= next) ≡ whole → Changes {A = A} (Err fault) new one → Gives {A = B} (Err fault) whole
   changing_fails (Refused why) new one next whole all h = sym all ∙ ap (λ one. one >>= next) h
   changing_fails Memory new one next whole all h = tt
+
+-- what a function that takes no memory answers, one that takes some may answer
+pub exactly_gives : {A : Type 0} (result : Result A LineFault) (read : ReadResult A) → GivesExactly result read → Gives result read
+exactly_gives (Ok value) read h = h
+exactly_gives (Err (Refused why)) read h = h
+exactly_gives (Err Memory) read h = absurd h

@@ -1,4 +1,4 @@
--- What a reader of reports answers. No public contract cites the first three.
+-- What a reader of reports answers. No public contract cites the first five.
 use Rattle.std.specs.Prelude.{◌≡◌, ℕ, Result, Ok, Err, ⊤}
 use Rattle.weave_report.specs.declared.fault.LineFault.{LineFault}
 use Rattle.weave_report.specs.declared.fault.LineFault.TheVariants as line
@@ -24,6 +24,18 @@ abbrev pub GivesAt : {A : Type 0} → ℕ → Result A ReportFault → Result A 
 GivesAt number (Ok value) read = read ≡ Ok value
 GivesAt number (Err (Refused line cause)) read = (line ≡ number) × (read ≡ Err cause)
 GivesAt number (Err Memory) read = ⊤
+
+-- a function that takes no memory answers exactly what reading a line or a part of it gives
+abbrev pub GivesExactly : {A : Type 0} → Result A LineFault → Result A ReportCause → Type 0
+GivesExactly (Ok value) read = read ≡ Ok value
+GivesExactly (Err (line.Refused cause)) read = read ≡ Err cause
+GivesExactly (Err line.Memory) read = ⊥
+
+-- a function that takes no memory answers exactly what reading the end of a text gives
+abbrev pub AnswersExactly : Result Report ReportFault → Result Report (ℕ × ReportCause) → Type 0
+AnswersExactly (Ok report) read = read ≡ Ok report
+AnswersExactly (Err (Refused line cause)) read = read ≡ Err (line, cause)
+AnswersExactly (Err Memory) read = ⊥
 
 -- the reader answers what reading the text gives, unless memory runs out
 abbrev pub Answers : Result Report ReportFault → Result Report (ℕ × ReportCause) → Type 0

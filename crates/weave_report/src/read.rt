@@ -3,7 +3,7 @@ ghost use Rattle.std.specs.Prelude.{◌≡◌, ◌≤◌, ◌<◌, ◌+◌, ◌^
 ghost use Rattle.program_defs.specs.declared.script.Script.{Script};
 ghost use Rattle.report_rules.specs.declared.report.Report.{Report};
 ghost use Rattle.weave_report.specs.FirstRefusal.{IsFirstRefusal};
-ghost use Rattle.weave_report.specs.ReadAnswers.{Answers, GivesAt, IfLineRefused, IfRefusedAs, IsReadAs};
+ghost use Rattle.weave_report.specs.ReadAnswers.{Answers, AnswersExactly, GivesAt, IfLineRefused, IfRefusedAs, IsReadAs};
 ghost use Rattle.weave_report.specs.Reading.{after_report_line, after_lines, report_in, report_start, whole_report};
 ghost use Rattle.report_rules.specs.ReportOf.{IsReportOf};
 ghost use Rattle.weave_report.specs.ReportText.{report_text};
@@ -136,7 +136,7 @@ fn start(alloc: Global) -> Reading
 }
 
 fn whole_report(number: u32, reading: Reading) -> Result<Report, ReportFault>
-    ensures { Answers result (whole_report number reading.place reading.report) }
+    ensures { AnswersExactly result (whole_report number reading.place reading.report) }
 {
     match reading.place {
         Place::Ended => Ok(reading.report),

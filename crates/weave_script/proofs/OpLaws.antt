@@ -5,7 +5,6 @@ use Rattle.std.specs.Prelude.{codes}
 use Rattle.std.specs.List.{AllByRecursion, list_all}
 use Rattle.std.proofs.lemmas.Bool.{cond-true}
 use Rattle.weave_data.specs.Names.{is_name}
-use Rattle.weave_data.specs.declared.name.Name.{Name}
 use Rattle.graph_ops.specs.Operations.{op_fields, op_with, op_word}
 use Rattle.graph_ops.specs.declared.op.Op.{Op}
 use Rattle.weave_text.specs.Lines.{Line}

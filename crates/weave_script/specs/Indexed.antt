@@ -48,3 +48,9 @@ abbrev pub GivesReading : (Reader → Type 0) → Result Unit LineFault → Read
 GivesReading Fits (Ok done) reader read = (read ≡ Ok reader.reading) × Fits reader
 GivesReading Fits (Err (Refused cause)) reader read = read ≡ Err cause
 GivesReading Fits (Err Memory) reader read = Unit {0}
+
+-- the same of a function that takes no memory
+abbrev pub GivesReadingExactly : (Reader → Type 0) → Result Unit LineFault → Reader → ReadOrCause Reading → Type 0
+GivesReadingExactly Fits (Ok done) reader read = (read ≡ Ok reader.reading) × Fits reader
+GivesReadingExactly Fits (Err (Refused cause)) reader read = read ≡ Err cause
+GivesReadingExactly Fits (Err Memory) reader read = ⊥

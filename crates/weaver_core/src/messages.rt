@@ -2,6 +2,7 @@
 ghost use Rattle.std.specs.Prelude.{◌≡◌, ◌<◌, ◌≤◌, length, None, IfOk, OnErr};
 ghost use Rattle.std.specs.Option.{ForSome};
 ghost use Rattle.shard_queue.specs.Outbox.{sent_as};
+ghost use Rattle.shard_node.specs.declared.fault.ApplyFault.TheVariants.{Memory};
 ghost use Rattle.weave_entries.specs.GateReplay.{channel_of};
 ghost use Rattle.weave_entries.specs.ShardReplay.{head_of, waits_at};
 ghost use Rattle.weave_entries.specs.ShardRules.{IsTakable, PassesAt};
@@ -90,7 +91,8 @@ pub(crate) fn apply_in(
 
 // What is answered if a shard refuses to process a head.
 fn answer_to(fault: &ApplyFault) -> Result<StepAnswer, AllocError>
-    ensures { IfOk result (IsAnswerToFault fault.now) }
+    ensures answer { IfOk result (IsAnswerToFault fault.now) }
+    ensures memory { OnErr result (fault.now ≡ Memory) }
 {
     match fault {
         ApplyFault::Empty => Ok(StepAnswer::Empty),

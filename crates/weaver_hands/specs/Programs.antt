@@ -88,10 +88,11 @@ pub record Visits (gates shards : ℕ) (old new : Hand) (was is : Running) : Typ
   pub more : GainsRead (own_reads old was.request) (own_reads new was.request) (vertex, state)
 
 -- The shard of the program's next vertex was not ready for it in this call's hold: this is the least gatekeeper for
--- which it was not. Nothing was done.
+-- which it was not. The vertex is the next visit after what the hand's visits had read. Nothing was done.
 pub record FoundNotReady (gates shards : ℕ) (old new : Hand) (was is : Running) (shard gate : ℕ) : Type 0 where
   pub vertex : Name
   pub next_is : next_read was.walk ≡ Some vertex
+  pub in_turn : next_visit (own_reads old was.request) (any_of was.walk) ≡ Some vertex
   pub shard_is : shard ≡ shard_of vertex shards
   pub visits : VisitsIn gates shards old new shard was.request was.stamp vertex (Err (Again gate))
   pub still : ReadsNoMore was is

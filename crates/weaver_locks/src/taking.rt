@@ -1,5 +1,6 @@
 //! A shard takes a message in.
-ghost use Rattle.std.specs.Prelude.{◌≡◌, ◌≢◌, ◌<◌, ◌≤◌, ◌^◌, ◌-◌, is_some, All, AllPairs, IsTrue, IfOk, OnErr, if◌then◌else◌};
+ghost use Rattle.std.specs.Prelude.{◌≡◌, ◌≢◌, ◌<◌, ◌≤◌, ◌^◌, ◌-◌, is_some, nat_lt, AllPairs, IfOk, OnErr, if◌then◌else◌};
+ghost use Rattle.std.specs.List.{list_all};
 ghost use Rattle.graph_ops.specs.declared.part.Part.{Part};
 ghost use Rattle.weave_entries.specs.ShardReplay.{arrived_at};
 ghost use Rattle.shard_node.specs.Shards.{AddsEntry};
@@ -14,7 +15,7 @@ use weave_entries::{Message, ShardDeed};
 
 // Whether no count is the greatest number of 64 bits.
 fn are_small(parts: &[Part]) -> bool
-    ensures { IsTrue result → All (λ (part : Part). part.before < 2 ^ 64 - 1) parts.now }
+    ensures { result ≡ list_all (λ (part : Part). nat_lt part.before (2 ^ 64 - 1)) parts.now }
 {
     parts.iter().all(|part| part.before < u64::MAX)
 }

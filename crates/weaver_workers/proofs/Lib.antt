@@ -1,5 +1,6 @@
 pub mod Rows
 mod Landed
+mod Refusals
 mod Carried
 pub mod Called
 pub mod There

@@ -2,15 +2,19 @@
 -- and facts on answers.
 -- Used by `go_client`, `go_session`, `look_on`, `read_all`, `read_next`, `read_or_nudge`, `try_change`, `try_next`,
 -- Deeds, StillKept and crate workers_account.
-use Rattle.std.proofs.Common.{◌≡◌, inl, inr, ℕ, ◌<◌, ◌≤◌, List, [], drop, length, map, Contains, Option, Some, Result, Ok, Err, refl, sym, ap, ◌∙◌, subst}
-use Rattle.std.specs.Prelude.{IfOk}
+use Rattle.std.proofs.Common.{◌≡◌, inl, inr, ℕ, ◌<◌, ◌≤◌, Bool, true, false, List, [], drop, length, map, Contains, Option, Some, Result, Ok, Err, refl, sym, ap, ◌∙◌, subst}
+use Rattle.std.specs.Prelude.{nat_lt, if◌then◌else◌, IfOk, None}
 use Rattle.std.proofs.Math.Seq.{drop-nil}
 use Rattle.std.proofs.lemmas.Bool.{cases_lt}
 use Rattle.std.proofs.lemmas.List.{append-nil, get_or_past, length-map}
 use Rattle.std.proofs.lemmas.Option.{none-some, same_Some}
 use Rattle.weave_data.proofs.Members.{has_none}
+use Rattle.weave_data.specs.declared.name.Name.{Name}
+use Rattle.graph_ops.specs.Operations.{State}
 use Rattle.vector_stamp.specs.declared.clock.Stamp.{Stamp}
 use Rattle.program_defs.specs.declared.script.Script.{Script}
+use Rattle.program_defs.specs.Visits.{next_visit}
+use Rattle.path_program.specs.AnyPrograms.{any_of}
 use Rattle.weave_entries.specs.declared.gate_log.GateDeed.{GateDeed}
 use Rattle.weave_entries.specs.declared.gate_log.GateEntry.{GateEntry}
 use Rattle.weave_entries.specs.declared.shard_log.ShardEntry.{ShardEntry}
@@ -25,7 +29,7 @@ use Rattle.weaver_locks.specs.declared.hand.Hand.{Hand}
 use Rattle.weaver_locks.specs.declared.shared.Shared.{Shared}
 use Rattle.weaver_locks.specs.Hands.{hand_number, seen_by, IsHand}
 use Rattle.weaver_locks.specs.Locks.{gate_count, shard_count, start_of}
-use Rattle.weaver_hands.specs.Programs.{IsRunning}
+use Rattle.weaver_hands.specs.Programs.{own_reads, IsRunning}
 use Rattle.weaver_workers.specs.declared.reading.Read.{Read}
 use Rattle.weaver_workers.specs.declared.reading.Read.TheVariants.{Over, More, NotYet}
 use Rattle.weaver_workers.specs.Carrying.{OnlyCarries}
@@ -35,7 +39,7 @@ use Rattle.weaver_workers.specs.declared.tried.Tried.{Tried}
 use Rattle.weaver_workers.specs.declared.tried.Tried.TheVariants as tried
 use Rattle.weaver_workers.specs.ClientWork.{DoesCarry, DoesVisit, WorkerEndsAs, RunsSameProgram, Stand, RunsRequestBelow}
 use Rattle.weaver_workers.specs.KeepLaws.{KeepLaws}
-use Rattle.weaver_workers.specs.Turning.{stand, IsEndOf, KeepsOn, ReadAs, RunsIn, TriedAs, ReadsNextVertex}
+use Rattle.weaver_workers.specs.Turning.{ended_after, most_busy_turns, stand, KeepsOn, ReadAs, RunsIn, TriedAs, ReadsNextVertex}
 use Rattle.weaver_workers.proofs.Carried.{carries-none, nothing-at-shard}
 use Rattle.weaver_workers.proofs.Going.{goes-carry, goes-none, goes-one, goes-then, same-walk}
 use Rattle.weaver_workers.proofs.Kept.{visit-keeps}
@@ -127,14 +131,21 @@ module _ (laws : KeepLaws) (shared : Shared) where
         (nothing-at-shard (shard_count shared) old new shard found.visits.before found.visits.was)
 
     -- a read of the next vertex answers what it found
-    pub read-as : (read : Read) → ReadsNextVertex (gate_count shared) (shard_count shared) old new was is read → ReadAs shared (stand new after) read
-    read-as Over did = record { running = is; running_is = refl; over = did.1 }
-    read-as More visits = tt
-    read-as (NotYet shard gate) found = record {
+    pub read-as : IsHand shared old → (read : Read) → ReadsNextVertex (gate_count shared) (shard_count shared) old new was is read → ReadAs shared (stand new after) read
+    read-as was_hand Over did = record { running = is; running_is = refl; over = did.1 }
+    read-as was_hand More visits = tt
+    read-as was_hand (NotYet shard gate) found = record {
       running = is;
       running_is = refl;
       vertex = found.vertex;
       next_is = found.still.next_is ∙ found.next_is;
+      in_turn =
+          let only = nothing-at-shard (shard_count shared) old new shard found.visits.before found.visits.was in
+          ap (next_visit (own_reads new is.request)) found.still.program_is
+          ∙ ap (λ (r : ℕ). next_visit (own_reads new r) (any_of was.walk)) found.still.request_is
+          ∙ ap (λ (reads : List (Name × State)). next_visit reads (any_of was.walk))
+          (laws.reads shared old new was.request was_hand is_hand (alone-still old new only was.request).unvisited)
+          ∙ found.in_turn;
       shard_is = found.shard_is;
       unready = subst (λ (log : List ShardEntry). first_unready (gate_count shared) is.stamp log ≡ Some gate) (sym (found.visits.was.left ∙ append-nil found.visits.before))
           (subst (λ (stamp : Stamp). first_unready (gate_count shared) stamp found.visits.before ≡ Some gate) (sym found.still.stamp_is) found.visits.refused);
@@ -150,12 +161,17 @@ pub if-both : {T E : Type 0} {P Q R : T → Type 0} → (r : Result T E) → ((x
 if-both (Ok x) leads p q = leads x p q
 if-both (Err e) leads p q = tt
 
+-- a client that ends at a busy gatekeeper ends so
+busy-end : (again : Bool) (gate : ℕ) (last : Ended) → (if again then None else Some (ended.Busy gate)) ≡ Some last → ended.Busy gate ≡ last
+busy-end true gate last is = absurd (none-some last is)
+busy-end false gate last is = same_Some (ended.Busy gate) last is
+
 -- a worker that ends after a try ends as the try answered
-pub ends-by : (shared : Shared) (script : Script) (upto : ℕ) (new : Stand) (try : Tried) (end : Option Ended) (last : Ended) → IsEndOf try end
-    → end ≡ Some last → TriedAs shared script upto new try → RunsRequestBelow upto new.client → WorkerEndsAs shared script upto new last
-ends-by shared script upto new tried.Replied end last by is as_tried below = absurd (none-some last (sym by ∙ is))
-ends-by shared script upto new (tried.Busy gate) end last (inl none) is as_tried below = absurd (none-some last (sym none ∙ is))
-ends-by shared script upto new (tried.Busy gate) end last (inr by) is as_tried below =
-    subst (WorkerEndsAs shared script upto new) (same_Some (ended.Busy gate) last (sym by ∙ is)) as_tried
-ends-by shared script upto new (tried.NotYet shard gate) end last by is as_tried below =
+pub ends-by : (shared : Shared) (script : Script) (upto : ℕ) (new : Stand) (try : Tried) (busy : ℕ) (end : Option Ended) (last : Ended)
+    → end ≡ ended_after try busy → end ≡ Some last → TriedAs shared script upto new try → RunsRequestBelow upto new.client
+    → WorkerEndsAs shared script upto new last
+ends-by shared script upto new tried.Replied busy end last by is as_tried below = absurd (none-some last (sym by ∙ is))
+ends-by shared script upto new (tried.Busy gate) busy end last by is as_tried below =
+    subst (WorkerEndsAs shared script upto new) (busy-end (nat_lt busy most_busy_turns) gate last (sym by ∙ is)) as_tried
+ends-by shared script upto new (tried.NotYet shard gate) busy end last by is as_tried below =
     subst (WorkerEndsAs shared script upto new) (same_Some (ended.NotYet shard gate) last (sym by ∙ is)) (as_tried, below)

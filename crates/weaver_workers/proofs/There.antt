@@ -382,6 +382,12 @@ since-before old mid new gate from only second = record {
   told = second.told;
 }
 
+-- if it is up to date with each other one below a number, it was so for a hand that had seen less
+pub all-since-before : (old mid new : Hand) (gate bound : ℕ) → OnlyCarries old mid → IsUpToDateBelow bound gate mid new
+    → IsUpToDateBelow bound gate old new
+all-since-before old mid new gate bound only second from low other =
+    since-before old mid new gate from only (second from low other)
+
 -- a gatekeeper up to date with all below a bound is so one further, if it is with that one, or is that one
 pub one-more-up-to-date : (old mid new : Hand) (gate bound : ℕ) → OnlyCarries old mid → OnlyCarries mid new
     → IsUpToDateBelow bound gate old mid → (bound ≢ gate → IsUpToDate mid new gate bound) → IsUpToDateBelow (bound + 1) gate old new

@@ -10,6 +10,7 @@ use Rattle.program_defs.specs.declared.program.Program.{Program}
 use Rattle.program_defs.specs.declared.script.Request.{Request}
 use Rattle.program_defs.specs.declared.script.Script.{Script}
 use Rattle.program_defs.specs.declared.script.Work.TheVariants.{Change, Look}
+use Rattle.program_defs.specs.Visits.{next_visit}
 use Rattle.path_program.specs.declared.any.AnyProgram.{AnyProgram}
 use Rattle.path_program.specs.AnyPrograms.{any_of, next_read, HasRead}
 use Rattle.report_rules.specs.declared.report.Reply.{Reply}
@@ -31,7 +32,7 @@ use Rattle.weaver_locks.specs.declared.hand.Hand.{Hand}
 use Rattle.weaver_locks.specs.declared.shared.Shared.{Shared}
 use Rattle.weaver_locks.specs.Hands.{seen_by}
 use Rattle.weaver_locks.specs.Locks.{gate_count, shard_count}
-use Rattle.weaver_hands.specs.Programs.{HandFinishes, ReadsNoMore, Visits}
+use Rattle.weaver_hands.specs.Programs.{own_reads, HandFinishes, ReadsNoMore, Visits}
 use Rattle.weaver_hands.specs.Transactions.{Starts, Transacts}
 use Rattle.weaver_workers.specs.declared.ended.Ended.{Ended}
 use Rattle.weaver_workers.specs.declared.ended.Ended.TheVariants.{Done, Busy, NotYet}
@@ -178,13 +179,14 @@ pub record FoundGateBusy (script : Script) (upto : ℕ) (new : Stand) (gate : �
   pub gate_is : asked.gate ≡ gate
   pub busy : IsTrue (is_some (flight_of (gate_log (seen_by new.hand) gate)))
 
--- The session's program is running, and the shard of its next vertex was not ready for it, as the hand has seen: this
--- is the least gatekeeper for which it was not.
+-- The session's program is running, and the shard of its next vertex, the next visit after what the hand's visits read,
+-- was not ready for it, as the hand has seen: this is the least gatekeeper for which it was not.
 pub record FoundUnready (shared : Shared) (new : Stand) (shard gate : ℕ) : Type 0 where
   pub running : Running
   pub running_is : new.client.running ≡ Some running
   pub vertex : Name
   pub next_is : next_read running.walk ≡ Some vertex
+  pub in_turn : next_visit (own_reads new.hand running.request) (any_of running.walk) ≡ Some vertex
   pub shard_is : shard ≡ shard_of vertex (shard_count shared)
   pub unready : first_unready (gate_count shared) running.stamp (shard_log (seen_by new.hand) shard) ≡ Some gate
 

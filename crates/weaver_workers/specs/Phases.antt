@@ -1,5 +1,5 @@
 -- The phases of a script: from which request to which.
-use Rattle.std.specs.Prelude.{ℕ, ◌-◌, ◌==◌, Bool, if◌then◌else◌, filter, length, slice_index_or}
+use Rattle.std.specs.Prelude.{ℕ, ◌-◌, ◌==◌, if◌then◌else◌, filter, length, slice_index_or}
 use Rattle.std.specs.List.{range_with_len}
 use Rattle.program_defs.specs.declared.script.Script.{Script}
 use Rattle.report_rules.specs.Lookups.{is_program}

@@ -1,5 +1,5 @@
 -- What a turn of a client's worker answers, and what it leaves. No public contract cites this except for `stand`.
-use Rattle.std.specs.Prelude.{◌≡◌, ◌⊎◌, ℕ, nat_lt, if◌then◌else◌, ◌∷◌, ◌++◌, [], Bool, true, false, Option, None, Some, ⊤}
+use Rattle.std.specs.Prelude.{◌≡◌, ◌+◌, ◌-◌, ◌^◌, ℕ, min, nat_lt, if◌then◌else◌, ◌∷◌, ◌++◌, [], Bool, true, false, Option, None, Some, ⊤}
 use Rattle.std.specs.Option.{option_and_then}
 use Rattle.program_defs.specs.declared.script.Script.{Script}
 use Rattle.path_program.specs.AnyPrograms.{next_read}
@@ -87,6 +87,22 @@ tried_by read.Over = None
 tried_by read.More = None
 tried_by (read.NotYet shard gate) = Some (tried.NotYet shard gate)
 
+-- `transact` refuses for no other reason: another transaction is in flight, or out of memory
+abbrev pub RefusesTransaction : HandFault → Type 0
+RefusesTransaction fault.Busy = ⊤
+RefusesTransaction (fault.NotYet shard gate) = ⊥
+RefusesTransaction fault.Empty = ⊥
+RefusesTransaction (fault.Waits vertex) = ⊥
+RefusesTransaction fault.Memory = ⊤
+
+-- `visit` refuses for no other reason: the shard is not ready, or out of memory
+abbrev pub RefusesVisit : HandFault → Type 0
+RefusesVisit fault.Busy = ⊥
+RefusesVisit (fault.NotYet shard gate) = ⊤
+RefusesVisit fault.Empty = ⊥
+RefusesVisit (fault.Waits vertex) = ⊥
+RefusesVisit fault.Memory = ⊤
+
 -- a transaction was not begun since another one was in flight at its gatekeeper
 abbrev pub tried_at : ℕ → HandFault → Option Tried
 tried_at gate fault.Busy = Some (tried.Busy gate)
@@ -121,8 +137,18 @@ below_in upto client =
     option_and_then (λ r. if nat_lt r upto then Some r else None)
     (unanswered_in (requests_in client) (log_of_client client))
 
--- a worker that ends after a try ends by what the try answered
-abbrev pub IsEndOf : Tried → Option Ended → Type 0
-IsEndOf tried.Replied end = end ≡ None
-IsEndOf (tried.Busy gate) end = (end ≡ None) ⊎ (end ≡ Some (ended.Busy gate))
-IsEndOf (tried.NotYet shard gate) end = end ≡ Some (ended.NotYet shard gate)
+-- a client stops when it has found its gatekeeper busy in this many turns one after another
+abbrev pub most_busy_turns : ℕ
+most_busy_turns = 16
+
+-- in how many turns one after another the gatekeeper was busy, after one more try
+abbrev pub busy_turns : ℕ → Tried → ℕ
+busy_turns busy tried.Replied = 0
+busy_turns busy (tried.Busy gate) = min (busy + 1) (2 ^ 32 - 1)
+busy_turns busy (tried.NotYet shard gate) = 0
+
+-- how a client's worker ends after a try and this many busy turns, if it ends
+abbrev pub ended_after : Tried → ℕ → Option Ended
+ended_after tried.Replied busy = None
+ended_after (tried.Busy gate) busy = if nat_lt busy most_busy_turns then None else Some (ended.Busy gate)
+ended_after (tried.NotYet shard gate) busy = Some (ended.NotYet shard gate)

@@ -9,7 +9,7 @@ use Rattle.weaver_workers.specs.declared.ended.Ended.{Ended}
 use Rattle.weaver_workers.specs.declared.ended.Ended.TheVariants.{Done}
 use Rattle.weaver_workers.specs.declared.worker.Worker.{Worker}
 use Rattle.weaver_workers.specs.declared.worker.Worker.TheVariants.{ClientWork, GateWork, ShardWork}
-use Rattle.weaver_workers.specs.Carrying.{CarriesAtGate, CarriesAtShard}
+use Rattle.weaver_workers.specs.Carrying.{CarriesAtGate, CarriesAtShard, IsUpToDateBelow}
 use Rattle.weaver_workers.specs.ClientWork.{WorkerEndsAs, WorkerGoesOn, HasReplies, Stand}
 use Rattle.weaver_workers.specs.Keeping.{HasLanded, KeepsClient}
 use Rattle.weaver_workers.specs.Phases.{phase_end, phase_start}
@@ -44,11 +44,14 @@ pub record ClientWorks (shared : Shared) (script : Script) (number upto : ℕ) (
   pub goes : WorkerGoesOn shared script number upto old new
   pub ends : WorkerEndsAs shared script upto new ended
 
--- the worker of a gatekeeper only carried, there alone
-pub record GateWorks (shared : Shared) (gate : ℕ) (old new : Hand) (ended : Ended) : Type 0 where
-  pub carries : CarriesAtGate shared gate old new
-  pub landed : HasLanded new
-  pub ends : ended ≡ Done
+-- The worker of a gatekeeper only carried, there alone. If the phase has a request, each other gatekeeper has said its
+-- clock since, and this one has heard it.
+pub record GateWorks (shared : Shared) (script : Script) (phase gate : ℕ) (old new : Hand) (ended : Ended) : Type 0
+  where
+    pub carries : CarriesAtGate shared gate old new
+    pub heard : phase_start script phase < phase_end script phase → IsUpToDateBelow script.gates gate old new
+    pub landed : HasLanded new
+    pub ends : ended ≡ Done
 
 -- the worker of a shard only carried, there alone
 pub record ShardWorks (shared : Shared) (shard : ℕ) (old new : Hand) (ended : Ended) : Type 0 where
@@ -61,7 +64,8 @@ abbrev pub Works : Shared → Script → ℕ → Worker → Worker → Ended →
 Works shared script phase (ClientWork was client) (ClientWork is left) ended =
     (number : ℕ) → KeepsClient shared script number was client
     → ClientWorks shared script number (phase_end script phase) (stand was client) (stand is left) ended
-Works shared script phase (GateWork was gate) (GateWork is at) ended = (at ≡ gate) × GateWorks shared gate was is ended
+Works shared script phase (GateWork was gate) (GateWork is at) ended =
+    (at ≡ gate) × GateWorks shared script phase gate was is ended
 Works shared script phase (ShardWork was shard) (ShardWork is at) ended =
     (at ≡ shard) × ShardWorks shared shard was is ended
 Works shared script phase (ClientWork was client) (GateWork is at) ended = ⊥

@@ -4,7 +4,7 @@ ghost use Rattle.program_defs.specs.Limits.{IsWithinLimits};
 ghost use Rattle.weaver_core.specs.Sessions.{log_of_client, requests_in, unanswered_in, IsAClient};
 ghost use Rattle.weaver_workers.specs.ClientWork.{WorkerEndsAs, WorkerGoesOn};
 ghost use Rattle.weaver_workers.specs.Keeping.{AreLocksOf, KeepsClient};
-ghost use Rattle.weaver_workers.specs.Turning.{below_in, stand, IsEndOf, Tries};
+ghost use Rattle.weaver_workers.specs.Turning.{below_in, busy_turns, ended_after, stand, Tries};
 
 use crate::bringing::Brought;
 use crate::changing::try_change;
@@ -85,7 +85,9 @@ fn next_below(client: &Client, upto: u32) -> Option<u32>
 }
 
 // In how many turns one after another the gatekeeper was busy.
-fn busy_after(busy: u32, tried: Tried) -> u32 {
+fn busy_after(busy: u32, tried: Tried) -> u32
+    ensures { result ≡ busy_turns busy tried }
+{
     match tried {
         Tried::Busy { .. } => busy.saturating_add(1),
         Tried::Replied | Tried::NotYet { .. } => 0,
@@ -94,7 +96,7 @@ fn busy_after(busy: u32, tried: Tried) -> u32 {
 
 // How the worker ends after this try, if it ends.
 fn ended_by(tried: Tried, busy: u32) -> Option<Ended>
-    ensures { IsEndOf tried result }
+    ensures { result ≡ ended_after tried busy }
 {
     match tried {
         Tried::Replied => None,

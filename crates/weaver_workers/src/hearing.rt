@@ -84,7 +84,8 @@ fn hear<R: Wait>(
 
 // Whether this is the gatekeeper's clock that was heard last.
 fn is_last(last: &Vec<Option<Clock>>, from: u32, clock: &Clock) -> bool
-    ensures { IsTrue result → slice_index_or last.now.items from None ≡ Some clock.now }
+    ensures told { IsTrue result → slice_index_or last.now.items from None ≡ Some clock.now }
+    ensures all { slice_index_or last.now.items from None ≡ Some clock.now → IsTrue result }
 {
     match last.get(from as usize) {
         Some(found) => *found == Some(*clock),

@@ -1,11 +1,12 @@
 //! A running program reads vertex after vertex.
-ghost use Rattle.std.specs.Prelude.{◌≡◌, ◌≤◌, false, IfOk, IsSome, Some};
+ghost use Rattle.std.specs.Prelude.{◌≡◌, ◌≤◌, false, IfOk, IsSome, OnErr, Some};
 ghost use Rattle.path_program.specs.AnyPrograms.{next_read};
 ghost use Rattle.weaver_core.specs.declared.walks.Running.{Running};
+ghost use Rattle.weaver_hands.specs.declared.fault.HandFault.TheVariants.{Memory};
 ghost use Rattle.weaver_hands.specs.Programs.{IsRunning};
 ghost use Rattle.weaver_locks.specs.Hands.{IsHand};
 ghost use Rattle.weaver_locks.specs.Locks.{gate_count, shard_count};
-ghost use Rattle.weaver_workers.specs.Turning.{is_more, read_of_fault, stand, unready_in, KeepsOn, ReadAs, RunsIn, ReadsNextVertex};
+ghost use Rattle.weaver_workers.specs.Turning.{is_more, read_of_fault, stand, unready_in, KeepsOn, ReadAs, RefusesVisit, RunsIn, ReadsNextVertex};
 
 use crate::bringing::Brought;
 use crate::keeping::workers_keep_their_laws;
@@ -185,7 +186,9 @@ fn visit_vertex<R: Wait>(
 
 // What came of a read that was refused so. The one error is out of memory.
 fn not_yet(fault: HandFault) -> Result<Read, AllocError>
-    ensures { IfOk result (λ read. read_of_fault fault ≡ Some read) }
+    requires { RefusesVisit fault }
+    ensures read { IfOk result (λ read. read_of_fault fault ≡ Some read) }
+    ensures memory { OnErr result (fault ≡ Memory) }
 {
     match fault {
         HandFault::NotYet { shard, gate } => Ok(Read::NotYet { shard, gate }),

@@ -1,6 +1,7 @@
 //! What came of a try of one request.
-ghost use Rattle.std.specs.Prelude.{◌≡◌, Some, IfOk};
-ghost use Rattle.weaver_workers.specs.Turning.{tried_at};
+ghost use Rattle.std.specs.Prelude.{◌≡◌, Some, IfOk, OnErr};
+ghost use Rattle.weaver_hands.specs.declared.fault.HandFault.TheVariants.{Memory};
+ghost use Rattle.weaver_workers.specs.Turning.{tried_at, RefusesTransaction};
 
 use std::alloc::AllocError;
 use weaver_hands::HandFault;
@@ -18,7 +19,9 @@ pub(crate) enum Tried {
 
 /// What came of a transaction that was refused so at this gatekeeper. The one error is out of memory.
 pub(crate) fn tried_in_vain(fault: HandFault, gate: u32) -> Result<Tried, AllocError>
-    ensures { IfOk result (λ tried. tried_at gate fault ≡ Some tried) }
+    requires { RefusesTransaction fault }
+    ensures tried { IfOk result (λ tried. tried_at gate fault ≡ Some tried) }
+    ensures memory { OnErr result (fault ≡ Memory) }
 {
     match fault {
         HandFault::Busy => Ok(Tried::Busy { gate }),

@@ -38,8 +38,7 @@ impl Worker {
     /// request of the phase, in which it hears the others, and in the first four for each program sends empty messages
     /// too. A shard takes as many turns as that, takes in in each what was sent, and processes it if any of it is new.
     /// `pace` is called before and after each turn that isn't out of memory. It may wait. The one error is out of
-    /// memory;
-    /// then the entries that it made stay, and nothing is promised of the worker.
+    /// memory; then the entries that it made stay, and nothing is promised of the worker.
     pub fn go<R: Wait, P: Pace>(
         &mut self,
         rt: &R,
@@ -113,7 +112,7 @@ fn go_gate<R: Wait, P: Pace>(
     requires locks { AreLocksOf script.now shared.now }
     requires idle { IsIdleHand shared.now hand.old }
     requires gate { gate < script.now.gates }
-    ensures { IfOk result (GateWorks shared.now gate hand.old hand.new) }
+    ensures { IfOk result (GateWorks shared.now script.now phase gate hand.old hand.new) }
 {
     workers_keep_their_laws();
     let from = start_of_phase(script, phase);

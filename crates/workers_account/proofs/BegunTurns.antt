@@ -1,5 +1,5 @@
 -- All that a client's worker began, it began in its session's turn.
--- Used by `workers_follow_their_sessions`.
+-- Used by `workers_follow_their_sessions` and HowFar.
 use Rattle.std.proofs.Common.{◌≡◌, ℕ, ◌==◌, List, [], ◌∷◌, length, Contains, inl, inr, refl, sym, ap, subst, ◌∙◌, append_assoc}
 use Rattle.std.specs.Prelude.{IsTrue, Option, Some}
 use Rattle.std.specs.List.{range_with_len}
@@ -34,7 +34,7 @@ use Rattle.workers_account.proofs.BegunHolds.{begun-none, begun-one, begun-then,
 -- The session's turn
 
 -- a session's request is of the session
-session-is : (script : Script) (number r : ℕ) (asked : Request) → Contains (requests_of_session script number) r
+pub session-is : (script : Script) (number r : ℕ) (asked : Request) → Contains (requests_of_session script number) r
     → request_at script r ≡ Some asked → asked.session ≡ number
 session-is script number r asked h is =
     eqb-true asked.session number (subst (λ (o : Option Request). IsTrue (is_some_and (λ (request : Request). request.session == number) o)) is

@@ -1,5 +1,5 @@
 -- The values of each session after a phase are those of its log in the closed logs.
--- Used by OpenPairs and PhaseEnds.
+-- Used by HowFar, OpenPairs and PhaseEnds.
 use Rattle.std.proofs.Common.{◌≡◌, ℕ, ◌-◌, ◌<◌, ◌≤◌, ◌==◌, Bool, true, false, cond, List, [], ◌∷◌, ◌++◌, length, map, Contains, IsTrue, Option, None, Some, inl, inr, refl, sym, ap, subst, ◌∙◌, append_assoc, arith}
 use Rattle.std.specs.Prelude.{is_some, slice_get, IsSomeAnd, if◌then◌else◌}
 use Rattle.std.specs.List.{filter}
@@ -290,7 +290,7 @@ module _ (laws : PhaseLaws) (stay : StayLaws) (shared : Shared) (script : Script
     }
 
     -- such a program has read in the closed logs what the hand's visits read
-    reads-are : (r : ℕ) (stamp : Stamp) (home : ℕ) → Contains (programs_of (entries_since (gate_log start home) (gate_log (seen_by hand) home))) (record { author = hand_number hand; request = r; stamp = stamp })
+    pub reads-are : (r : ℕ) (stamp : Stamp) (home : ℕ) → Contains (programs_of (entries_since (gate_log start home) (gate_log (seen_by hand) home))) (record { author = hand_number hand; request = r; stamp = stamp })
         → own_reads hand r ≡ reads_of closed r
     reads-are r stamp home program =
         let number = run.by_number hand h in

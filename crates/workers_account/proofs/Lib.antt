@@ -33,3 +33,4 @@ pub mod PhaseEnds
 pub mod Idle
 pub mod ReadyClients
 pub mod MayStart
+pub mod HowFar

@@ -1,5 +1,5 @@
 -- What a session at the end of its log says of that log: which requests have no reply there, and which was begun last.
--- Used by OfPhase, ReadyClients, RepliesKept, StepReads and TurnsKept.
+-- Used by HowFar, OfPhase, ReadyClients, RepliesKept, StepReads and TurnsKept.
 use Rattle.std.proofs.Common.{◌≡◌, ℕ, zero, suc, ◌-◌, ◌<◌, ◌≤◌, Bool, List, [], ◌∷◌, take, AllPairs, Contains, Some, ◌⊎◌, inl, inr, sym, ap, subst, ◌∙◌, arith}
 use Rattle.std.specs.Prelude.{slice_get, if◌then◌else◌}
 use Rattle.std.proofs.lemmas.List.Concat.{flat_map-append}

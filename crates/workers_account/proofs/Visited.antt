@@ -1,6 +1,6 @@
 -- Who read what in a phase: each visit is of a program that had begun at the start, or of one that its hand began
 -- since.
--- Used by ByLog, Idle, OpenPairs, Programs and crate sessions_account.
+-- Used by ByLog, HowFar, Idle, OpenPairs, Programs and crate sessions_account.
 use Rattle.std.proofs.Common.{◌≡◌, ℕ, ◌<◌, ◌==◌, List, Contains, ◌⊎◌, inl, inr, sym, ap, subst, ◌∙◌, eq-eqb}
 use Rattle.std.specs.List.{filter}
 use Rattle.std.proofs.lemmas.Bool.{eqb-true}

@@ -11,3 +11,4 @@ pub mod ReadLaws
 pub mod Ready
 pub mod InStepLaws
 pub mod ReadyLaws
+pub mod SessionRuns

@@ -21,8 +21,10 @@ use Rattle.weaver_locks.specs.Closing.{entries_by, seen_by_number}
 use Rattle.weaver_locks.specs.Hands.{hand_number, made_by, seen_by, IsHand}
 use Rattle.weaver_locks.specs.Locks.{hands_of, start_of}
 use Rattle.weaver_workers.specs.Carrying.{OnlyCarries}
-use Rattle.weaver_workers.specs.ClientWork.{Goes, Stand}
+use Rattle.weaver_workers.specs.declared.ended.Ended.{Ended}
+use Rattle.weaver_workers.specs.ClientWork.{Goes, Stand, WorkerEndsAs}
 use Rattle.weaver_workers.specs.Keeping.{AreLocksOf, HasLanded, KeepsClient}
+use Rattle.weaver_workers.specs.Turning.{stand}
 use Rattle.workers_account.specs.Pairs.{AddsOpenPairs, GainBelow}
 
 -- The parts of a core at the start of a phase: their logs are an account of the script in which no transaction is in
@@ -94,6 +96,18 @@ pub record IsPhaseRun (shared : Shared) (script : Script) (upto : ℕ) (start : 
       ⊎ ((hand : Hand) × (h : Contains hands hand)
       × IsOfSession shared script upto was is hand_of (parts hand h).from hand
       session (parts hand h).did)
+
+-- The worker of a session has ended so. It gave back one of these hands, which goes on with the client that is now the
+-- session's.
+pub record WorkerHasEnded (shared : Shared) (script : Script) (upto : ℕ) (is : List Client) (hands : List Hand)
+    (session : ℕ) : Type 0 where
+  pub hand : Hand
+  pub there : Contains hands hand
+  pub client : Client
+  pub client_is : slice_get is session ≡ Some client
+  pub keeps : KeepsClient shared script session hand client
+  pub ended : Ended
+  pub ends : WorkerEndsAs shared script upto (stand hand client) ended
 
 -- These are the logs with which the locks were closed, and the sessions' logs. Each entry was there at the start or is
 -- of a hand, which has seen it, and those of each hand are all that it made.

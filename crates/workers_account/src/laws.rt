@@ -13,6 +13,7 @@ ghost use Rattle.weave_entries.specs.ShardRules.{IsShardLog};
 ghost use Rattle.weave_entries.specs.StoreRule.{IsStoreLog};
 ghost use Rattle.weave_account.specs.declared.account.Account.{Account};
 ghost use Rattle.weave_account.specs.Account.{shard_log};
+ghost use Rattle.weave_account.specs.GoesOn.{GoesOn};
 ghost use Rattle.weave_account.specs.IsAccount.{IsAccount};
 ghost use Rattle.seen_logs.specs.Seen.{VisitsOwnPrograms, without_sessions};
 ghost use Rattle.weaver_core.specs.declared.client.Client.{Client};
@@ -24,7 +25,9 @@ ghost use Rattle.weaver_locks.specs.Hands.{seen_by, IsHand};
 ghost use Rattle.weaver_locks.specs.Locks.{hands_of, start_of};
 ghost use Rattle.weaver_workers.specs.ClientWork.{Goes, HasReplies, Stand};
 ghost use Rattle.weaver_workers.specs.Keeping.{HasLanded, KeepsClient};
-ghost use Rattle.workers_account.specs.Phase.{IsClosedBy, IsPhaseEnd, IsPhaseRun, IsPhaseStart};
+ghost use Rattle.workers_account.specs.Phase.{IsClosedBy, IsPhaseEnd, IsPhaseRun, IsPhaseStart, WorkerHasEnded};
+ghost use Rattle.workers_account.specs.Ready.{IsAnsweredUpTo};
+ghost use Rattle.workers_account.specs.SessionRuns.{HasNoRequest, WasRunForSession};
 
 use crate::phase_laws::{phases_keep_their_laws, values_stay_by_their_laws};
 use crate::read_laws::hands_read_by_their_laws;
@@ -61,6 +64,22 @@ pub fn closed_parts_can_be_joined()
         (hands : List Hand) (closed : Account) → IsPhaseRun shared script upto start was is hands
         → IsClosedBy shared script start is hands closed → IsPhaseEnd script upto start is closed }
 {
+    phases_keep_their_laws();
+    values_stay_by_their_laws();
+}
+
+/// A phase was run for each session, however the session's worker ended, as the logs before and after the phase say. A
+/// session without a request in the phase has all its replies.
+pub fn sessions_run_as_their_workers_end()
+    ensures ends { (shared : Shared) (script : Script) (upto : ℕ) (start : Account) (was is : List Client)
+        (hands : List Hand) (closed : Account) → IsPhaseRun shared script upto start was is hands
+        → IsClosedBy shared script start is hands closed → (session : ℕ)
+        → WorkerHasEnded shared script upto is hands session → WasRunForSession script upto session start closed }
+    ensures idle { (script : Script) (from upto session : ℕ) (start closed : Account)
+        → HasNoRequest script from upto session → IsAnsweredUpTo script from start → GoesOn start closed
+        → WasRunForSession script upto session start closed }
+{
+    hands_read_by_their_laws();
     phases_keep_their_laws();
     values_stay_by_their_laws();
 }

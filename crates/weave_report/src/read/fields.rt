@@ -1,6 +1,6 @@
 //! Fields of lines.
 ghost use Rattle.std.specs.Prelude.{◌≡◌, []};
-ghost use Rattle.weave_report.specs.ReadAnswers.{Gives};
+ghost use Rattle.weave_report.specs.ReadAnswers.{Gives, GivesExactly};
 ghost use Rattle.weave_report.specs.ReadingFields.{name_in, read_names, names_from, read_number, reason_in, small_number_in, this_number_in};
 
 use crate::fault::{LineFault, ReportCause};
@@ -11,7 +11,7 @@ use weave_text::{Pieces, is, number};
 
 /// A name.
 pub(crate) fn name_in(word: &[u8]) -> Result<Name, LineFault>
-    ensures { Gives result (name_in word.now) }
+    ensures { GivesExactly result (name_in word.now) }
 {
     match Name::parse(word) {
         Some(name) => Ok(name),
@@ -32,7 +32,7 @@ pub(crate) fn names_in(alloc: Global, words: Pieces) -> Result<Items<Name>, Line
 
 /// A number of 64 bits.
 pub(crate) fn number_in(word: &[u8]) -> Result<u64, LineFault>
-    ensures { Gives result (read_number word.now) }
+    ensures { GivesExactly result (read_number word.now) }
 {
     match number(word) {
         Some(number) => Ok(number),
@@ -42,7 +42,7 @@ pub(crate) fn number_in(word: &[u8]) -> Result<u64, LineFault>
 
 /// A number of 32 bits.
 pub(crate) fn small_number_in(word: &[u8]) -> Result<u32, LineFault>
-    ensures { Gives result (small_number_in word.now) }
+    ensures { GivesExactly result (small_number_in word.now) }
 {
     let number = number_in(word)?;
     if number > u64::from(u32::MAX) {
@@ -53,7 +53,7 @@ pub(crate) fn small_number_in(word: &[u8]) -> Result<u32, LineFault>
 
 /// The word that is to be this number.
 pub(crate) fn this_number_in(wanted: u64, word: &[u8]) -> Result<u64, LineFault>
-    ensures { Gives result (this_number_in wanted word.now) }
+    ensures { GivesExactly result (this_number_in wanted word.now) }
 {
     if number(word) == Some(wanted) {
         Ok(wanted)
@@ -64,7 +64,7 @@ pub(crate) fn this_number_in(wanted: u64, word: &[u8]) -> Result<u64, LineFault>
 
 /// A reason.
 pub(crate) fn reason_in(word: &[u8]) -> Result<Reason, LineFault>
-    ensures { Gives result (reason_in word.now) }
+    ensures { GivesExactly result (reason_in word.now) }
 {
     if is(word, b"exists") {
         Ok(Reason::Exists)

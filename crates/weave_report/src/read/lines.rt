@@ -1,6 +1,6 @@
 //! Lines at their places.
 ghost use Rattle.std.specs.Prelude.{◌≡◌, [], ◌∷◌, Ok, IfOk};
-ghost use Rattle.weave_report.specs.ReadAnswers.{Gives};
+ghost use Rattle.weave_report.specs.ReadAnswers.{Gives, GivesExactly};
 ghost use Rattle.weave_report.specs.Reading.{after_answers, after_first, after_got, after_report_line, after_pairs, after_replies, behind_commit, behind_reply, next_get, order_in, pair_in, reading, with_answer, with_order, with_pair, with_reply_read};
 ghost use Rattle.weave_report.specs.ReadingLists.{with_named};
 
@@ -37,7 +37,7 @@ pub(crate) fn after_line(
 }
 
 fn after_first(report: Report, mut words: Pieces) -> Result<Reading, LineFault>
-    ensures { Gives result (after_first report words.entry) }
+    ensures { GivesExactly result (after_first report words.entry) }
 {
     let Some(word) = words.next() else {
         return Err(LineFault::Refused(ReportCause::Line));
@@ -211,7 +211,7 @@ fn with_order(mut report: Report, order: Items<u32>) -> Reading
 
 // A pair, from the words after `settled`.
 fn pair_in(script: &Named, mut words: Pieces) -> Result<Pair, LineFault>
-    ensures { Gives result (pair_in script.now words.entry) }
+    ensures { GivesExactly result (pair_in script.now words.entry) }
 {
     let Some(vertex) = words.next() else {
         return Err(LineFault::Refused(ReportCause::Line));
@@ -229,7 +229,7 @@ fn pair_in(script: &Named, mut words: Pieces) -> Result<Pair, LineFault>
 }
 
 fn pair_of(script: &Named, vertex: &[u8], earlier: &[u8], later: &[u8]) -> Result<Pair, LineFault>
-    ensures { Gives result (pair_in script.now (vertex.now ∷ earlier.now ∷ later.now ∷ [])) }
+    ensures { GivesExactly result (pair_in script.now (vertex.now ∷ earlier.now ∷ later.now ∷ [])) }
 {
     let vertex = name_in(vertex)?;
     let earlier_name = name_in(earlier)?;

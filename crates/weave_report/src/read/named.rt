@@ -3,7 +3,7 @@ ghost use Rattle.std.specs.Prelude.{◌≡◌, ◌<◌, ◌^◌, ℕ, List, leng
 ghost use Rattle.weave_data.specs.Pairs.{at_key};
 ghost use Rattle.std.specs.List.{AllByRecursion};
 ghost use Rattle.program_defs.specs.Works.{ops_of};
-ghost use Rattle.weave_report.specs.ReadAnswers.{Gives};
+ghost use Rattle.weave_report.specs.ReadAnswers.{GivesExactly};
 ghost use Rattle.weave_report.specs.ReadingReplies.{any_named, get_numbers, kind_named, ops_of_request, program_named, look_of_work, request_from, request_named};
 ghost use Rattle.report_rules.specs.ReportOf.{numbers_of_gets};
 ghost use Rattle.weave_report.specs.TextOf.{IsName, IsTypedScript, HasDistinctNames, request_names};
@@ -145,7 +145,7 @@ fn program_of(work: &Work) -> Option<Program>
 
 /// The request of a name.
 pub(crate) fn any_named(script: &Named, name: Name) -> Result<u32, LineFault>
-    ensures { Gives result (any_named script.now name) }
+    ensures { GivesExactly result (any_named script.now name) }
 {
     match script.place(name) {
         Some(place) => Ok(place),
@@ -155,7 +155,7 @@ pub(crate) fn any_named(script: &Named, name: Name) -> Result<u32, LineFault>
 
 /// The program or transaction of a name, as is asked.
 pub(crate) fn kind_named(program: bool, script: &Named, name: Name) -> Result<u32, LineFault>
-    ensures { Gives result (kind_named program script.now name) }
+    ensures { GivesExactly result (kind_named program script.now name) }
 {
     match script.place(name) {
         Some(place) if script.is_program(place) == program => Ok(place),

@@ -1,6 +1,6 @@
 //! Records.
 ghost use Rattle.std.specs.Prelude.{◌≡◌, [], map, option_map, position, Some};
-ghost use Rattle.weave_report.specs.ReadAnswers.{Changes, Gives};
+ghost use Rattle.weave_report.specs.ReadAnswers.{Changes, Gives, GivesExactly};
 ghost use Rattle.weave_report.specs.ReadingStates.{cut_first, edge_of, empty_record, is_equals, is_item_mark, item_in, item_of, items_in, key_and_value, tag_in, tags_in, with_item_read, with_last, with_property, goes_last};
 
 use crate::fault::{LineFault, ReportCause};
@@ -135,7 +135,7 @@ fn tags_in(alloc: Global, words: Pieces) -> Result<NameMap<Name>, LineFault>
 
 // A tag.
 fn tag_in(word: &[u8]) -> Result<(Name, Name), LineFault>
-    ensures { Gives result (tag_in word.now) }
+    ensures { GivesExactly result (tag_in word.now) }
 {
     match cut_tag(word) {
         Some((key, _, value)) => pair_in(key, value),
@@ -162,7 +162,7 @@ fn equals_sign(word: &[u8]) -> Option<usize>
 
 // A key and its value.
 fn pair_in(key: &[u8], value: &[u8]) -> Result<(Name, Name), LineFault>
-    ensures { Gives result (key_and_value key.now value.now) }
+    ensures { GivesExactly result (key_and_value key.now value.now) }
 {
     let key = name_in(key)?;
     let value = name_in(value)?;

@@ -1,7 +1,7 @@
 //! The lines of replies.
 ghost use Rattle.std.specs.Prelude.{◌≡◌, ◌&&◌, [], ◌∷◌, Some, codes, Err, if◌then◌else◌};
 ghost use Rattle.std.specs.Str.{bytes_eq};
-ghost use Rattle.weave_report.specs.ReadAnswers.{Gives};
+ghost use Rattle.weave_report.specs.ReadAnswers.{Gives, GivesExactly};
 ghost use Rattle.weave_report.specs.declared.fault.ReportCause.TheVariants.{Line};
 ghost use Rattle.weave_report.specs.ReadingReplies.{read_begun, committed_in, conflict_in, finished_by, finished_in, got_in, program_in, refused_in, transaction_in, unbegun_in, read_verdict};
 
@@ -76,7 +76,7 @@ fn unbegun_told(
     name: &[u8],
     state: &[u8],
 ) -> Result<ReplyLine, LineFault>
-    ensures { Gives result (if bytes_eq state.now (codes "unbegun")
+    ensures { GivesExactly result (if bytes_eq state.now (codes "unbegun")
         then unbegun_in program script.now name.now else Err Line) }
 {
     if !is(state, b"unbegun") {
@@ -167,7 +167,7 @@ pub(crate) fn program_in(
 }
 
 fn unbegun_in(program: bool, script: &Named, name: &[u8]) -> Result<ReplyLine, LineFault>
-    ensures { Gives result (unbegun_in program script.now name.now) }
+    ensures { GivesExactly result (unbegun_in program script.now name.now) }
 {
     let name = name_in(name)?;
     let request = kind_named(program, script, name)?;

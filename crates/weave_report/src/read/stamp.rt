@@ -1,6 +1,6 @@
 //! Stamps.
 ghost use Rattle.std.specs.Prelude.{◌≡◌, []};
-ghost use Rattle.weave_report.specs.ReadAnswers.{Gives};
+ghost use Rattle.weave_report.specs.ReadAnswers.{Gives, GivesExactly};
 ghost use Rattle.weave_report.specs.ReadingLists.{counted_stamp, few_counts};
 ghost use Rattle.weave_report.specs.ReadingFields.{count_in, read_stamp, stamp_with_counts, stamp_parts};
 
@@ -53,7 +53,7 @@ fn counted_stamp(
 }
 
 fn count_in(word: &[u8]) -> Result<u64, LineFault>
-    ensures { Gives result (count_in word.now) }
+    ensures { GivesExactly result (count_in word.now) }
 {
     match number(word) {
         Some(count) => Ok(count),
@@ -76,7 +76,7 @@ fn counts_in(alloc: Global, words: Pieces) -> Result<Items<u64>, LineFault>
 }
 
 fn stamp_of(gates: u32, epoch: u64, home: u64, counts: &[u64]) -> Result<Stamp, LineFault>
-    ensures { Gives result (stamp_with_counts gates epoch home counts.now) }
+    ensures { GivesExactly result (stamp_with_counts gates epoch home counts.now) }
 {
     if home >= u64::from(gates) || counts.len() != (gates as usize).min(COUNTS) {
         return Err(LineFault::Refused(ReportCause::Stamp));

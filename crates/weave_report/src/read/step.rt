@@ -1,6 +1,6 @@
 //! Answers of steps.
 ghost use Rattle.std.specs.Prelude.{◌≡◌, [], ◌∷◌};
-ghost use Rattle.weave_report.specs.ReadAnswers.{Gives};
+ghost use Rattle.weave_report.specs.ReadAnswers.{GivesExactly};
 ghost use Rattle.weave_report.specs.Reading.{did_in};
 ghost use Rattle.weave_report.specs.ReadingStates.{bare_answer};
 
@@ -11,7 +11,7 @@ use weave_text::{Pieces, is};
 
 /// A step's answer, from the words after `did`, if the step has this number.
 pub(crate) fn did_in(number: u64, mut words: Pieces) -> Result<StepAnswer, LineFault>
-    ensures { Gives result (did_in number words.entry) }
+    ensures { GivesExactly result (did_in number words.entry) }
 {
     let Some(place) = words.next() else {
         return Err(LineFault::Refused(ReportCause::Line));
@@ -32,7 +32,7 @@ pub(crate) fn did_in(number: u64, mut words: Pieces) -> Result<StepAnswer, LineF
 }
 
 fn bare_in(number: u64, place: &[u8], word: &[u8]) -> Result<StepAnswer, LineFault>
-    ensures { Gives result (did_in number (place.now ∷ word.now ∷ [])) }
+    ensures { GivesExactly result (did_in number (place.now ∷ word.now ∷ [])) }
 {
     let Some(answer) = bare_answer(word) else {
         return Err(LineFault::Refused(ReportCause::Line));
@@ -42,7 +42,7 @@ fn bare_in(number: u64, place: &[u8], word: &[u8]) -> Result<StepAnswer, LineFau
 }
 
 fn waits_in(number: u64, place: &[u8], word: &[u8], vertex: &[u8]) -> Result<StepAnswer, LineFault>
-    ensures { Gives result (did_in number (place.now ∷ word.now ∷ vertex.now ∷ [])) }
+    ensures { GivesExactly result (did_in number (place.now ∷ word.now ∷ vertex.now ∷ [])) }
 {
     if !is(word, b"waits") {
         return Err(LineFault::Refused(ReportCause::Line));
@@ -59,7 +59,7 @@ fn again_in(
     shard: &[u8],
     gate: &[u8],
 ) -> Result<StepAnswer, LineFault>
-    ensures { Gives result (did_in number (place.now ∷ word.now ∷ shard.now ∷ gate.now ∷ [])) }
+    ensures { GivesExactly result (did_in number (place.now ∷ word.now ∷ shard.now ∷ gate.now ∷ [])) }
 {
     if !is(word, b"again") {
         return Err(LineFault::Refused(ReportCause::Line));

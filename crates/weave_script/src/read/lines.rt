@@ -1,7 +1,7 @@
 //! The lines of a script, taken one after another.
 ghost use Rattle.std.specs.Prelude.{◌≡◌, ◌<◌, ◌^◌, ◌++◌, ◌∷◌, [], map};
 ghost use Rattle.program_defs.specs.declared.script.Work.TheVariants.{Change};
-ghost use Rattle.weave_script.specs.Indexed.{GivesReading, IsIndexed, IsIndexOf, IsReaderReady};
+ghost use Rattle.weave_script.specs.Indexed.{GivesReading, GivesReadingExactly, IsIndexed, IsIndexOf, IsReaderReady};
 ghost use Rattle.weave_script.specs.Limits.{over_limit};
 ghost use Rattle.weave_script.specs.Reading.{counts_so_far, start, after_tx, after_prog, after_phase, after_steps, after_item, after_header, after_line_inside, after_step, after_line_at, within_limits, after_line};
 ghost use Rattle.weave_script.specs.Requests.{request_of};
@@ -69,7 +69,7 @@ pub(crate) fn after_line(
 
 fn within_limits(reader: &Reader) -> Result<(), LineFault>
     requires { IsIndexed reader.now }
-    ensures { GivesReading IsReaderReady result reader.now (within_limits reader.now.reading) }
+    ensures { GivesReadingExactly IsReaderReady result reader.now (within_limits reader.now.reading) }
 {
     match over_limit(counts_so_far(reader)) {
         Some(cause) => Err(LineFault::Refused(cause)),
@@ -112,7 +112,7 @@ fn after_line_at(alloc: Global, reader: &mut Reader, words: &[&[u8]]) -> Result<
 
 fn after_header(reader: &mut Reader, words: &[&[u8]]) -> Result<(), LineFault>
     requires { IsIndexOf reader.old.index reader.old.reading.requests }
-    ensures { GivesReading IsIndexed result reader.new
+    ensures { GivesReadingExactly IsIndexed result reader.new
         (after_header reader.old.reading (map (λ word. word.now) words.now)) }
 {
     match header_of(words) {
@@ -211,7 +211,7 @@ fn after_phase(reader: &mut Reader, words: &[&[u8]]) -> Result<(), LineFault>
 fn after_steps(alloc: Global, reader: &mut Reader, words: &[&[u8]]) -> Result<(), LineFault>
     requires place { reader.old.reading.place ≡ Place.Between }
     requires ready { IsReaderReady reader.old }
-    ensures { GivesReading IsIndexed result reader.new
+    ensures { GivesReadingExactly IsIndexed result reader.new
         (after_steps reader.old.reading (map (λ word. word.now) words.now)) }
 {
     if !words.is_empty() {

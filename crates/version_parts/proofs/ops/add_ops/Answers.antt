@@ -1,14 +1,18 @@
 use Rattle.std.proofs.Common.{◌<◌, length, sym, subst, arith}
+use Rattle.version_parts.specs.InOrder.{ListsInOrder}
 use Rattle.version_parts.specs.Placed.{AreUpTo}
 use Rattle.version_parts.proofs.Updating.{begun, next_is, way_within}
 use Rattle.version_parts.proofs.ops.add_ops.Goals as goal
 
 pub loop-place-init : goal.loop-place-init
-loop-place-init c = begun c.args.update c.args.ops.now c.args.lists.now c.requires.before c.requires.passes
+loop-place-init c = begun c.args.update c.args.ops.now c.args.lists.now c.requires.before c.requires.order c.requires.passes
 
 pub returns-in_err-add_op-clause-within : goal.returns-in_err-add_op-clause-within
 returns-in_err-add_op-clause-within c =
     subst (AreUpTo c.args.update) (sym c.in_err-add_op.ensures.err) (way_within c.args.update c.loop-place.place c.args.ops.now c.args.lists.now c.loop-place.lists c.loop-place.invariant)
+
+pub returns-in_err-add_op-clause-order : goal.returns-in_err-add_op-clause-order
+returns-in_err-add_op-clause-order c = subst ListsInOrder (sym c.in_err-add_op.ensures.err) c.loop-place.invariant.order
 
 pub loop-place-preserved : goal.loop-place-preserved
 loop-place-preserved c =
@@ -17,3 +21,6 @@ loop-place-preserved c =
 
 pub returns-clause-within : goal.returns-clause-within
 returns-clause-within c = way_within c.args.update c.loop-place.place c.args.ops.now c.args.lists.now c.loop-place.lists c.loop-place.invariant
+
+pub returns-clause-order : goal.returns-clause-order
+returns-clause-order c = c.loop-place.invariant.order

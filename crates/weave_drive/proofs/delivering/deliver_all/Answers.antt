@@ -34,12 +34,12 @@ returns-in_err-number-clause-drives c = drives-through 0 c.args.core.now c.loop-
 
 pub loop-number-smaller : goal.loop-number-smaller
 loop-number-smaller c =
-    delivering-less c.loop-number.core.state.account c.deliver.new.core.state.account c.args.gate c.args.shard c.loop-number.number _ c.in_ok-number.ensures c.loop-number.invariant.some
+    delivering-less c.loop-number.core.state.account c.deliver.new.core.state.account c.args.gate c.args.shard c.loop-number.number _ c.in_ok-number.ensures.next c.loop-number.invariant.some
     (subst (DeliversMessage c.args.gate c.args.shard c.loop-number.number c.loop-number.core.state.account c.deliver.new.core.state.account) c.if-branch.true c.in_ok-deliver.ensures.delivers)
 
 pub loop-number-preserved : goal.loop-number-preserved
 loop-number-preserved c =
-    delivering-next c.args.core.now c.loop-number.core c.deliver.new.core c.args.gate c.args.shard c.loop-number.number _ c.in_ok-number.ensures
+    delivering-next c.args.core.now c.loop-number.core c.deliver.new.core c.args.gate c.args.shard c.loop-number.number _ c.in_ok-number.ensures.next
     (step-on 0 0 c.the_crates_below_keep_their_laws.ensures c.args.core.now c.loop-number.core c.deliver.new.core c.script.ensures.limits c.script.ensures.core c.loop-number.invariant.drives c.deliver.ensures.drives)
     c.loop-number.invariant c.deliver.ensures.drives
     (subst (DeliversMessage c.args.gate c.args.shard c.loop-number.number c.loop-number.core.state.account c.deliver.new.core.state.account) c.if-branch.true c.in_ok-deliver.ensures.delivers)

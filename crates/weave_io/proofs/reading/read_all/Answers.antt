@@ -1,4 +1,4 @@
-use Rattle.std.proofs.Common.{◌≡◌, ℕ, Ok, [], ap, refl, take, arith}
+use Rattle.std.proofs.Common.{ℕ, Ok, [], ap, refl, take, arith}
 use Rattle.std.proofs.lemmas.List.{length-append, length-take, length-take-le}
 use Rattle.std.proofs.lemmas.Result.{err_from_is_err_and}
 use Rattle.weave_io.specs.Told.{Tells}

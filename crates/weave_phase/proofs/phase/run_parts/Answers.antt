@@ -8,11 +8,11 @@ use Rattle.weaver_locks.specs.Hands.{hand_number, IsHand}
 use Rattle.weaver_workers.specs.Phases.{phase_end}
 use Rattle.workers_account.specs.Phase.{IsPhaseRun}
 use Rattle.weave_phase.specs.declared.seats.Seat.{Seat}
-use Rattle.weave_phase.specs.Ran.{PartsAreOpened}
+use Rattle.weave_phase.specs.Ran.{PartsAreOpened, WorkersHaveEnded}
 use Rattle.weave_phase.specs.Seats.{hand_in, ArePutBack, AreTaken, HaveRun}
 use Rattle.weave_phase.proofs.JoinedParts.{parts-go-on}
 use Rattle.weave_phase.proofs.Opened.{clients-in-slots, written}
-use Rattle.weave_phase.proofs.PhaseParts.{all-back, client-none, client-there, hands-are, hands-count, machines-start, many-clients, many-left, run-is, seated, seats-enough, whole-run}
+use Rattle.weave_phase.proofs.PhaseParts.{all-back, all-ended, client-none, client-there, hands-are, hands-count, machines-start, many-clients, many-left, run-is, seated, seats-enough, whole-run}
 use Rattle.weave_phase.proofs.RanSeats.{all-numbers}
 use Rattle.weave_phase.proofs.ReadySeats.{ready-seat}
 use Rattle.weave_phase.proofs.phase.run_parts.Goals as goal
@@ -332,6 +332,8 @@ returns g c =
     let hands_are = c.in_ok-hands.ensures.hands ∙ ap (map (λ (seat : Seat). hand_in seat.worker)) all in
     let phase_run = subst (λ (l : List Hand). IsPhaseRun shared split.script (phase_end split.script c.args.phase) (account_of split) split.clients.items left l) (sym hands_are)
     (whole-run laws c.args.phase split parts shared hands sessions opened seats dealt after ran done between slots taken back left left_is) in
+    let ended = subst (λ (l : List Hand). WorkersHaveEnded shared split.script c.args.phase left l) (sym hands_are)
+    (all-ended laws c.args.phase split parts shared hands sessions opened seats dealt after ran done between slots taken back left left_is c.requires.all) in
     let closed = c.close-gates.ensures in
     parts-go-on laws c.args.phase split parts shared c.in_ok-hands.hands.items
     (record {
@@ -343,7 +345,7 @@ returns g c =
       clients = c.in_ok-clients.clients;
       notices = split.notices;
     })
-    refl refl phase_run
+    refl refl phase_run ended
     (let n = closed.gates in let k = c.close-gates.result.gates.ok.0 in omega (arith, n, k))
     (let n = closed.shards in let k = c.close-gates.result.shards.ok.0 in omega (arith, n, k))
     closed.order closed.legal closed.within closed.of_hands closed.made

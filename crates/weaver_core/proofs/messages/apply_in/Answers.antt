@@ -19,7 +19,7 @@ pub returns-in-Err-clause-applies : goal.returns-in-Err-clause-applies
 returns-in-Err-clause-applies c =
     if_ok_map c.answer_to.result _ _
     (λ (answer : StepAnswer) is. answers-fault c.args.shards.now c.apply.new.self c.args.shard c.args.gate c.in-Err.fault c.in-Err.ensures.unapplied c.in-Err.ensures.refused answer is)
-    c.answer_to.ensures
+    c.answer_to.ensures.answer
 
 pub returns-in-Err-clause-refused : goal.returns-in-Err-clause-refused
 returns-in-Err-clause-refused c = on_err_known _ _ c.in-Err.ensures.refused

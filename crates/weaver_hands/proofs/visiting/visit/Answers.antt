@@ -7,7 +7,8 @@ use Rattle.weave_entries.specs.OracleReplay.{pairs_of_log}
 use Rattle.weave_entries.specs.ShardReplay.{updates_of}
 use Rattle.weave_entries.specs.ShardRules.{updates_read}
 use Rattle.std.specs.Prelude.{take}
-use Rattle.path_program.specs.AnyPrograms.{next_read, HasRead}
+use Rattle.path_program.specs.AnyPrograms.{any_of, next_read, HasRead}
+use Rattle.program_defs.specs.Visits.{next_visit}
 use Rattle.shard_node.specs.declared.fault.VisitFault.{VisitFault}
 use Rattle.shard_node.specs.declared.fault.VisitFault.TheVariants as unread
 use Rattle.weaver_core.specs.declared.walks.Running.{Running}
@@ -16,7 +17,7 @@ use Rattle.weaver_locks.specs.declared.hand.Hand.{Hand}
 use Rattle.weaver_locks.specs.Locks.{gate_count, shard_count}
 use Rattle.weaver_locks.specs.ShardHolds.{VisitsIn}
 use Rattle.weaver_hands.specs.Faults.{visit_fault}
-use Rattle.weaver_hands.specs.Programs.{ReadsNoMore, VisitsAs}
+use Rattle.weaver_hands.specs.Programs.{own_reads, ReadsNoMore, VisitsAs}
 use Rattle.weaver_hands.proofs.Alone.{alone-if-none, none-at-shard}
 use Rattle.weaver_hands.proofs.Running.{gains, in-turn, roomy, runs-here, runs-on, shard-there, still-runs}
 use Rattle.weaver_hands.proofs.visiting.visit.Goals as goal
@@ -82,11 +83,11 @@ returns-in-Ok-clause-running g c =
 
 -- what is answered if the shard refused
 refused : (gates shards : ℕ) (old new : Hand) (was is : Running) (v : Name) (s : ℕ) (fault : VisitFault) → next_read was.walk ≡ Some v
-    → s ≡ shard_of v shards → VisitsIn gates shards old new s was.request was.stamp v (Err fault) → ReadsNoMore was is
+    → next_visit (own_reads old was.request) (any_of was.walk) ≡ Some v → s ≡ shard_of v shards → VisitsIn gates shards old new s was.request was.stamp v (Err fault) → ReadsNoMore was is
     → VisitsAs gates shards old new was is (Err (visit_fault s fault))
-refused gates shards old new was is v s (unread.Again gate) next at visits still =
-    record { vertex = v; next_is = next; shard_is = at; visits = visits; still = still }
-refused gates shards old new was is v s unread.Memory next at visits still = (none-at-shard old new s visits.before visits.was, still)
+refused gates shards old new was is v s (unread.Again gate) next turn at visits still =
+    record { vertex = v; next_is = next; in_turn = turn; shard_is = at; visits = visits; still = still }
+refused gates shards old new was is v s unread.Memory next turn at visits still = (none-at-shard old new s visits.before visits.was, still)
 
 pub returns-in-Err-clause-done : goal.returns-in-Err-clause-done
 returns-in-Err-clause-done g c =
@@ -96,9 +97,13 @@ returns-in-Err-clause-done g c =
     let was = c.args.running.now in
     let is : Running = record { request = was.request; stamp = was.stamp; walk = c.ready.new.self } in
     let v = c.in-Some.vertex in
+    let runs = c.requires.running in
+    let turn : next_visit (own_reads old was.request) (any_of was.walk) ≡ Some v =
+    sym (c.order_of_reads_is_free.ensures.next runs.reads (own_reads old was.request) (any_of was.walk) runs.same)
+    ∙ sym (c.next_vertex.ensures.visit runs.reads runs.walk) ∙ c.in-Some.is in
     subst (λ fault. VisitsAs (gate_count shared) (shard_count shared) old new was is (Err fault)) (sym c.of_visit.ensures)
     (refused (gate_count shared) (shard_count shared) old new was is v c.shard-shard.result c.in-Err.fault
-    (sym c.next_vertex.ensures.next ∙ c.in-Some.is) (c.shard-shard.ensures ∙ ap (λ n. shard_of v n) c.shards.ensures) c.in-Err.ensures.hold
+    (sym c.next_vertex.ensures.next ∙ c.in-Some.is) turn (c.shard-shard.ensures ∙ ap (λ n. shard_of v n) c.shards.ensures) c.in-Err.ensures.hold
     (record {
       request_is = refl;
       stamp_is = refl;

@@ -7,6 +7,7 @@ use Rattle.weaver_locks.specs.Locks.{shard_count}
 use Rattle.weaver_hands.specs.Transactions.{Transacts}
 use Rattle.weaver_workers.proofs.Deeds.{asked-there, changed, few-ops, refused}
 use Rattle.weaver_workers.proofs.ReadOn.{if-ok}
+use Rattle.weaver_workers.proofs.Refusals.{refuses-transaction}
 use Rattle.weaver_workers.proofs.changing.try_change.Goals as goal
 
 pub transact-requires-clause-new : goal.transact-requires-clause-new
@@ -47,6 +48,11 @@ returns-in_ok-answer_change-in-Ok g c upto below =
       answered = tt;
     }
 
+pub tried_in_vain-requires : goal.tried_in_vain-requires
+tried_in_vain-requires g c =
+    refuses-transaction (shard_count c.args.shared.now) c.args.hand.now c.transact.new.hand c.index-as_slice-request.result.gate
+    c.args.request c.args.ops.now _ c.in-Err.fault c.in-Err.ensures.done
+
 pub returns-in-Err : goal.returns-in-Err
 returns-in-Err g c =
     let asked = c.index-as_slice-request.result in
@@ -59,4 +65,4 @@ returns-in-Err g c =
       request_is = asked_is;
       turn = subst (λ (s : SessionState). IsInTurn s c.args.request) (sym c.reserve.ensures.same.session) c.requires.turn;
       below = below;
-    }) c.args.ops.now (c.requires.work asked asked_is) _ c.in-Err.fault tried c.in-Err.ensures.done is) c.tried_in_vain.ensures
+    }) c.args.ops.now (c.requires.work asked asked_is) _ c.in-Err.fault tried c.in-Err.ensures.done is) c.tried_in_vain.ensures.tried

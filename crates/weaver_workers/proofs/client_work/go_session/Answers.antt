@@ -37,7 +37,7 @@ returns-in-Some-ended_by-clause-ends g c =
     let request = c.in-Some-next_below.request in
     let parts = given-below c.args.upto request c.loop.client c.next_below.result c.next_below.ensures.next c.in-Some-next_below.is in
     ends-by c.args.shared.now c.args.script.now c.args.upto (stand c.try_next.new.hand c.try_next.new.client) c.in_ok-tried.tried
-    c.ended_by.result c.in-Some-ended_by.ended c.ended_by.ensures c.in-Some-ended_by.is
+    c.busy_after-busy.result c.ended_by.result c.in-Some-ended_by.ended c.ended_by.ensures c.in-Some-ended_by.is
     (c.in_ok-tried.ensures c.args.upto parts.1).answered
     (let goes = (c.in_ok-tried.ensures c.args.upto parts.1).goes in
     goes-below c.args.shared.now c.args.script.now c.args.number c.args.upto goes.path (stand c.loop.hand c.loop.client)

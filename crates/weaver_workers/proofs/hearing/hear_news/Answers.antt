@@ -22,7 +22,7 @@ pub returns-then-is_last-clause-news : goal.returns-then-is_last-clause-news
 returns-then-is_last-clause-news g c other = record {
   clock = c.listen-clock.result;
   said = c.listen-clock.ensures.said;
-  told = still-told _ _ c.args.to _ (c.requires.told c.args.from _ (c.is_last.ensures (search rules)))
+  told = still-told _ _ c.args.to _ (c.requires.told c.args.from _ (c.is_last.ensures.told (search rules)))
       (c.listen-clock.ensures.there c.args.to).carries.only;
 }
 

@@ -10,5 +10,5 @@ returns-clause-goes g c = if-ok c.visit_next.result
 pub returns-clause-read : goal.returns-clause-read
 returns-clause-read g c = if-ok c.visit_next.result
     (read-as c.workers_keep_their_laws.ensures c.args.shared.now c.args.client.now c.args.hand.now c.visit_next.new.hand
-    c.in-Some.running c.visit_next.new.running c.in-Some.is c.visit_next.ensures.hand c.visit_next.ensures.running)
+    c.in-Some.running c.visit_next.new.running c.in-Some.is c.visit_next.ensures.hand c.visit_next.ensures.running c.requires.hand)
     c.visit_next.ensures.read

@@ -1,4 +1,4 @@
-use Rattle.std.proofs.Common.{ℕ, inl, ◌≤◌, length, None, is_some, true, false, ◌≡◌, ◌≢◌, ◌++◌, ◌∷◌, [], List, All, Contains, ◌⊎◌, refl, sym, ap, subst, ◌∙◌}
+use Rattle.std.proofs.Common.{inl, ◌≤◌, length, None, is_some, true, false, ◌≡◌, ◌≢◌, ◌++◌, ◌∷◌, [], List, All, Contains, ◌⊎◌, refl, sym, ap, subst, ◌∙◌}
 use Rattle.std.proofs.lemmas.Result.{err_from_is_err_and}
 use Rattle.vector_stamp.specs.declared.clock.Stamp.{Stamp}
 use Rattle.vector_stamp.specs.Order.{id_of}

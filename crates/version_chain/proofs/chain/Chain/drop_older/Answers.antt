@@ -39,7 +39,7 @@ invariant_of-self c =
     let inside = older_inside c.args.bound.now c.self.inside.dropped c.older_versions-older.result c.self.inside.parts c.self.inside.stamps.items c.self.invariant is some in
     let after : c.drop-drain.new.self.0.items ≡ drop c.older_versions-older.result c.self.inside.stamps.items = c.drop-drain.ensures.items ∙ c.drain.ensures.kept in
     subst (IsKept (c.self.inside.dropped + c.older_versions-older.result) c.collect.new.self) (sym after)
-    (collected_kept c.self.inside.dropped c.older_versions-older.result c.self.inside.parts c.collect.new.self c.self.inside.stamps.items c.self.invariant some inside c.collect.ensures.states (c.collect.ensures.within (c.self.inside.dropped + length c.self.inside.stamps.items) c.self.invariant.within) c.collect.ensures.counts c.collect.ensures.oldest)
+    (collected_kept c.self.inside.dropped c.older_versions-older.result c.self.inside.parts c.collect.new.self c.self.inside.stamps.items c.self.invariant some inside c.collect.ensures.states (c.collect.ensures.within (c.self.inside.dropped + length c.self.inside.stamps.items) c.self.invariant.within) c.collect.ensures.later c.collect.ensures.oldest)
 
 pub returns : goal.returns
 returns c =

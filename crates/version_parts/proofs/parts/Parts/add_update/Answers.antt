@@ -1,11 +1,14 @@
 use Rattle.std.proofs.Common.{◌≡◌, ◌≤◌, ◌<◌, ◌+◌, true, IsTrue, sym, ap, subst, ◌∙◌, arith}
 use Rattle.graph_ops.specs.Operations.{State}
 use Rattle.graph_ops.specs.VertexOps.{state_after_ops, none_refused}
+use Rattle.version_parts.specs.declared.cut.Cut.TheVariants.{Newer}
 use Rattle.version_parts.specs.declared.time.Time.{Time}
 use Rattle.version_parts.specs.Counts.{count_updates, count_in_lists}
+use Rattle.version_parts.specs.InOrder.{ListsInOrder}
 use Rattle.version_parts.specs.Placed.{AreUpTo}
 use Rattle.version_parts.specs.States.{state_at}
 use Rattle.version_parts.proofs.Placing.{lists_weaker, state_past, until_within}
+use Rattle.version_parts.proofs.Sequences.{lists_order}
 use Rattle.version_parts.proofs.Updating.{undone_counts, undone_states}
 use Rattle.version_parts.proofs.parts.Parts.add_update.Goals as goal
 
@@ -19,8 +22,10 @@ add_ops-requires-clause-passes c =
     subst (λ (state : State). IsTrue (none_refused c.args.ops.now state)) (sym same) c.requires.passes
 
 pub invariant_of-self-in-Err : goal.invariant_of-self-in-Err
-invariant_of-self-in-Err c =
-    c.self.invariant ∙ sym (ap count_in_lists c.cut.ensures ∙ undone_counts c.args.before c.self.inside.lists c.add_ops.new.lists (subst (AreUpTo c.args.before) (sym c.self.view_is) c.requires.within) c.add_ops.ensures.others (λ update. true))
+invariant_of-self-in-Err c = record {
+  count = c.self.invariant.count ∙ sym (ap count_in_lists c.cut.ensures ∙ undone_counts c.args.before c.self.inside.lists c.add_ops.new.lists (subst (AreUpTo c.args.before) (sym c.self.view_is) c.requires.within) c.add_ops.ensures.others (λ update. true));
+  order = subst ListsInOrder (sym c.cut.ensures) (lists_order (Newer c.args.before) c.add_ops.new.lists c.add_ops.ensures.order);
+}
 
 pub returns-in-Ok-clause-state : goal.returns-in-Ok-clause-state
 returns-in-Ok-clause-state c =

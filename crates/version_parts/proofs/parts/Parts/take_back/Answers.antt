@@ -8,10 +8,10 @@ use Rattle.version_parts.proofs.Placing.{until_within}
 use Rattle.version_parts.proofs.parts.Parts.take_back.Goals as goal
 
 pub returns-clause-states : goal.returns-clause-states
-returns-clause-states c = λ update within. ap (state_at update) c.cut.ensures ∙ until_stays c.args.newest update c.args.self.now within
+returns-clause-states c = λ update within. ap (state_at update) c.cut.ensures.items ∙ until_stays c.args.newest update c.args.self.now within
 
 pub returns-clause-within : goal.returns-clause-within
-returns-clause-within c = subst (AreUpTo c.args.newest) (sym c.cut.ensures) (until_within c.args.newest c.args.self.now)
+returns-clause-within c = subst (AreUpTo c.args.newest) (sym c.cut.ensures.items) (until_within c.args.newest c.args.self.now)
 
 pub returns-clause-counts : goal.returns-clause-counts
-returns-clause-counts c = λ test. ap (count_updates test) c.cut.ensures ∙ until_count test c.args.newest c.args.self.now
+returns-clause-counts c = λ test. ap (count_updates test) c.cut.ensures.items ∙ until_count test c.args.newest c.args.self.now
