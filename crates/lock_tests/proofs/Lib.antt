@@ -9,5 +9,6 @@ pub mod Opening
 pub mod Options
 pub mod Quiet
 pub mod Read
+pub mod Seated
 pub mod Sending
 pub mod SentRun

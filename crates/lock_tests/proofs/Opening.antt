@@ -1,5 +1,5 @@
 -- The hands that come with new locks are unused, and those who have them are players and workers.
--- Used by `new_locks` and `open`.
+-- Used by `new_locks`, `open` and Seated.
 use Rattle.std.proofs.Common.{eqb, filter, ◌≡◌, ℕ, ◌<◌, List, [], length, map, get_or, sym, ap, ◌∙◌, subst, arith, Contains}
 use Rattle.std.proofs.lemmas.List.{get_or-map, length-map}
 use Rattle.weave_data.proofs.Members.{has_none}
@@ -40,7 +40,8 @@ each-owner P owner shared hands are one k x low =
     subst (P k) (sym (get_or-map owner hands k d x there)) (one k (get_or hands k d) (are k d there))
 
 module _ (shared : Shared) (number : ℕ) (hand : Hand) (is : IsUnusedHand shared number hand) where
-  made-none : (home : ℕ) → gate_log (made_by hand) home ≡ []
+  -- it has made no entry at gatekeepers
+  pub made-none : (home : ℕ) → gate_log (made_by hand) home ≡ []
   made-none home = own-gate shared hand is.is_hand home
       ∙ ap (filter (λ (entry : GateEntry). eqb entry.author (hand_number hand))) (is.no_entry home)
 
@@ -61,7 +62,8 @@ module _ (shared : Shared) (number : ℕ) (hand : Hand) (is : IsUnusedHand share
   new-player : IsNumberedPlayer shared number (player_of hand)
   new-player = record { is = record { worker = player-worker; step = tt }; number_is = is.number_is }
 
-  ready-worker : OwnRequestLaws → IsWorkerOf shared hand 0 (worker_of hand).last (worker_of hand).walk
+  -- its worker is ready
+  pub ready-worker : OwnRequestLaws → IsWorkerOf shared hand 0 (worker_of hand).last (worker_of hand).walk
   ready-worker laws = record {
     is_hand = is.is_hand;
     fresh = λ r low home begun h. absurd (none-begun hand made-none home begun h);

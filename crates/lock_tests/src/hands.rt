@@ -5,7 +5,7 @@ mod answer_texts;
 #[cfg(test)]
 mod bench;
 #[cfg(test)]
-mod calls;
+pub(crate) mod calls;
 #[cfg(test)]
 mod many;
 #[cfg(test)]
@@ -19,7 +19,7 @@ mod programs;
 #[cfg(test)]
 mod replies;
 #[cfg(test)]
-mod right_report;
+pub(crate) mod right_report;
 #[cfg(test)]
 mod rows;
 #[cfg(test)]

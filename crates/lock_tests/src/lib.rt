@@ -1,6 +1,6 @@
-//! The tests of locks: the lock itself, a row of locks, all machines behind locks with each call of `Shared`, and in
-//! `hands` what hands do with these calls. There is nothing but tests here, and the types of what a hand's next calls
-//! rely on, which definitions name.
+//! The tests of locks: the lock itself, a row of locks, all machines behind locks with each call of `Shared`, in
+//! `hands` what hands do with these calls, and in `turns` what a phase's workers do with hands. There is nothing but
+//! tests here, and the types of what a hand's next calls rely on, which definitions name.
 #![tactic(auto)]
 
 #[cfg(test)]
@@ -34,6 +34,7 @@ mod texts;
 mod thread_rows;
 #[cfg(test)]
 mod threads;
+pub mod turns;
 #[cfg(test)]
 mod values;
 pub mod worker;

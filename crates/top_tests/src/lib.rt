@@ -28,4 +28,6 @@ mod top_paces;
 #[cfg(test)]
 mod top_runs;
 #[cfg(test)]
+mod top_threads;
+#[cfg(test)]
 mod top_traces;
