@@ -9,7 +9,7 @@ use Rattle.program_defs.specs.declared.script.Script.{Script}
 use Rattle.vector_stamp.specs.declared.clock.Stamp.{Stamp}
 use Rattle.weave_entries.specs.declared.gate_log.GateEntry.{GateEntry}
 use Rattle.weave_entries.specs.declared.session_log.SessionEntry.{SessionEntry}
-use Rattle.weave_entries.specs.GateReplay.{txs_of}
+use Rattle.weave_entries.specs.GateReplay.{flight_of}
 use Rattle.weave_entries.specs.SessionReplay.{session_start, SessionState}
 use Rattle.weave_account.specs.Sessions.{requests_of_session}
 use Rattle.weaver_core.specs.declared.client.Client.{Client}
@@ -50,8 +50,7 @@ module _ (shared : Shared) (number : ℕ) (hand : Hand) (is : IsUnusedHand share
   pub idle-new : IsIdleHand shared hand
   idle-new = record {
     is_hand = is.is_hand;
-    landed = λ home begun h. absurd (has_none begun
-        (subst (λ (l : List GateEntry). Contains (txs_of l) begun) (made-none shared number hand is home) h));
+    landed = λ home. ap (λ (log : List GateEntry). flight_of log) (made-none shared number hand is home);
   }
 
   -- and is ready for a session's client before its first request

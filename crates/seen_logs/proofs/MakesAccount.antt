@@ -1,6 +1,6 @@
 -- Logs that keep their rules, refer to nothing but themselves and follow the script are an account.
--- Used by `begun_programs_are_enough`, `logs_make_an_account`, ExampleRun, NotBegun, Reading and crates hands_account
--- and weaver_locks.
+-- Used by `begun_programs_are_enough`, `logs_make_an_account`, ExampleRun, NotBegun, Reading and crates hands_account,
+-- weaver_locks and workers_account.
 use Rattle.std.proofs.Common.{◌≡◌, ◌≢◌, ℕ, ◌<◌, Bool, true, false, cond, List, [], ◌∷◌, ◌++◌, length, map, Contains, IsTrue, AllPairs, inl, inr, sym, ap, subst, ◌∙◌, append_assoc, arith}
 use Rattle.std.specs.Prelude.{All}
 use Rattle.std.specs.List.{filter, flat_map}

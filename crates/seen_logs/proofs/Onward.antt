@@ -1,5 +1,5 @@
 -- What a hand has seen goes on: what it made earlier refers to what was seen then, and so to what is seen now.
--- Used by `asked_pairs_precede`, `hands_see_more`, `own_visits_stay`, Closing, Noting, Reading and 5 crates above.
+-- Used by `asked_pairs_precede`, `hands_see_more`, `own_visits_stay`, Closing, Noting, Reading and 6 crates above.
 use Rattle.std.proofs.Common.{◌≡◌, ℕ, ◌<◌, ◌≤◌, List, [], ◌∷◌, ◌++◌, length, drop, Contains, ◌⊎◌, inl, inr, refl, sym, ap, subst, ◌∙◌, arith}
 use Rattle.std.proofs.lemmas.Bool.{cases_Bool, cases_lt}
 use Rattle.std.proofs.lemmas.List.{drop-append-le, length-append}

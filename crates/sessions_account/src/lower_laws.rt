@@ -7,7 +7,9 @@ use hands_account::laws::{
 };
 use program_defs::laws::visits_go_on;
 use seen_logs::laws::programs_read_what_was_seen;
-use weave_account::laws::{facts_stay_true, requests_end_or_go_on, requests_of_a_session_rise};
+use weave_account::laws::{
+    begun_stamps_are_coherent, facts_stay_true, requests_end_or_go_on, requests_of_a_session_rise,
+};
 use weave_entries::laws::{
     begun_and_replied_are_decided, requests_end, sessions_go_in_turn, what_has_not_ended_goes_on,
 };
@@ -28,6 +30,7 @@ pub(crate) fn sessions_keep_their_laws()
     ensures { SessionsLaws }
 {
     begun_and_replied_are_decided();
+    begun_stamps_are_coherent();
     calls_leave_others_alone();
     closed_logs_are_an_account();
     closed_logs_go_on();

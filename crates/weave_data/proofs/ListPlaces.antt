@@ -1,5 +1,5 @@
 -- Facts in turn and of each, from what holds at each place.
--- Used by 7 crates above.
+-- Used by 8 crates above.
 use Rattle.std.proofs.Common.{◌≡◌, Bool, true, false, not, ◌||◌, List, [], ◌∷◌, ◌++◌, Contains, IsTrue, refl, ◌∙◌}
 use Rattle.std.specs.List.{AllByRecursion, list_all}
 use Rattle.std.proofs.lemmas.Bool.{and_from}

@@ -32,8 +32,9 @@ use Rattle.workers_account.proofs.GoneOn.{keeps-at-end}
 use Rattle.weave_phase.specs.declared.seats.Seat.{Seat}
 use Rattle.weave_phase.specs.Parts.{AreReadyParts}
 use Rattle.weave_phase.specs.Ran.{PartsAreOpened, AreSeated, HaveRunPhase, IsHandAtStart, WorkersHaveEnded}
-use Rattle.weave_phase.specs.Seats.{client_in, hand_in, SeatsAreDealt, ArePutBack, AreTaken, HaveRun}
+use Rattle.weave_phase.specs.Seats.{client_in, hand_in, has_done_its_part, SeatsAreDealt, ArePutBack, AreTaken, HaveRun}
 use Rattle.weave_phase.specs.StartLaws.{StartLaws}
+use Rattle.weave_phase.proofs.Ran.{works-if-done}
 use Rattle.weave_phase.proofs.RanSeats.{hands-after, in-or-not, phase-run, workers-ended}
 use Rattle.weave_phase.proofs.ReadySeats.{something-at}
 
@@ -126,7 +127,7 @@ module _ (laws : StartLaws) (phase : ℕ) (split : Split) (parts : AreReadyParts
       -- When they have run
 
       module _ (after : List Seat) (ran : HaveRun shared script phase seats after)
-          (done : (k : ℕ) (seat : Seat) → slice_get after k ≡ Some seat → seat.done ≡ true) where
+          (done : (k : ℕ) (seat : Seat) → slice_get after k ≡ Some seat → has_done_its_part seat ≡ true) where
         was : (k : ℕ) (seat : Seat) → slice_get after k ≡ Some seat → (before : Seat) × (slice_get seats k ≡ Some before)
         was k seat at = something-at seats k (let low = slice_get_within after k seat at in let many = ran.many in omega (arith, low, many))
 
@@ -134,7 +135,7 @@ module _ (laws : StartLaws) (phase : ℕ) (split : Split) (parts : AreReadyParts
         hand-was k seat at = something-at hands k (let low = slice_get_within after k seat at in let many = ran.many in let all = dealt.many in omega (arith, low, many, all))
 
         works : (k : ℕ) (seat : Seat) (at : slice_get after k ≡ Some seat) → (ended : Ended) × Works shared script phase (was k seat at).0.worker seat.worker ended
-        works k seat at = ran.each k (was k seat at).0 seat (was k seat at).1 at (done k seat at)
+        works k seat at = works-if-done shared script phase (was k seat at).0 seat (ran.each k (was k seat at).0 seat (was k seat at).1 at) (done k seat at)
 
         -- after they have run, the worker at the place of a session has a client
         pub client-there : (k : ℕ) (seat : Seat) → slice_get after k ≡ Some seat → k < length sessions → (client : Client) × (client_in seat.worker ≡ Some client)

@@ -31,6 +31,7 @@ use Rattle.weave_phase.specs.declared.seats.Seat.{Seat}
 use Rattle.weave_phase.specs.Ran.{AreSeated, HaveRunPhase, IsHandAtStart, WorkersHaveEnded}
 use Rattle.weave_phase.specs.Seats.{client_in, hand_in, IsDealt}
 use Rattle.weave_phase.specs.StartLaws.{StartLaws}
+use Rattle.weave_phase.proofs.Ran.{works-if-done}
 use Rattle.weave_phase.proofs.ReadySeats.{client-keeps, something-at}
 
 -- Rows
@@ -158,7 +159,7 @@ module _ (laws : StartLaws) (shared : Shared) (script : Script) (phase : ℕ) (s
     of = seated.dealt.each k hand-was.0 was.0 hand-was.1 was.1
 
     works : (ended : Ended) × Works shared script phase (was.0).worker seat.worker ended
-    works = ran.ran.each k was.0 seat was.1 at (ran.done k seat at)
+    works = works-if-done shared script phase was.0 seat (ran.ran.each k was.0 seat was.1 at) (ran.done k seat at)
 
     -- its worker ran, if it is a session's
     ran-for : (low : k < length sessions) → ClientRan shared script phase (of.session low).session hand-was.0 (of.session low).client seat.worker

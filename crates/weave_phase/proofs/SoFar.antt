@@ -1,7 +1,7 @@
 -- If the next worker is seated, or unseated, one more is; in the end all have their seats, or all clients are back in
 -- their places.
 -- Used by `seat_all` and `unseat_all`.
-use Rattle.std.proofs.Common.{◌≡◌, ℕ, ◌+◌, ◌<◌, ◌≤◌, false, List, [], ◌∷◌, ◌++◌, AllPairs, Contains, length, map, get_or, slice_get, slice_set, Option, None, Some, inl, inr, refl, sym, ap, subst, ◌∙◌, arith, length-set}
+use Rattle.std.proofs.Common.{◌≡◌, ℕ, ◌+◌, ◌<◌, ◌≤◌, List, [], ◌∷◌, ◌++◌, AllPairs, Contains, length, map, get_or, slice_get, slice_set, Option, None, Some, inl, inr, refl, sym, ap, subst, ◌∙◌, arith, length-set}
 use Rattle.std.specs.Option.{option_map}
 use mathlib.Core.Logic.{dite}
 use native.Mathlib.Decide.{ℕ_discrete}
@@ -27,7 +27,7 @@ pub record SeatedSoFar (sessions : List ℕ) (gates k : ℕ) (hands : List Hand)
   pub many : length seats ≡ k
   pub each : (clients : List Client) → map Some clients ≡ old → (j : ℕ) (hand : Hand) (seat : Seat) → slice_get hands j ≡ Some hand
       → slice_get seats j ≡ Some seat → IsDealt sessions gates clients j hand seat.worker
-  pub undone : (j : ℕ) (seat : Seat) → slice_get seats j ≡ Some seat → seat.done ≡ false
+  pub undone : (j : ℕ) (seat : Seat) → slice_get seats j ≡ Some seat → seat.answer ≡ None
   pub long : length now ≡ length old
   pub taken : (j session : ℕ) → j < k → slice_get sessions j ≡ Some session → slice_get now session ≡ Some None
   pub left : (session : ℕ) → NotBefore sessions k session → slice_get now session ≡ slice_get old session
@@ -91,7 +91,7 @@ module _ (sessions : List ℕ) (gates k : ℕ) (hands : List Hand) (old now next
     (rising : Rises sessions) (so_far : SeatedSoFar sessions gates k hands old now seats)
     (hand : Hand) (here : slice_get hands k ≡ Some hand) (worker : Worker) (seated : IsSeated sessions gates k hand now next worker) where
   abbrev seat : Seat
-  seat = record { worker = worker; done = false }
+  seat = record { worker = worker; answer = None }
 
   each_more : (clients : List Client) → map Some clients ≡ old → (j : ℕ) (h : Hand) (s : Seat) → slice_get hands j ≡ Some h
       → slice_get (seats ++ seat ∷ []) j ≡ Some s → IsDealt sessions gates clients j h s.worker
@@ -112,7 +112,7 @@ module _ (sessions : List ℕ) (gates k : ℕ) (hands : List Hand) (old now next
     each = each_more;
     undone = λ j s at. elim (push_cases seats seat s j at) [
       | inl before ↦ so_far.undone j s before
-      | inr last ↦ ap (λ (z : Seat). z.done) (sym last.1)
+      | inr last ↦ ap (λ (z : Seat). z.answer) (sym last.1)
     ];
     long = elim (cases_lt k (length sessions)) [
       | inl low ↦

@@ -15,7 +15,7 @@ use Rattle.workers_account.specs.Phase.{IsPhaseStart, WorkerHasEnded}
 use Rattle.workers_account.specs.Ready.{IsAnsweredUpTo}
 use Rattle.workers_account.specs.SessionRuns.{HasNoRequest}
 use Rattle.weave_phase.specs.declared.seats.Seat.{Seat}
-use Rattle.weave_phase.specs.Seats.{SeatsAreDealt, AreTaken, ArePutBack, HaveRun}
+use Rattle.weave_phase.specs.Seats.{has_done_its_part, SeatsAreDealt, AreTaken, ArePutBack, HaveRun}
 
 -- a hand that came with the locks, with this number, which has seen the start and no more
 pub record IsHandAtStart (shared : Shared) (number : ℕ) (hand : Hand) : Type 0 where
@@ -40,7 +40,7 @@ pub record AreSeated (shared : Shared) (script : Script) (phase : ℕ) (start : 
 pub record HaveRunPhase (shared : Shared) (script : Script) (phase : ℕ) (sessions : List ℕ) (clients left : List Client)
     (before after : List Seat) : Type 0 where
   pub ran : HaveRun shared script phase before after
-  pub done : (k : ℕ) (seat : Seat) → slice_get after k ≡ Some seat → seat.done ≡ true
+  pub done : (k : ℕ) (seat : Seat) → slice_get after k ≡ Some seat → has_done_its_part seat ≡ true
   pub between : List (Option Client)
   pub taken : AreTaken sessions (map Some clients) between
   pub back : ArePutBack sessions after between (map Some left)

@@ -8,8 +8,8 @@ use Rattle.workers_account.specs.SessionRuns.{WasRunForSession}
 
 -- The core is of the same script. Its logs went on: no transaction is in flight there, requests before `upto` alone
 -- were begun, no epoch was raised, and pairs were added to requests without a reply alone. The phase was run for each
--- session: its requests before `upto` all have their replies, or its client stopped at a gatekeeper that was busy or at
--- a shard that was not ready.
+-- session: its requests before `upto` all have their replies, or the logs show why its client could stop, at a
+-- gatekeeper that was busy or at a shard that was not ready.
 pub record RunsPhase (upto : ℕ) (old new : CoreView) : Type 0 where
   pub script : new.script ≡ old.script
   pub goes_on : GoesOn old.state.account new.state.account

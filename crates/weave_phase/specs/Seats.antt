@@ -1,6 +1,7 @@
 -- The workers of a phase, each with its hand, in the order of their hands' numbers: those of sessions, of gatekeepers
 -- and of shards. No public contract cites this.
-use Rattle.std.specs.Prelude.{◌≡◌, ℕ, ◌+◌, ◌-◌, ◌<◌, ◌≤◌, true, List, length, slice_get, Contains, Option, None, Some}
+use Rattle.std.specs.Prelude.{◌≡◌, ℕ, ◌+◌, ◌-◌, ◌<◌, ◌≤◌, Bool, true, false, List, length, slice_get, Contains, IfOk, Option, None, Some, Result, Ok, Err}
+use Rattle.std.specs.declared.alloc.AllocError.{AllocError}
 use Rattle.program_defs.specs.declared.script.Script.{Script}
 use Rattle.weaver_core.specs.declared.client.Client.{Client}
 use Rattle.weaver_locks.specs.declared.hand.Hand.{Hand}
@@ -41,7 +42,7 @@ pub record IsDealt (sessions : List ℕ) (gates : ℕ) (clients : List Client) (
   pub gate : length sessions ≤ k → k < length sessions + gates → worker ≡ GateWork hand (k - length sessions)
   pub shard : length sessions + gates ≤ k → worker ≡ ShardWork hand (k - (length sessions + gates))
 
--- each hand has its seat, which is not done
+-- each hand has its seat
 pub record SeatsAreDealt (sessions : List ℕ) (gates : ℕ) (clients : List Client) (hands : List Hand) (seats : List Seat)
     : Type 0 where
   pub many : length seats ≡ length hands
@@ -56,12 +57,23 @@ pub record AreTaken (sessions : List ℕ) (old new : List (Option Client)) : Typ
 
 -- After they ran
 
--- a worker that is done has done its part of the phase
-abbrev pub HasRun : Shared → Script → ℕ → Seat → Seat → Type 0
-HasRun shared script phase old new = new.done ≡ true
-    → (ended : Ended) × Works shared script phase old.worker new.worker ended
+-- whether there is an answer, and it is not out of memory
+abbrev pub has_answered : Option (Result Ended AllocError) → Bool
+has_answered None = false
+has_answered (Some (Ok ended)) = true
+has_answered (Some (Err fault)) = false
 
--- each seat's worker has, if it is done
+-- whether the worker of a seat has done its part
+abbrev pub has_done_its_part : Seat → Bool
+has_done_its_part seat = has_answered seat.answer
+
+-- A worker has run, and the seat has its answer. It has done its part of the phase, unless it is out of memory.
+pub record HasRun (shared : Shared) (script : Script) (phase : ℕ) (old new : Seat) : Type 0 where
+  pub answer : Result Ended AllocError
+  pub answer_is : new.answer ≡ Some answer
+  pub works : IfOk answer (Works shared script phase old.worker new.worker)
+
+-- each seat's worker has run
 pub record HaveRun (shared : Shared) (script : Script) (phase : ℕ) (old new : List Seat) : Type 0 where
   pub many : length new ≡ length old
   pub each : (k : ℕ) (was is : Seat) → slice_get old k ≡ Some was → slice_get new k ≡ Some is

@@ -12,7 +12,7 @@ ghost use Rattle.weave_phase.specs.RunsPhase.{RunsPhase};
 use crate::lower_laws::phases_keep_their_laws;
 use crate::rules::{shows_shards, shows_store};
 use crate::running::run_all;
-use crate::seats::{all_done, seat_all, unseat_all};
+use crate::seats::{seat_all, unseat_all};
 use crate::sessions::sessions_of;
 use crate::slots::{from_slots, into_slots};
 use std::alloc::{AllocError, Global};
@@ -25,11 +25,12 @@ use weaver_workers::{Pace, end_of_phase, start_of_phase};
 /// Runs a phase, numbered from 0, on as many threads as it has workers: one for each session with requests in it, each
 /// gatekeeper and each shard. A phase without requests has none. It may wait.
 ///
-/// Each session then has the replies to all its requests before the end of the phase, or its client stopped for one of
-/// two reasons. Its next request is a transaction, and at some time in the phase another one was in flight at its
-/// gatekeeper. Or its program was begun in the phase and has no reply, and at some time in the phase the shard of the
-/// vertex that it visits next was not ready for it. How often the client tried again before it stopped, no clause says.
-/// What is left is for whoever drives the core afterwards.
+/// Each session then has the replies to all its requests before the end of the phase, or the logs show one of two
+/// reasons to stop. Its next request is a transaction, and at some time in the phase, after all that its gatekeeper had
+/// begun for the session, one of another session was in flight there, begun in the phase. Or its program was begun in
+/// the phase and has no reply, each gatekeeper but the program's home has heard of it, and at some time in the phase,
+/// after what it read there, the shard of the vertex that it visits next was not ready for it. That the client tried
+/// meanwhile, no log shows. What is left is for whoever drives the core afterwards.
 ///
 /// The one error is out of memory, and then the core is gone.
 pub fn run_phase<R: Threads + Wait + Sync, P: Pace>(
@@ -96,10 +97,7 @@ fn run_parts<R: Threads + Wait + Sync, P: Pace>(
         phase,
         seats.as_mut_slice(),
         pace,
-    );
-    if !all_done(&seats) {
-        return Err(AllocError);
-    }
+    )?;
     let hands = unseat_all(alloc, seats, &mut slots, sessions)?;
     let clients = from_slots(alloc, slots)?;
     let Closed {

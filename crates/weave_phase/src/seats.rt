@@ -1,20 +1,22 @@
 //! The workers of a phase, each with its hand: they are seated before they run, and unseated after.
-ghost use Rattle.std.specs.Prelude.{◌≡◌, ℕ, ◌<◌, ◌≤◌, ◌^◌, AllPairs, Contains, IfOk, IsTrue, List, None, OnOk, Some, false, length, map, slice_get, slice_set, true, vec_len};
+ghost use Rattle.std.specs.Prelude.{◌≡◌, ℕ, ◌<◌, ◌≤◌, ◌^◌, AllPairs, Contains, IfOk, List, None, OnOk, Some, length, map, slice_get, slice_set, vec_len};
+ghost use Rattle.std.specs.List.{list_all};
 ghost use Rattle.weaver_core.specs.declared.client.Client.{Client};
 ghost use Rattle.weave_phase.specs.OneSeat.{IsSeated, IsUnseated};
-ghost use Rattle.weave_phase.specs.Seats.{client_in, hand_in, SeatsAreDealt, ArePutBack, AreTaken};
+ghost use Rattle.weave_phase.specs.Seats.{client_in, hand_in, has_done_its_part, SeatsAreDealt, ArePutBack, AreTaken};
 ghost use Rattle.weave_phase.specs.declared.seats.Seat.{Seat};
 
 use std::alloc::{AllocError, Global};
 use weaver_core::Client;
 use weaver_locks::Hand;
-use weaver_workers::Worker;
+use weaver_workers::{Ended, Worker};
 
-/// A worker of a phase, and whether it has done its part. It is public for the definitions alone: no call gives one.
+/// A worker of a phase, and what it answered, once it has run. It is public for the definitions alone: no call gives
+/// one.
 #[derive(Drop)]
 pub struct Seat {
     pub(crate) worker: Worker,
-    pub(crate) done: bool,
+    pub(crate) answer: Option<Result<Ended, AllocError>>,
 }
 
 /// Seats the workers, one for each hand: hand k works for the k-th of these sessions, whose client is taken out of its
@@ -35,14 +37,14 @@ pub(crate) fn seat_all(
         → SeatsAreDealt sessions.now gates clients hands.items seats.items) }
     ensures taken { OnOk result (AreTaken sessions.now slots.old.items slots.new.items) }
     ensures undone { IfOk result (λ seats. (k : ℕ) (seat : Seat) → slice_get seats.items k ≡ Some seat
-        → seat.done ≡ false) }
+        → seat.answer ≡ None) }
 {
     let mut seats = Vec::new(alloc);
     for (k, hand) in hands.into_iter().enumerate() {
         let worker = worker_of(k, hand, slots, sessions, gates);
         seats.push(Seat {
             worker,
-            done: false,
+            answer: None,
         })?;
     }
     Ok(seats)
@@ -130,7 +132,14 @@ fn hand_of(k: usize, worker: Worker, slots: &mut Vec<Option<Client>>, sessions: 
 
 /// Whether every worker has done its part.
 pub(crate) fn all_done(seats: &[Seat]) -> bool
-    ensures { IsTrue result → (k : ℕ) (seat : Seat) → slice_get seats.now k ≡ Some seat → seat.done ≡ true }
+    ensures { result ≡ list_all has_done_its_part seats.now }
 {
-    seats.iter().all(|seat| seat.done)
+    seats.iter().all(|seat| is_done(seat))
+}
+
+// Whether the worker of the seat has.
+fn is_done(seat: &Seat) -> bool
+    ensures { result ≡ has_done_its_part seat.now }
+{
+    matches!(seat.answer, Some(Ok(_)))
 }

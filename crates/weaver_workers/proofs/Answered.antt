@@ -1,5 +1,5 @@
 -- The first request of a session without a reply: those before it have theirs, and it is the one that runs or the next.
--- Used by `go_client` and `go_session`.
+-- Used by `go_client`, `go_session`, `look_on` and `read_or_nudge`.
 use Rattle.std.proofs.Common.{◌≡◌, inl, inr, ℕ, zero, suc, ◌+◌, ◌-◌, ◌<◌, ◌≤◌, ◌==◌, Bool, true, false, List, [], ◌∷◌, length, take, get_or, Contains, Option, None, Some, refl, sym, ap, ◌∙◌, subst, arith}
 use Rattle.std.specs.Prelude.{nat_lt, slice_get, IsTrue, if◌then◌else◌}
 use Rattle.std.specs.List.{range_with_len}

@@ -10,7 +10,8 @@ use Rattle.weaver_core.specs.declared.client.Client.{Client}
 use Rattle.weaver_core.specs.declared.walks.Running.{Running}
 use Rattle.weaver_core.specs.Sessions.{log_of_client, requests_in, unanswered_in}
 use Rattle.weaver_locks.specs.declared.shared.Shared.{Shared}
-use Rattle.weaver_workers.specs.ClientWork.{DoesOneCall, Goes, RunsSameProgram, RunsRequestBelow, Stand}
+use Rattle.weaver_workers.specs.ClientWork.{DoesOneCall, Goes, RunsSameProgram, Stand}
+use Rattle.weaver_workers.specs.Turning.{RunsRequestBelow}
 use Rattle.weaver_workers.specs.Keeping.{KeepsClient}
 
 -- none runs

@@ -1,5 +1,5 @@
 -- A hand that made nothing, or only entries that carry, only carries; and one that only carries twice only carries.
--- Used by `other_calls_only_carry`, Called, Deeds, Going, ReadOn and There.
+-- Used by `other_calls_only_carry`, Called, Deeds, Going, Nudged, ReadOn and There.
 use Rattle.std.proofs.Common.{◌≡◌, ℕ, Bool, true, List, [], ◌∷◌, ◌++◌, length, get_or, set, Contains, inl, inr, refl, sym, ap, ◌∙◌, subst, arith, append_assoc}
 use Rattle.std.specs.Prelude.{IsTrue}
 use Rattle.std.proofs.lemmas.Bool.{cases_lt, cases_eq}

@@ -1,6 +1,6 @@
 -- Each thing that a client's worker does, with room reserved first, leaves it able to go on (`WorkerGoesOn`).
 -- Used by `finish_look`, `go_client`, `start_look` and `try_change`.
-use Rattle.std.proofs.Common.{◌≡◌, inl, inr, ℕ, zero, suc, ◌<◌, ◌≤◌, List, [], ◌∷◌, length, get_or, Option, Some, None, Err, refl, sym, ap, ◌∙◌, subst, arith}
+use Rattle.std.proofs.Common.{◌≡◌, inl, inr, ℕ, zero, suc, ◌<◌, ◌≤◌, false, List, [], ◌∷◌, length, get_or, Option, Some, None, Err, refl, sym, ap, ◌∙◌, subst, arith}
 use Rattle.std.specs.Prelude.{is_some, slice_get, IsTrue}
 use Rattle.std.proofs.lemmas.List.{append-nil}
 use Rattle.std.proofs.lemmas.Option.{none-some, same_Some, slice_get-get_or}
@@ -16,7 +16,8 @@ use Rattle.report_rules.specs.declared.report.ReplyState.TheVariants.{Finished}
 use Rattle.report_rules.specs.Lookups.{request_at}
 use Rattle.weave_account.specs.Report.{state_by_verdict}
 use Rattle.weave_entries.specs.declared.gate_log.GateEntry.{GateEntry}
-use Rattle.weave_entries.specs.GateReplay.{flight_of}
+use Rattle.weave_entries.specs.GateReplay.{flight_of, BegunRequest}
+use Rattle.weave_account.specs.Account.{gate_log}
 use Rattle.weave_entries.specs.declared.session_log.SessionDeed.{SessionDeed}
 use Rattle.weave_entries.specs.declared.session_log.SessionDeed.TheVariants.{Begun, Replied}
 use Rattle.weave_entries.specs.declared.session_log.SessionEntry.{SessionEntry}
@@ -27,22 +28,33 @@ use Rattle.weaver_core.specs.declared.walks.Running.{Running}
 use Rattle.weaver_core.specs.Sessions.{log_of_client, requests_in, values_of, values_with_reply, AddsDeed, IsClientOf, IsSameClient, SessionValues}
 use Rattle.weaver_locks.specs.declared.hand.Hand.{Hand}
 use Rattle.weaver_locks.specs.declared.shared.Shared.{Shared}
-use Rattle.weaver_locks.specs.Hands.{IsHand}
+use Rattle.weaver_locks.specs.Hands.{seen_by, IsHand}
 use Rattle.weaver_locks.specs.Locks.{gate_count, shard_count}
 use Rattle.weaver_hands.specs.Programs.{HandFinishes}
 use Rattle.weaver_hands.specs.declared.fault.HandFault.{HandFault}
 use Rattle.weaver_hands.specs.declared.fault.HandFault.TheVariants as hand
-use Rattle.weaver_hands.specs.Transactions.{Transacts, TransactsAs}
+use Rattle.weaver_hands.specs.Transactions.{FoundBusy, Transacts, TransactsAs}
 use Rattle.weaver_workers.specs.declared.tried.Tried.{Tried}
 use Rattle.weaver_workers.specs.declared.tried.Tried.TheVariants.{Busy as AtGate}
-use Rattle.weaver_workers.specs.ClientWork.{reply_with, DoesChange, DoesFinish, DoesStart, WorkerGoesOn, IsNextRequest}
+use Rattle.weaver_workers.specs.ClientWork.{reply_with, DoesChange, DoesFinish, DoesStart, FoundGateBusy, WorkerGoesOn, IsNextRequest}
 use Rattle.weaver_workers.specs.KeepLaws.{KeepLaws}
-use Rattle.weaver_workers.specs.Keeping.{KeepsClient}
+use Rattle.weaver_workers.specs.Keeping.{HasLanded, KeepsClient}
 use Rattle.weaver_workers.specs.Turning.{stand, tried_at, GainsReply, Tries}
 use Rattle.weaver_workers.proofs.Carried.{nothing-at-gate}
 use Rattle.weaver_workers.proofs.Going.{goes-carry, goes-one, goes-reserve, goes-then, same-walk}
+use Rattle.weaver_workers.proofs.Landed.{other-hand}
 use Rattle.weaver_workers.proofs.Kept.{change-keeps, finish-keeps, start-keeps}
 use Rattle.weaver_workers.proofs.ReadOn.{home-there}
+
+-- what is there is a value
+is-there : {A : Type 0} (o : Option A) → IsTrue (is_some o) → (x : A) × (o ≡ Some x)
+is-there None there = absurd cc
+is-there (Some x) there = (x, refl)
+
+-- what is not there is none
+pub nothing-runs : {A : Type 0} (o : Option A) → is_some o ≡ false → o ≡ None
+nothing-runs None none = refl
+nothing-runs (Some x) none = absurd cc
 
 module _ (laws : KeepLaws) where
   -- after one more deed in its log a session is the one that the deed leaves
@@ -116,33 +128,54 @@ module _ (laws : KeepLaws) where
         onward (goes-one shared script number upto (stand old reserved) (stand new after) (inr (inl does))
         (start-keeps laws shared script number (stand old reserved) (stand new after) first.keeps is_hand upto at_end does low session))
 
+    -- a hold in which the gatekeeper was busy only carries
+    waits : (gate : ℕ) → FoundBusy (shard_count shared) old new gate → WorkerGoesOn shared script number upto (stand old reserved) (stand new reserved)
+    waits gate found =
+        goes-carry shared script number upto laws (stand old reserved) (stand new reserved) first.keeps is_hand (record {
+          only = nothing-at-gate (shard_count shared) old new gate found.before found.was;
+          same = record { session = refl; log = refl; replies = refl };
+          running = same-walk reserved.running;
+        })
+
+    -- a transaction of another hand was in flight at the gatekeeper of the session's next request
+    busy-gate : HasLanded new → (r : ℕ) (asked : Request) → IsNextRequest script upto reserved r asked → (ops : List Op) → asked.work ≡ Change ops
+        → (found : FoundBusy (shard_count shared) old new asked.gate) → (flight : BegunRequest) × (flight_of found.before ≡ Some flight)
+        → FoundGateBusy script upto (stand new reserved) asked.gate
+    busy-gate landed r asked next ops work found flies =
+        let seen : flight_of (gate_log (seen_by new) asked.gate) ≡ Some flies.0 =
+        ap (λ (log : List GateEntry). flight_of log) (found.was.left ∙ append-nil found.before) ∙ flies.1 in
+        record {
+          r = r;
+          asked = asked;
+          next = next;
+          ops = ops;
+          work_is = work;
+          gate_is = refl;
+          flight = flies.0;
+          busy = seen;
+          other = other-hand laws shared new is_hand landed asked.gate flies.0 seen;
+        }
+
     -- the gatekeeper was busy, so no transaction was begun
-    pub refused : (r : ℕ) (asked : Request) → IsNextRequest script upto reserved r asked → (ops : List Op) → asked.work ≡ Change ops
+    pub refused : client.running ≡ None → (r : ℕ) (asked : Request) → IsNextRequest script upto reserved r asked → (ops : List Op) → asked.work ≡ Change ops
         → (last : Option Stamp) (fault : HandFault) (answer : Tried)
         → TransactsAs (shard_count shared) old new asked.gate r ops last (Err fault) → tried_at asked.gate fault ≡ Some answer
         → Tries shared script number upto (stand old client) (stand new reserved) answer
-    refused r asked next ops work last hand.Busy answer found is =
+    refused none r asked next ops work last hand.Busy answer found is =
         subst (λ (a : Tried). Tries shared script number upto (stand old client) (stand new reserved) a) (same_Some (AtGate asked.gate) answer is) (record {
-          goes = goes-then shared script number upto (stand old client) (stand old reserved) (stand new reserved) first
-              (goes-carry shared script number upto laws (stand old reserved) (stand new reserved) first.keeps is_hand (record {
-                only = nothing-at-gate (shard_count shared) old new asked.gate found.before found.was;
-                same = record { session = refl; log = refl; replies = refl };
-                running = same-walk reserved.running;
-              }));
+          goes = goes-then shared script number upto (stand old client) (stand old reserved) (stand new reserved) first (waits asked.gate found);
           answered = record {
-            r = r;
-            asked = asked;
-            next = next;
-            ops = ops;
-            work_is = work;
-            gate_is = refl;
-            busy = subst (λ (log : List GateEntry). IsTrue (is_some (flight_of log))) (sym (found.was.left ∙ append-nil found.before)) found.busy;
+            found = busy-gate (waits asked.gate found).keeps.landed r asked next ops work found (is-there (flight_of found.before) found.busy);
+            hold = found;
+            same = record { session = same.session; log = same.log; replies = ap (λ (v : SessionValues). v.replies) same.values };
+            none_before = none;
+            none_after = ap (λ (v : SessionValues). v.running) same.values ∙ none;
           };
         })
-    refused r asked next ops work last (hand.NotYet shard at) answer none is = absurd none
-    refused r asked next ops work last hand.Empty answer none is = absurd none
-    refused r asked next ops work last (hand.Waits vertex) answer none is = absurd none
-    refused r asked next ops work last hand.Memory answer none is = absurd (none-some answer is)
+    refused none r asked next ops work last (hand.NotYet shard at) answer never is = absurd never
+    refused none r asked next ops work last hand.Empty answer never is = absurd never
+    refused none r asked next ops work last (hand.Waits vertex) answer never is = absurd never
+    refused none r asked next ops work last hand.Memory answer stopped is = absurd (none-some answer is)
 
 -- if no element is at a place, the list has ended before it
 none-past : {A : Type 0} (xs : List A) (i : ℕ) → slice_get xs i ≡ None → length xs ≤ i

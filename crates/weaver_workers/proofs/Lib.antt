@@ -1,5 +1,5 @@
 pub mod Rows
-mod Landed
+pub mod Landed
 mod Refusals
 mod Carried
 pub mod Called
@@ -9,8 +9,10 @@ mod Transacted
 mod Kept
 mod Going
 mod Below
+mod BusyTurns
 pub mod ReadOn
 mod Answered
+mod Nudged
 mod Deeds
 mod Programs
 mod StillKept

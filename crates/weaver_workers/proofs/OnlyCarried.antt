@@ -104,11 +104,10 @@ module _ (old new : Hand) (only : OnlyCarries old new) where
 
   -- none of its transactions is in flight
   pub landed-still : HasLanded old → HasLanded new
-  landed-still landed home begun h =
+  landed-still landed home =
       let gains = only.gates home in
       subst (λ (log : List GateEntry). LandedIn log) (sym gains.log)
       (landed-on (gate_log (made_by old) home) gains.added (landed home) (λ entry k. no-tx entry.author entry.deed (gains.pass entry k)))
-      begun h
 
   -- a hand that only carries leaves each request alone
   pub alone-still : (r : ℕ) → LeavesAlone old new r

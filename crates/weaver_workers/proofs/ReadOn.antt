@@ -37,9 +37,10 @@ use Rattle.weaver_workers.specs.declared.ended.Ended.{Ended}
 use Rattle.weaver_workers.specs.declared.ended.Ended.TheVariants as ended
 use Rattle.weaver_workers.specs.declared.tried.Tried.{Tried}
 use Rattle.weaver_workers.specs.declared.tried.Tried.TheVariants as tried
-use Rattle.weaver_workers.specs.ClientWork.{DoesCarry, DoesVisit, WorkerEndsAs, RunsSameProgram, Stand, RunsRequestBelow}
+use Rattle.weaver_workers.specs.ClientWork.{most_busy_turns, DoesCarry, DoesVisit, WorkerEndsAs, RunsSameProgram, Stand}
 use Rattle.weaver_workers.specs.KeepLaws.{KeepLaws}
-use Rattle.weaver_workers.specs.Turning.{ended_after, most_busy_turns, stand, KeepsOn, ReadAs, RunsIn, TriedAs, ReadsNextVertex}
+use Rattle.weaver_workers.specs.Turning.{busy_turns, ended_after, stand, KeepsOn, ReadAs, RunsIn, RunsRequestBelow, TriedAs, ReadsNextVertex, WasBusyForNext}
+use Rattle.weaver_workers.proofs.BusyTurns.{busy-stop}
 use Rattle.weaver_workers.proofs.Carried.{carries-none, nothing-at-shard}
 use Rattle.weaver_workers.proofs.Going.{goes-carry, goes-none, goes-one, goes-then, same-walk}
 use Rattle.weaver_workers.proofs.Kept.{visit-keeps}
@@ -162,16 +163,22 @@ if-both (Ok x) leads p q = leads x p q
 if-both (Err e) leads p q = tt
 
 -- a client that ends at a busy gatekeeper ends so
-busy-end : (again : Bool) (gate : ℕ) (last : Ended) → (if again then None else Some (ended.Busy gate)) ≡ Some last → ended.Busy gate ≡ last
+busy-end : (again : Bool) (gate : ℕ) (last : Ended) → (if again then None else Some (ended.Busy gate)) ≡ Some last
+    → (again ≡ false) × (ended.Busy gate ≡ last)
 busy-end true gate last is = absurd (none-some last is)
-busy-end false gate last is = same_Some (ended.Busy gate) last is
+busy-end false gate last is = (refl, same_Some (ended.Busy gate) last is)
 
--- a worker that ends after a try ends as the try answered
-pub ends-by : (shared : Shared) (script : Script) (upto : ℕ) (new : Stand) (try : Tried) (busy : ℕ) (end : Option Ended) (last : Ended)
-    → end ≡ ended_after try busy → end ≡ Some last → TriedAs shared script upto new try → RunsRequestBelow upto new.client
-    → WorkerEndsAs shared script upto new last
-ends-by shared script upto new tried.Replied busy end last by is as_tried below = absurd (none-some last (sym by ∙ is))
-ends-by shared script upto new (tried.Busy gate) busy end last by is as_tried below =
-    subst (WorkerEndsAs shared script upto new) (busy-end (nat_lt busy most_busy_turns) gate last (sym by ∙ is)) as_tried
-ends-by shared script upto new (tried.NotYet shard gate) busy end last by is as_tried below =
-    subst (WorkerEndsAs shared script upto new) (same_Some (ended.NotYet shard gate) last (sym by ∙ is)) (as_tried, below)
+-- a worker that ends after a try ends as the try answered, and as the turns before it did
+pub ends-by : (shared : Shared) (script : Script) (upto : ℕ) (old new : Stand) (try : Tried) (busy : ℕ) (end : Option Ended) (last : Ended)
+    → end ≡ ended_after try (busy_turns busy try) → end ≡ Some last → TriedAs shared script upto old new try → RunsRequestBelow upto new.client
+    → busy < most_busy_turns → WasBusyForNext shared script upto old busy → WorkerEndsAs shared script upto new last
+ends-by shared script upto old new tried.Replied busy end last by is as_tried below few was = absurd (none-some last (sym by ∙ is))
+ends-by shared script upto old new (tried.Busy gate) busy end last by is as_tried below few was =
+    let stops = busy-end (nat_lt (busy_turns busy (tried.Busy gate)) most_busy_turns) gate last (sym by ∙ is) in
+    subst (WorkerEndsAs shared script upto new) stops.1 (busy-stop shared script upto old new gate busy as_tried few was stops.0)
+ends-by shared script upto old new (tried.NotYet shard gate) busy end last by is as_tried below few was =
+    subst (WorkerEndsAs shared script upto new) (same_Some (ended.NotYet shard gate) last (sym by ∙ is)) (record {
+      found = as_tried.found;
+      below = below as_tried.found.running as_tried.found.running_is;
+      heard = as_tried.heard;
+    })

@@ -2,7 +2,7 @@
 -- that was told a clock has heard it.
 -- Used by `apply_all`, `apply_channel`, `apply_head`, `apply_round`, `bring_all`, `bring_from`, `bring_one`,
 -- `go_gate`, `go_shard`, `hear`, `hear_news`, `hear_others`, `is_known`, `known_to`, `listen`, `nudge`, `nudge_gate`,
--- `search`, `search_up`, `send_empty`, `send_to_all`, `tell`, `turn_gate` and `turn_shard`.
+-- `search`, `search_up`, `send_empty`, `send_to_all`, `tell`, `turn_gate`, `turn_shard` and Nudged.
 use Rattle.std.proofs.Common.{◌≡◌, ◌≢◌, ℕ, ◌+◌, ◌<◌, arith, inl, inr, true, false, List, [], ◌∷◌, ◌++◌, zero, suc, length, get_or, set, Result, Ok, Err, refl, sym, ap, ◌∙◌, subst}
 use Rattle.std.specs.Prelude.{◌⊎◌, Bool, Contains, OnOk, Option, Some, None}
 use Rattle.std.proofs.lemmas.Bool.{cases_lt}
@@ -330,6 +330,16 @@ still-said old mid new from clock said only = record {
   clock_is = said.clock_is;
 }
 
+-- the clock that a gatekeeper has said since the hand had seen more, it has said since the hand had seen less
+pub said-since : (old mid new : Hand) (from : ℕ) (clock : Clock) → OnlyCarries old mid → HasSaid mid new from clock
+    → HasSaid old new from clock
+said-since old mid new from clock only said = record {
+  said = said.said;
+  late = onward _ _ _ (only.more.gates from) said.late;
+  seen = said.seen;
+  clock_is = said.clock_is;
+}
+
 -- if no clock is in a list, a gatekeeper was told each of them
 pub none-told : (hand : Hand) (gate : ℕ) (clocks : List (Option Clock)) → ((from : ℕ) → get_or clocks from None ≡ None)
     → AreTold hand gate clocks
@@ -373,12 +383,7 @@ still-all-up-to-date old mid new gate bound first only from low other =
 since-before : (old mid new : Hand) (gate from : ℕ) → OnlyCarries old mid → IsUpToDate mid new gate from → IsUpToDate old new gate from
 since-before old mid new gate from only second = record {
   clock = second.clock;
-  said = record {
-    said = second.said.said;
-    late = onward _ _ _ (only.more.gates from) second.said.late;
-    seen = second.said.seen;
-    clock_is = second.said.clock_is;
-  };
+  said = said-since old mid new from second.clock only second.said;
   told = second.told;
 }
 

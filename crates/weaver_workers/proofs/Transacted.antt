@@ -126,7 +126,7 @@ module _ {shards : ℕ} (shared : Shared) (old new : Hand) (is : IsHand shared o
   pub landed-after : HasLanded old → HasLanded new
   landed-after landed home = elim (cases_eq home gate) [
     | inl same ↦ subst LandedIn (sym (ap (gate_log (made_by new)) same ∙ log-after))
-        (landed-sent (gate_log (made_by old) gate) (hand_number old) (hand_number did.judged) r stamp messages (landed gate))
+        (landed-sent (gate_log (made_by old) gate ++ began ∷ []) (hand_number did.judged) r messages)
     | inr other ↦ subst LandedIn (sym (log-else home other)) (landed home)
   ]
 

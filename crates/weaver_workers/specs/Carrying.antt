@@ -74,14 +74,14 @@ pub record CarriesAtShard (shared : Shared) (shard : ℕ) (old new : Hand) : Typ
   pub carries : Carries shared old new
   pub there : IsAtShard shard old new
 
--- The log of a gatekeeper gives this clock at a place that the hand had not gone past before, and has seen since.
+-- This is a gatekeeper's clock at a place of its log that the hand has seen, and that isn't before what it had seen.
 pub record HasSaid (old new : Hand) (from : ℕ) (clock : Clock) : Type 0 where
   pub said : List GateEntry
   pub late : IsBeginningOf (gate_log (seen_by old) from) said
   pub seen : IsBeginningOf said (gate_log (seen_by new) from)
   pub clock_is : clock ≡ clock_of from said
 
--- the gatekeeper heard, just now, the clock that another one, `from`, has said. No public contract cites this.
+-- The gatekeeper has heard since, from the hand, a clock of another one, `from`, not older than the hand had seen.
 pub record HasHeard (old new : Hand) (gate from : ℕ) : Type 0 where
   pub clock : Clock
   pub said : HasSaid old new from clock
@@ -90,6 +90,10 @@ pub record HasHeard (old new : Hand) (gate from : ℕ) : Type 0 where
   pub entry : GateEntry
   pub heard : Contains added entry
   pub deed : entry.deed ≡ Heard clock
+
+-- each gatekeeper below this number but `from` has heard `from` so
+abbrev pub HaveHeardBelow : ℕ → ℕ → Hand → Hand → Type 0
+HaveHeardBelow bound from old new = (gate : ℕ) → gate < bound → gate ≢ from → HasHeard old new gate from
 
 -- the gatekeeper has heard this clock from the hand
 pub record HasTold (hand : Hand) (gate : ℕ) (clock : Clock) : Type 0 where
@@ -102,7 +106,8 @@ abbrev pub AreTold : Hand → ℕ → List (Option Clock) → Type 0
 AreTold hand gate clocks = (from : ℕ) (clock : Clock) → slice_index_or clocks from None ≡ Some clock
     → HasTold hand gate clock
 
--- Another gatekeeper, `from`, has said its clock since, and this one has heard that clock: now, or it had before.
+-- The gatekeeper has heard from the hand a clock of another one, `from`, not older than the hand had seen: now, or it
+-- had before.
 pub record IsUpToDate (old new : Hand) (gate from : ℕ) : Type 0 where
   pub clock : Clock
   pub said : HasSaid old new from clock

@@ -1,6 +1,5 @@
 -- What a client's worker does, one thing after another, and how it ends.
-use Rattle.std.specs.Prelude.{◌≡◌, ◌⊎◌, ℕ, ◌<◌, List, [], ◌∷◌, ◌++◌, Contains, IsTrue, is_some, Option, None, Some}
-use Rattle.std.specs.Option.{ForSome}
+use Rattle.std.specs.Prelude.{◌≡◌, ◌≢◌, ◌⊎◌, ℕ, ◌<◌, List, [], ◌∷◌, ◌++◌, length, Contains, IsTrue, Option, None, Some}
 use Rattle.graph_ops.specs.declared.op.Op.{Op}
 use Rattle.weave_data.specs.declared.name.Name.{Name}
 use Rattle.weave_data.specs.Names.{shard_of}
@@ -17,26 +16,29 @@ use Rattle.report_rules.specs.declared.report.Reply.{Reply}
 use Rattle.report_rules.specs.declared.report.ReplyState.{ReplyState}
 use Rattle.report_rules.specs.declared.report.ReplyState.TheVariants.{Finished}
 use Rattle.report_rules.specs.Lookups.{request_at}
+use Rattle.weave_entries.specs.declared.gate_log.GateEntry.{GateEntry}
 use Rattle.weave_entries.specs.declared.session_log.SessionEntry.{SessionEntry}
 use Rattle.weave_entries.specs.declared.session_log.SessionDeed.TheVariants.{Begun, Replied}
 use Rattle.weave_entries.specs.declared.verdict.Verdict.{Verdict}
-use Rattle.weave_entries.specs.GateReplay.{flight_of}
+use Rattle.weave_entries.specs.GateReplay.{clock_of, flight_of, programs_of, BegunRequest}
 use Rattle.weave_entries.specs.SessionReplay.{has_reply_in}
 use Rattle.weave_entries.specs.ShardReplay.{first_unready}
 use Rattle.weave_account.specs.Account.{gate_log, shard_log}
+use Rattle.weave_account.specs.GoesOn.{IsBeginningOf}
 use Rattle.weave_account.specs.Report.{state_by_verdict}
+use Rattle.seen_logs.specs.Seen.{entries_since}
 use Rattle.weaver_core.specs.declared.client.Client.{Client}
 use Rattle.weaver_core.specs.declared.walks.Running.{Running}
 use Rattle.weaver_core.specs.Sessions.{log_of_client, requests_in, IsInTurn}
 use Rattle.weaver_locks.specs.declared.hand.Hand.{Hand}
 use Rattle.weaver_locks.specs.declared.shared.Shared.{Shared}
-use Rattle.weaver_locks.specs.Hands.{seen_by}
-use Rattle.weaver_locks.specs.Locks.{gate_count, shard_count}
+use Rattle.weaver_locks.specs.Hands.{hand_number, seen_by}
+use Rattle.weaver_locks.specs.Locks.{gate_count, shard_count, start_of}
 use Rattle.weaver_hands.specs.Programs.{own_reads, HandFinishes, ReadsNoMore, Visits}
-use Rattle.weaver_hands.specs.Transactions.{Starts, Transacts}
+use Rattle.weaver_hands.specs.Transactions.{FoundBusy, Starts, Transacts}
 use Rattle.weaver_workers.specs.declared.ended.Ended.{Ended}
 use Rattle.weaver_workers.specs.declared.ended.Ended.TheVariants.{Done, Busy, NotYet}
-use Rattle.weaver_workers.specs.Carrying.{OnlyCarries}
+use Rattle.weaver_workers.specs.Carrying.{HasTold, OnlyCarries}
 use Rattle.weaver_workers.specs.Keeping.{KeepsClient}
 
 -- a hand and its client at some time
@@ -169,7 +171,8 @@ abbrev pub HasReplies : ℕ → Client → Type 0
 HasReplies upto client =
     (r : ℕ) → Contains (requests_in client) r → r < upto → IsTrue (has_reply_in r (log_of_client client))
 
--- The session's next request is a transaction at this gatekeeper, where one was in flight, as the hand has seen.
+-- The session's next request is a transaction at this gatekeeper, where one of another hand was in flight, as this hand
+-- has seen.
 pub record FoundGateBusy (script : Script) (upto : ℕ) (new : Stand) (gate : ℕ) : Type 0 where
   pub r : ℕ
   pub asked : Request
@@ -177,7 +180,28 @@ pub record FoundGateBusy (script : Script) (upto : ℕ) (new : Stand) (gate : �
   pub ops : List Op
   pub work_is : asked.work ≡ Change ops
   pub gate_is : asked.gate ≡ gate
-  pub busy : IsTrue (is_some (flight_of (gate_log (seen_by new.hand) gate)))
+  pub flight : BegunRequest
+  pub busy : flight_of (gate_log (seen_by new.hand) gate) ≡ Some flight
+  pub other : flight.author ≢ hand_number new.hand
+
+-- These hands lead from `old` to `new`, each by a hold of the gatekeeper in which it found a transaction in flight and
+-- made no entry.
+abbrev pub FindsBusy : ℕ → ℕ → Hand → List Hand → Hand → Type 0
+FindsBusy shards gate old [] new = old ≡ new
+FindsBusy shards gate old (next ∷ path) new = FoundBusy shards old next gate × FindsBusy shards gate next path new
+
+-- a client stops when it has found its gatekeeper busy in this many turns one after another
+abbrev pub most_busy_turns : ℕ
+most_busy_turns = 16
+
+-- The hand has found the gatekeeper of the session's next request busy in that many holds one after another, up to the
+-- last one. A hold without an entry may leave the hand as it was: that they are as many turns, no definition can say.
+pub record StopsAtBusyGate (shared : Shared) (script : Script) (upto : ℕ) (new : Stand) (gate : ℕ) : Type 0 where
+  pub found : FoundGateBusy script upto new gate
+  pub from : Hand
+  pub holds : List Hand
+  pub many : length holds ≡ most_busy_turns
+  pub each : FindsBusy (shard_count shared) gate from holds new.hand
 
 -- The session's program is running, and the shard of its next vertex, the next visit after what the hand's visits read,
 -- was not ready for it, as the hand has seen: this is the least gatekeeper for which it was not.
@@ -190,13 +214,26 @@ pub record FoundUnready (shared : Shared) (new : Stand) (shard gate : ℕ) : Typ
   pub shard_is : shard ≡ shard_of vertex (shard_count shared)
   pub unready : first_unready (gate_count shared) running.stamp (shard_log (seen_by new.hand) shard) ≡ Some gate
 
--- if a program is running it is of a request before `upto`
-abbrev pub RunsRequestBelow : ℕ → Client → Type 0
-RunsRequestBelow upto client = ForSome client.running (λ (running : Running). running.request < upto)
+-- Since the locks' start the gatekeeper has heard from the hand a clock that the program's home had said after the
+-- program was begun there.
+pub record HasHeardOf (shared : Shared) (hand : Hand) (running : Running) (gate : ℕ) : Type 0 where
+  pub said : List GateEntry
+  pub seen : IsBeginningOf said (gate_log (seen_by hand) running.stamp.home)
+  pub after : Contains (programs_of said)
+      (record { author = hand_number hand; request = running.request; stamp = running.stamp })
+  pub told : HasTold hand gate (clock_of running.stamp.home said)
+  pub since : Contains (entries_since (gate_log (start_of shared) gate) (gate_log (seen_by hand) gate)) told.entry
+
+-- The shard of the running program's next vertex was not ready, and each gatekeeper but the program's home has heard of
+-- the program.
+pub record StopsAtUnreadyShard (shared : Shared) (upto : ℕ) (new : Stand) (shard gate : ℕ) : Type 0 where
+  pub found : FoundUnready shared new shard gate
+  pub below : found.running.request < upto
+  pub heard : (other : ℕ) → other < gate_count shared → other ≢ found.running.stamp.home
+      → HasHeardOf shared new.hand found.running other
 
 -- how a client's worker ends
 abbrev pub WorkerEndsAs : Shared → Script → ℕ → Stand → Ended → Type 0
 WorkerEndsAs shared script upto new Done = HasReplies upto new.client
-WorkerEndsAs shared script upto new (Busy gate) = FoundGateBusy script upto new gate
-WorkerEndsAs shared script upto new (NotYet shard gate) = FoundUnready shared new shard gate
-    × RunsRequestBelow upto new.client
+WorkerEndsAs shared script upto new (Busy gate) = StopsAtBusyGate shared script upto new gate
+WorkerEndsAs shared script upto new (NotYet shard gate) = StopsAtUnreadyShard shared upto new shard gate

@@ -1,5 +1,6 @@
 -- The laws of the crates below that a client's worker relies on, in one record. No public contract cites this.
-use Rattle.std.specs.Prelude.{◌≡◌, ◌≢◌, ◌↔◌, ℕ, ◌<◌, List, [], ◌∷◌, ◌++◌, take, Contains, IsTrue, Option}
+use Rattle.std.specs.Prelude.{◌≡◌, ◌≢◌, ◌↔◌, ◌==◌, ℕ, ◌<◌, List, [], ◌∷◌, ◌++◌, take, Contains, IsTrue, Option}
+use Rattle.std.specs.List.{filter}
 use Rattle.graph_ops.specs.declared.op.Op.{Op}
 use Rattle.program_defs.specs.declared.program.Answer.{Answer}
 use Rattle.vector_stamp.specs.declared.clock.Stamp.{Stamp}
@@ -10,17 +11,21 @@ use Rattle.weave_entries.specs.declared.session_log.SessionEntry.{SessionEntry}
 use Rattle.weave_entries.specs.declared.verdict.Verdict.{Verdict}
 use Rattle.weave_entries.specs.GateReplay.{BegunRequest, begun_by}
 use Rattle.weave_entries.specs.SessionReplay.{has_reply_in, replied_count, replied_in, session_after, session_of, IsSessionLog}
+use Rattle.weave_account.specs.Account.{gate_log}
 use Rattle.weaver_core.specs.declared.walks.Running.{Running}
 use Rattle.weaver_locks.specs.declared.hand.Hand.{Hand}
 use Rattle.weaver_locks.specs.declared.shared.Shared.{Shared}
 use Rattle.weaver_locks.specs.Following.{HasNotBegun}
-use Rattle.weaver_locks.specs.Hands.{made_by, with_gate_entries, IsHand}
+use Rattle.weaver_locks.specs.Hands.{hand_number, made_by, seen_by, with_gate_entries, IsHand}
 use Rattle.weaver_locks.specs.Locks.{gate_count, shard_count}
 use Rattle.weaver_hands.specs.Leaving.{LeavesAlone, MakesNoVisit}
 use Rattle.weaver_hands.specs.Programs.{own_reads, HandFinishes, IsRunning, Visits}
 use Rattle.weaver_hands.specs.Transactions.{Starts, Transacts}
 
 pub record KeepLaws : Type 0 where
+  -- What a hand made
+  pub own_at_gate : (shared : Shared) (hand : Hand) → IsHand shared hand → (home : ℕ) → gate_log (made_by hand) home
+      ≡ filter (λ (entry : GateEntry). entry.author == hand_number hand) (gate_log (seen_by hand) home)
   -- What was not begun
   pub at_gate : (old new : Hand) (gate : ℕ) (added : List GateEntry)
       → made_by new ≡ with_gate_entries gate added (made_by old) → (r : ℕ)

@@ -1,9 +1,9 @@
 -- What a client's worker keeps from turn to turn.
-use Rattle.std.specs.Prelude.{◌≡◌, ℕ, ◌≤◌, [], is_some, slice_get, Contains, IsTrue, Some}
+use Rattle.std.specs.Prelude.{◌≡◌, ℕ, ◌≤◌, [], is_some, slice_get, None, Some}
 use Rattle.std.specs.Option.{ForSome}
 use Rattle.program_defs.specs.declared.script.Script.{Script}
 use Rattle.path_program.specs.AnyPrograms.{any_of}
-use Rattle.weave_entries.specs.GateReplay.{BegunRequest, has_ended_in, txs_of}
+use Rattle.weave_entries.specs.GateReplay.{flight_of}
 use Rattle.weave_entries.specs.SessionReplay.{SessionState, RepliesToLast}
 use Rattle.weave_account.specs.Account.{gate_log}
 use Rattle.weave_account.specs.Sessions.{requests_of_session}
@@ -28,10 +28,9 @@ pub record IsFresh (hand : Hand) (r : ℕ) : Type 0 where
   pub unbegun : HasNotBegun hand r
   pub unread : own_reads hand r ≡ []
 
--- no transaction of the hand is in flight: it has sent each one that it began
+-- no transaction of the hand is in flight: at each gatekeeper it has sent what it began there last
 abbrev pub HasLanded : Hand → Type 0
-HasLanded hand = (home : ℕ) (begun : BegunRequest) → Contains (txs_of (gate_log (made_by hand) home)) begun
-    → IsTrue (has_ended_in begun.request (gate_log (made_by hand) home))
+HasLanded hand = (home : ℕ) → flight_of (gate_log (made_by hand) home) ≡ None
 
 -- A program is running for the request that its session began last, with that one's stamp. The hand runs it.
 pub record IsRunningFor (shared : Shared) (script : Script) (hand : Hand) (session : SessionState) (running : Running)

@@ -44,8 +44,8 @@ pub record ClientWorks (shared : Shared) (script : Script) (number upto : ℕ) (
   pub goes : WorkerGoesOn shared script number upto old new
   pub ends : WorkerEndsAs shared script upto new ended
 
--- The worker of a gatekeeper only carried, there alone. If the phase has a request, each other gatekeeper has said its
--- clock since, and this one has heard it.
+-- The worker of a gatekeeper only carried, there alone. If the phase has a request, this gatekeeper has heard from the
+-- hand a clock of each other one, not older than the hand had seen.
 pub record GateWorks (shared : Shared) (script : Script) (phase gate : ℕ) (old new : Hand) (ended : Ended) : Type 0
   where
     pub carries : CarriesAtGate shared gate old new

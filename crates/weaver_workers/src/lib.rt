@@ -9,12 +9,13 @@
 //! to the worker, to be processed as far as it can be (`turn_shard`).
 //!
 //! The contract gives the whole list of what a client's worker did to the logs and to its client, one thing after
-//! another, each as the hand's call says it (`GoesOn`), and how it ended (`EndsAs`). The other workers only carry
-//! (`Carries`): the entries that their hands make are clocks that gatekeepers heard, empty messages, and messages that
-//! arrived at shards or were processed there, and all of these are at the worker's own gatekeeper (`CarriesAtGate`) or
+//! another, each as the hand's call says it (`WorkerGoesOn`), and how it ended (`WorkerEndsAs`). The other workers only
+//! carry (`Carries`): the entries that their hands make are clocks that gatekeepers heard, empty messages, and messages
+//! that arrived at shards or were processed there. All of these are at the worker's own gatekeeper (`CarriesAtGate`) or
 //! shard (`CarriesAtShard`). After a turn that answers Ok the gatekeeper has heard each other one, now or, if that
-//! one's clock is still the same, before (`IsUpToDate`). That a shard's turn brings and processes all there is, no
-//! clause says.
+//! one's clock is still the same, before (`IsUpToDate`). After a nudge that answers Ok each gatekeeper but the
+//! program's home has heard in it a clock of the home, not older than the worker had seen (`HaveHeardBelow`). That a
+//! shard's turn brings and processes all there is, no clause says.
 #![tactic(auto)]
 
 mod bounds;

@@ -2,7 +2,7 @@
 ghost use Rattle.std.specs.Prelude.{◌≢◌, ◌<◌, ◌≤◌, OnOk};
 ghost use Rattle.weaver_locks.specs.Hands.{IsHand};
 ghost use Rattle.weaver_locks.specs.Locks.{gate_count, shard_count};
-ghost use Rattle.weaver_workers.specs.Carrying.{Carries, CarriesAtGate, HasHeard, IsAtNoOtherShard};
+ghost use Rattle.weaver_workers.specs.Carrying.{Carries, CarriesAtGate, HasHeard, HaveHeardBelow, IsAtNoOtherShard};
 
 use crate::bringing::{Brought, turn_shard};
 use std::alloc::{AllocError, Global};
@@ -69,14 +69,16 @@ fn nudge_gate<R: Wait>(
     requires home { home < gate_count shared.now }
     requires gate { gate < gate_count shared.now }
     requires shard { shard < shard_count shared.now }
-    ensures { CarriesAtGate shared.now gate hand.old hand.new }
+    ensures there { CarriesAtGate shared.now gate hand.old hand.new }
+    ensures heard { OnOk result (home ≢ gate → HasHeard hand.old hand.new gate home) }
 {
     tell(rt, alloc, hand, shared, home, gate)?;
     send_empty(rt, alloc, hand, shared, gate, shard)
 }
 
-/// Each gatekeeper hears a program's home and sends an empty message to the shard, unless a transaction is in flight
-/// there. Then the shard takes a turn. It may wait. The one error is out of memory.
+/// Each gatekeeper, but not a program's home, hears the home's clock, as it is now. Each sends an empty message to the
+/// shard, unless a transaction is in flight at it. Then the shard takes a turn. It may wait. The one error is out of
+/// memory.
 pub fn nudge<R: Wait>(
     rt: &R,
     alloc: Global,
@@ -93,6 +95,7 @@ pub fn nudge<R: Wait>(
     requires shard { shard < shard_count shared.now }
     ensures carries { Carries shared.now hand.old hand.new }
     ensures there { IsAtNoOtherShard shard hand.old hand.new }
+    ensures heard { OnOk result (HaveHeardBelow gates home hand.old hand.new) }
 {
     for gate in 0..gates {
         nudge_gate(rt, alloc, hand, shared, home, gate, shard)?;

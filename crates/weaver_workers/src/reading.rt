@@ -6,7 +6,7 @@ ghost use Rattle.weaver_hands.specs.declared.fault.HandFault.TheVariants.{Memory
 ghost use Rattle.weaver_hands.specs.Programs.{IsRunning};
 ghost use Rattle.weaver_locks.specs.Hands.{IsHand};
 ghost use Rattle.weaver_locks.specs.Locks.{gate_count, shard_count};
-ghost use Rattle.weaver_workers.specs.Turning.{is_more, read_of_fault, stand, unready_in, KeepsOn, ReadAs, RefusesVisit, RunsIn, ReadsNextVertex};
+ghost use Rattle.weaver_workers.specs.Turning.{is_more, read_of_fault, stand, unready_in, KeepsOn, ReadAfterNudgeAs, ReadAs, RefusesVisit, RunsAfterRead, RunsIn, ReadsNextVertex};
 
 use crate::bringing::Brought;
 use crate::keeping::workers_keep_their_laws;
@@ -46,7 +46,7 @@ pub(crate) fn read_all<R: Wait>(
     ensures hand { IfOk result (λ read. IsHand shared.now hand.new) }
     ensures runs { IfOk result (λ read. RunsIn shared.now (stand hand.new client.new)) }
     ensures goes { IfOk result (λ read. KeepsOn shared.now (stand hand.old client.old) (stand hand.new client.new)) }
-    ensures read { IfOk result (ReadAs shared.now (stand hand.new client.new)) }
+    ensures read { IfOk result (ReadAfterNudgeAs shared.now gates (stand hand.new client.new)) }
     ensures ended { IfOk result (λ read. is_more read ≡ false) }
 {
     workers_keep_their_laws();
@@ -86,7 +86,7 @@ fn read_or_nudge<R: Wait>(
     ensures hand { IfOk result (λ read. IsHand shared.now hand.new) }
     ensures runs { IfOk result (λ read. RunsIn shared.now (stand hand.new client.new)) }
     ensures goes { IfOk result (λ read. KeepsOn shared.now (stand hand.old client.old) (stand hand.new client.new)) }
-    ensures read { IfOk result (ReadAs shared.now (stand hand.new client.new)) }
+    ensures read { IfOk result (ReadAfterNudgeAs shared.now gates (stand hand.new client.new)) }
 {
     workers_keep_their_laws();
     let read = read_next(rt, alloc, hand, client, shared)?;
@@ -133,6 +133,7 @@ fn read_next<R: Wait>(
     ensures runs { IfOk result (λ read. RunsIn shared.now (stand hand.new client.new)) }
     ensures goes { IfOk result (λ read. KeepsOn shared.now (stand hand.old client.old) (stand hand.new client.new)) }
     ensures read { IfOk result (ReadAs shared.now (stand hand.new client.new)) }
+    ensures still { IfOk result (RunsAfterRead (stand hand.old client.old) (stand hand.new client.new)) }
 {
     workers_keep_their_laws();
     let Some(running) = &mut client.running else {

@@ -1,6 +1,6 @@
 -- The closed logs of a phase are an account of the script.
 -- Used by HowFar and PhaseEnds.
-use Rattle.std.proofs.Common.{◌≡◌, ℕ, ◌<◌, List, Contains, refl, sym, ap, subst, ◌∙◌}
+use Rattle.std.proofs.Common.{◌≡◌, ℕ, List, Contains, sym, subst}
 use Rattle.std.specs.Option.{ForSome}
 use Rattle.program_defs.specs.declared.script.Request.{Request}
 use Rattle.program_defs.specs.declared.script.Script.{Script}

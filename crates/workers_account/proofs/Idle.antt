@@ -1,17 +1,21 @@
 -- At the start of a phase no transaction of a hand is in flight.
 -- Used by `split_clients_are_ready` and ReadyClients.
-use Rattle.std.proofs.Common.{◌≡◌, ◌≢◌, ℕ, ◌==◌, Bool, List, ◌∷◌, Contains, IsTrue, inl, inr, refl, sym, ap, subst, ◌∙◌, eq-eqb}
+use Rattle.std.proofs.Common.{◌≡◌, ℕ, ◌==◌, Bool, true, false, cond, List, [], ◌∷◌, ◌++◌, append_assoc, fold, Contains, IsTrue, Option, None, Some, refl, sym, ap, subst, ◌∙◌, eq-eqb}
 use Rattle.std.specs.List.{filter}
-use Rattle.std.proofs.lemmas.Bool.{eqb-true}
-use Rattle.std.proofs.lemmas.List.Elements.{Contains-append_left}
-use Rattle.weave_data.proofs.Members.{any_from, cut_at, filter_has, flat_has, has_filter, has_flat}
-use Rattle.weave_data.proofs.Ordered.{pairs_cases}
+use Rattle.std.proofs.lemmas.Bool.{both_ways, eqb-true}
+use Rattle.std.proofs.lemmas.List.Elements.{filter-append}
+use Rattle.std.proofs.lemmas.List.Sums.{fold-append}
+use Rattle.std.proofs.lemmas.Option.{none-some, same_Some}
+use Rattle.weave_data.proofs.Ends.{by_last}
+use Rattle.weave_data.proofs.Members.{filter_has, flat_has, has_flat}
 use Rattle.program_defs.specs.declared.script.Script.{Script}
+use Rattle.weave_entries.specs.declared.gate_log.GateDeed.{GateDeed}
+use Rattle.weave_entries.specs.declared.gate_log.GateDeed.TheVariants.{BeganTx, BeganProgram, Sent, Nop, Heard, Raised, Finished}
 use Rattle.weave_entries.specs.declared.gate_log.GateEntry.{GateEntry}
-use Rattle.weave_entries.specs.GateReplay.{BegunRequest, begun_by, begun_in, ended_by, ended_in, program_by, tx_by}
+use Rattle.weave_entries.specs.GateReplay.{BegunRequest, begun_by, begun_in, flight_after, flight_of}
+use Rattle.weave_entries.specs.GateRules.{FitsAs, IsGateLog}
 use Rattle.weave_account.specs.declared.account.Account.{Account}
-use Rattle.weave_account.specs.Account.{all_begun, gate_log}
-use Rattle.weave_account.proofs.GoesOn.{has-on}
+use Rattle.weave_account.specs.Account.{gate_log}
 use Rattle.seen_logs.specs.Seen.{without_sessions}
 use Rattle.weaver_core.specs.declared.client.Client.{Client}
 use Rattle.weaver_locks.specs.declared.hand.Hand.{Hand}
@@ -21,10 +25,81 @@ use Rattle.weaver_locks.specs.Locks.{start_of}
 use Rattle.weaver_workers.specs.Keeping.{HasLanded}
 use Rattle.workers_account.specs.Phase.{IsPhaseStart}
 use Rattle.workers_account.specs.PhaseLaws.{PhaseLaws}
-use Rattle.workers_account.proofs.Begun.{all-has}
-use Rattle.workers_account.proofs.InFlight.{sent-before}
-use Rattle.workers_account.proofs.Programs.{ended-begun}
-use Rattle.workers_account.proofs.Visited.{begun-author}
+
+-- One author's transaction in flight
+
+module _ (number home shards : ℕ) where
+  abbrev by-author : GateEntry → Bool
+  by-author = λ (entry : GateEntry). entry.author == number
+
+  abbrev step : Option BegunRequest → GateEntry → Option BegunRequest
+  step flight entry = flight_after flight entry.author entry.deed
+
+  -- what is in flight first is in flight second, too, and is the author's
+  abbrev AlsoFlies : Option BegunRequest → Option BegunRequest → Type 0
+  AlsoFlies part whole = (flight : BegunRequest) → part ≡ Some flight → (whole ≡ Some flight) × (flight.author ≡ number)
+
+  -- after an entry of the author
+  own-entry : (author : ℕ) (deed : GateDeed) (part whole : Option BegunRequest) → author ≡ number → AlsoFlies part whole
+      → AlsoFlies (flight_after part author deed) (flight_after whole author deed)
+  own-entry author (BeganTx request stamp) part whole mine also = λ flight is. (
+    is,
+    sym (ap (λ (b : BegunRequest). b.author) (same_Some (record { author = author; request = request; stamp = stamp }) flight is)) ∙ mine,
+  )
+  own-entry author (Sent request messages) part whole mine also = λ flight is. absurd (none-some flight is)
+  own-entry author (BeganProgram request stamp) part whole mine also = also
+  own-entry author (Nop shard at stamp low) part whole mine also = also
+  own-entry author (Heard clock) part whole mine also = also
+  own-entry author (Raised epoch) part whole mine also = also
+  own-entry author (Finished request) part whole mine also = also
+
+  -- after an entry of another one, which is right after these ones
+  other-entry : (before : List GateEntry) (author : ℕ) (deed : GateDeed) → FitsAs home shards before author deed → (author == number) ≡ false
+      → (part : Option BegunRequest) → AlsoFlies part (flight_of before) → AlsoFlies part (flight_after (flight_of before) author deed)
+  other-entry before author (BeganTx request stamp) fits other part also = λ flight is.
+      absurd (none-some flight (sym fits.alone ∙ (also flight is).0))
+  other-entry before author (Sent request messages) fits other part also = λ flight is.
+      (let flies = also flight is in
+      absurd (both_ways (author == number) other (eq-eqb author number
+      (ap (λ (b : BegunRequest). b.author) (same_Some (record { author = author; request = request; stamp = fits.stamp }) flight (sym fits.flight ∙ flies.0)) ∙ flies.1))))
+  other-entry before author (BeganProgram request stamp) fits other part also = also
+  other-entry before author (Nop shard at stamp low) fits other part also = also
+  other-entry before author (Heard clock) fits other part also = also
+  other-entry before author (Raised epoch) fits other part also = also
+  other-entry before author (Finished request) fits other part also = also
+
+  -- after one entry more
+  one-more : (before : List GateEntry) (entry : GateEntry) → FitsAs home shards before entry.author entry.deed
+      → AlsoFlies (flight_of (filter by-author before)) (flight_of before)
+      → AlsoFlies (flight_of (filter by-author (before ++ entry ∷ []))) (flight_of (before ++ entry ∷ []))
+  one-more before entry fits also =
+      subst (λ (o : Option BegunRequest). AlsoFlies o (flight_of (before ++ entry ∷ [])))
+      (sym (ap (λ (log : List GateEntry). flight_of log) (filter-append by-author before (entry ∷ []))
+      ∙ fold-append step None (filter by-author before) (filter by-author (entry ∷ []))))
+      (subst (λ (o : Option BegunRequest). AlsoFlies (fold step (flight_of (filter by-author before)) (filter by-author (entry ∷ []))) o)
+      (sym (fold-append step None before (entry ∷ []))) (at (by-author entry) refl))
+    where
+      at : (b : Bool) → by-author entry ≡ b
+          → AlsoFlies (fold step (flight_of (filter by-author before)) (cond b (entry ∷ []) [])) (step (flight_of before) entry)
+      at true is = own-entry entry.author entry.deed (flight_of (filter by-author before)) (flight_of before) (eqb-true entry.author number is) also
+      at false is = other-entry before entry.author entry.deed fits is (flight_of (filter by-author before)) also
+
+  -- what is in flight by the entries of one author alone is in flight
+  also-flies : (log : List GateEntry) → IsGateLog home shards log → AlsoFlies (flight_of (filter by-author log)) (flight_of log)
+  also-flies = by_last (λ log. IsGateLog home shards log → AlsoFlies (flight_of (filter by-author log)) (flight_of log))
+      (λ rules flight is. absurd (none-some flight is))
+      (λ log entry so_far rules. one-more log entry (rules log entry [] refl)
+      (so_far (λ before e after at. rules before e (after ++ entry ∷ []) (ap (λ l. l ++ entry ∷ []) at ∙ append_assoc before (e ∷ after) (entry ∷ [])))))
+
+  -- so if none is in flight, none is by the entries of one author
+  none-of-author : (log : List GateEntry) → IsGateLog home shards log → flight_of log ≡ None → flight_of (filter by-author log) ≡ None
+  none-of-author log rules none = by (flight_of (filter by-author log)) refl
+    where
+      by : (o : Option BegunRequest) → flight_of (filter by-author log) ≡ o → flight_of (filter by-author log) ≡ None
+      by None is = is
+      by (Some flight) is = absurd (none-some flight (sym none ∙ (also-flies log rules flight is).0))
+
+-- The start of a phase
 
 module _ (laws : PhaseLaws) (script : Script) (start : Account) (shared : Shared) (clients : List Client)
     (at-start : IsPhaseStart script start shared clients) (hand : Hand) (is_hand : IsHand shared hand)
@@ -53,44 +128,8 @@ module _ (laws : PhaseLaws) (script : Script) (start : Account) (shared : Shared
       let from = flat_has (λ (e : GateEntry). begun_by e.author e.deed) (gate_log (made_by hand) home) begun h in
       has_flat (λ (e : GateEntry). begun_by e.author e.deed) (gate_log start home) from.0 begun (made-there home from.0 from.1).0 from.2
 
-  -- a request has one begin
-  one-begin : (a b : BegunRequest) → Contains (all_begun start) a → Contains (all_begun start) b → a.request ≡ b.request → a ≡ b
-  one-begin a b has-a has-b same =
-      elim (pairs_cases (λ (x y : BegunRequest). x.request ≢ y.request) (all_begun start) at-start.is_account.gatekeepers.once a b has-a has-b) [
-        | inl is ↦ is
-        | inr (inl differs) ↦ absurd (differs same)
-        | inr (inr differs) ↦ absurd (differs (sym same))
-      ]
-
-  -- the hand itself ended what it began
-  ended-by-hand : (home : ℕ) (begun : BegunRequest) → Contains (begun_in (gate_log start home)) begun → begun.author ≡ hand_number hand
-      → (entry : GateEntry) → Contains (gate_log start home) entry → Contains (ended_by entry.deed) begun.request → IsTrue (own entry)
-  ended-by-hand home begun there mine entry at ends =
-      let log = gate_log start home in
-      let cut = cut_at log entry at in
-      let rule = laws.ends home script.shards log (at-start.is_account.gatekeepers.logs home) cut.before entry cut.after cut.is in
-      let before = ended-begun cut.before entry.author entry.deed begun.request ends rule in
-      let from = flat_has (λ (e : GateEntry). begun_by e.author e.deed) cut.before before.0 before.1 in
-      let earlier = has_flat (λ (e : GateEntry). begun_by e.author e.deed) log from.0 before.0
-      (has-on cut.before log (entry ∷ cut.after, cut.is) from.0 from.1) from.2 in
-      let same = one-begin before.0 begun (all-has start home before.0 earlier) (all-has start home begun there) before.2 in
-      eq-eqb entry.author (hand_number hand) (sym before.3 ∙ ap (λ (b : BegunRequest). b.author) same ∙ mine)
-
   -- no transaction of the hand is in flight
   pub landed : HasLanded hand
-  landed home begun there =
-      let log = gate_log start home in
-      let made = gate_log (made_by hand) home in
-      let from = flat_has (λ (e : GateEntry). tx_by e.author e.deed) made begun there in
-      let early = made-there home from.0 from.1 in
-      let began = Contains-append_left (tx_by (from.0).author (from.0).deed) (program_by (from.0).author (from.0).deed) begun from.2 in
-      let author = sym (begun-author (from.0).author (from.0).deed begun began) ∙ eqb-true (from.0).author (hand_number hand) early.1 in
-      let sent = sent-before laws script start shared clients at-start home begun
-      (has_flat (λ (e : GateEntry). tx_by e.author e.deed) log from.0 begun early.0 from.2) in
-      let ended = flat_has (λ (e : GateEntry). ended_by e.deed) log begun.request sent in
-      let mine = ended-by-hand home begun (has_flat (λ (e : GateEntry). begun_by e.author e.deed) log from.0 begun early.0 began)
-      author ended.0 ended.1 ended.2 in
-      let ended-here = subst (λ (l : List GateEntry). Contains l ended.0) (sym (made-is home)) (has_filter own log ended.0 ended.1 mine) in
-      any_from (λ q. q == begun.request) (ended_in made) begun.request
-      (has_flat (λ (e : GateEntry). ended_by e.deed) made ended.0 begun.request ended-here ended.2)
-      (eq-eqb begun.request begun.request refl)
+  landed home =
+      ap (λ (log : List GateEntry). flight_of log) (made-is home)
+      ∙ none-of-author (hand_number hand) home script.shards (gate_log start home) (at-start.is_account.gatekeepers.logs home) (at-start.landed home)

@@ -1,23 +1,25 @@
 -- No transaction is in flight at the start of a phase, nor in its closed logs.
--- Used by Idle and PhaseEnds.
+-- Used by PhaseEnds.
 use Rattle.std.proofs.Common.{◌≡◌, ℕ, ◌==◌, List, Contains, IsTrue, Option, None, Some, inl, inr, refl, sym, ap, subst, ◌∙◌, eq-eqb}
 use Rattle.std.specs.List.{filter}
 use Rattle.std.proofs.lemmas.Bool.{cases_Bool, eqb-true, both_ways}
 use Rattle.std.proofs.lemmas.Option.{none-some}
-use Rattle.std.proofs.lemmas.List.Elements.{Contains-append_right}
-use Rattle.weave_data.proofs.Members.{any_from, any_has, filter_has, flat_has, has_flat}
+use Rattle.std.proofs.lemmas.List.Elements.{Contains-append_left}
+use Rattle.weave_data.proofs.Members.{any_from, any_has, flat_has, has_flat}
 use Rattle.program_defs.specs.declared.script.Script.{Script}
 use Rattle.weave_entries.specs.declared.gate_log.GateEntry.{GateEntry}
-use Rattle.weave_entries.specs.GateReplay.{BegunRequest, ended_by, ended_in, flight_of, has_ended_in, tx_by, txs_of}
+use Rattle.weave_entries.specs.GateReplay.{BegunRequest, ended_by, ended_in, flight_of, has_ended_in, program_by, tx_by, txs_of}
 use Rattle.weave_account.specs.declared.account.Account.{Account}
 use Rattle.weave_account.specs.Account.{gate_log, NoneInFlight}
 use Rattle.weave_account.specs.IsAccount.{IsAccount}
 use Rattle.weave_account.proofs.GoesOn.{has-on}
+use Rattle.hands_account.proofs.Once.{begun-author}
 use Rattle.weaver_core.specs.declared.client.Client.{Client}
 use Rattle.weaver_locks.specs.declared.hand.Hand.{Hand}
 use Rattle.weaver_locks.specs.declared.shared.Shared.{Shared}
 use Rattle.weaver_locks.specs.Hands.{hand_number, made_by}
 use Rattle.weaver_locks.proofs.EachLog.{row-at}
+use Rattle.weaver_workers.proofs.Landed.{own-flight}
 use Rattle.workers_account.specs.Phase.{IsClosedBy, IsPhaseRun, IsPhaseStart}
 use Rattle.workers_account.specs.PhaseLaws.{PhaseLaws}
 use Rattle.workers_account.proofs.Parts.{gate-entry, gates-on, part-of}
@@ -29,7 +31,7 @@ ended-test log r test =
     subst (λ (q : ℕ). Contains (ended_in log) q) (eqb-true has.0 r has.2) has.1
 
 -- a transaction of a phase's start was sent then
-pub sent-before : (laws : PhaseLaws) (script : Script) (start : Account) (shared : Shared) (clients : List Client) → IsPhaseStart script start shared clients
+sent-before : (laws : PhaseLaws) (script : Script) (start : Account) (shared : Shared) (clients : List Client) → IsPhaseStart script start shared clients
     → (home : ℕ) (tx : BegunRequest) → Contains (txs_of (gate_log start home)) tx → Contains (ended_in (gate_log start home)) tx.request
 sent-before laws script start shared clients at-start home tx there =
     let log = gate_log start home in
@@ -55,29 +57,27 @@ module _ (laws : PhaseLaws) (shared : Shared) (script : Script) (upto : ℕ) (st
       let from = flat_has (λ (e : GateEntry). ended_by e.deed) log r h in
       has_flat (λ (e : GateEntry). ended_by e.deed) (gate_log closed home) from.0 r (within from.0 from.1) from.2
 
-  -- each transaction was sent
-  all-sent : (home : ℕ) (tx : BegunRequest) → Contains (txs_of (gate_log closed home)) tx → Contains (ended_in (gate_log closed home)) tx.request
-  all-sent home tx there =
-      let from = flat_has (λ (e : GateEntry). tx_by e.author e.deed) (gate_log closed home) tx there in
+  -- what would be in flight was begun at the start, and sent there, or by a hand of which nothing is in flight
+  none-flies : (home : ℕ) (tx : BegunRequest) → flight_of (gate_log closed home) ≡ Some tx → ⊥
+  none-flies home tx flown =
+      let flies = (laws.flights home script.shards (gate_log closed home) (account.gatekeepers.logs home)
+      (laws.once_at script closed run.at_start.limits account home) tx).0 flown in
+      let from = flat_has (λ (e : GateEntry). tx_by e.author e.deed) (gate_log closed home) tx flies.0 in
       elim (gate-entry laws shared script upto start was is hands run closed end home from.0 from.1) [
         | inl early ↦
-            ended-on home tx.request (gate_log start home)
+            flies.1 (ended-on home tx.request (gate_log start home)
             (has-on (gate_log start home) (gate_log closed home) (gates-on laws shared script upto start was is hands run closed end home))
-            (sent-before laws script start shared was run.at_start home tx (has_flat (λ (e : GateEntry). tx_by e.author e.deed) (gate_log start home) from.0 tx early from.2))
+            (sent-before laws script start shared was run.at_start home tx (has_flat (λ (e : GateEntry). tx_by e.author e.deed) (gate_log start home) from.0 tx early from.2)))
         | inr since ↦
             let hand = since.0 in
             let part = part-of laws shared script upto start was is hands run hand since.1 in
-            let log = gate_log (made_by hand) home in
-            let made : Contains log from.0 =
-            subst (λ (l : List GateEntry). Contains l from.0) (sym (part.at_gates home))
-            (Contains-append_right (gate_log (made_by part.from) home) (part.gates home) from.0 since.3) in
-            let test = part.landed home tx (has_flat (λ (e : GateEntry). tx_by e.author e.deed) log from.0 tx made from.2) in
             let own = λ (e : GateEntry). e.author == hand_number hand in
-            ended-on home tx.request log
-            (λ entry h. (filter_has own (gate_log closed home) entry
-            (subst (λ (l : List GateEntry). Contains l entry)
-            (sym (ap (λ (a : Account). gate_log a home) (end.made hand since.1)) ∙ row-at (filter own) refl closed.gates home) h)).0)
-            (ended-test log tx.request test)
+            let made : gate_log (made_by hand) home ≡ filter own (gate_log closed home) =
+            sym (ap (λ (a : Account). gate_log a home) (end.made hand since.1)) ∙ row-at (filter own) refl closed.gates home in
+            let began = Contains-append_left (tx_by (from.0).author (from.0).deed) (program_by (from.0).author (from.0).deed) tx from.2 in
+            let mine = sym (since.2 ∙ begun-author (from.0).author (from.0).deed tx began) in
+            none-some tx (sym (part.landed home) ∙ ap (λ (log : List GateEntry). flight_of log) made
+            ∙ own-flight (hand_number hand) (gate_log closed home) tx flown mine)
       ]
 
   -- if the closed logs are an account, no transaction is in flight in them
@@ -86,7 +86,4 @@ module _ (laws : PhaseLaws) (shared : Shared) (script : Script) (upto : ℕ) (st
     where
       by : (o : Option BegunRequest) → flight_of (gate_log closed home) ≡ o → flight_of (gate_log closed home) ≡ None
       by None is = is
-      by (Some tx) is =
-          let flies = (laws.flights home script.shards (gate_log closed home) (account.gatekeepers.logs home)
-          (laws.once_at script closed run.at_start.limits account home) tx).0 is in
-          absurd (flies.1 (all-sent home tx flies.0))
+      by (Some tx) is = absurd (none-flies home tx is)

@@ -33,4 +33,7 @@ pub mod PhaseEnds
 pub mod Idle
 pub mod ReadyClients
 pub mod MayStart
+pub mod SinceStart
+pub mod OneHand
+pub mod HeardOf
 pub mod HowFar

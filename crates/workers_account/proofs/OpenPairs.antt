@@ -1,20 +1,18 @@
 -- What a phase has added: begins of requests before its end, and pairs of requests that had no reply before.
 -- Used by PhaseEnds.
-use Rattle.std.proofs.Common.{◌≡◌, ◌≢◌, ℕ, ◌<◌, ◌≤◌, ◌==◌, Bool, true, false, cond, List, [], ◌∷◌, ◌++◌, length, Contains, IsTrue, Option, None, Some, ◌⊎◌, inl, inr, refl, sym, ap, subst, ◌∙◌, append_assoc, eq-eqb, arith}
+use Rattle.std.proofs.Common.{◌≡◌, ◌≢◌, ℕ, ◌<◌, ◌==◌, Bool, List, [], ◌∷◌, ◌++◌, Contains, IsTrue, Option, None, Some, inl, inr, refl, sym, ap, subst, ◌∙◌, append_assoc, eq-eqb, arith}
 use Rattle.std.specs.Prelude.{slice_get}
-use Rattle.std.specs.List.{cons_option, filter, filter_map, flat_map}
+use Rattle.std.specs.List.{cons_option, filter, filter_map}
 use Rattle.std.specs.Option.{option_map}
 use Rattle.std.proofs.lemmas.List.{append-nil, append_cancel_left, length-append}
 use Rattle.std.proofs.lemmas.List.Concat.{flat_map-append}
 use Rattle.std.proofs.lemmas.List.Elements.{Contains-append_cases, filter-append}
 use Rattle.std.proofs.lemmas.Option.{none-some, same_Some}
-use Rattle.weave_data.proofs.Members.{cut_at, flat_has, has_cut, has_filter, has_flat, has_none, has_read}
+use Rattle.weave_data.proofs.Members.{cut_at, flat_has, has_filter, has_flat, has_none, has_read}
 use Rattle.vector_stamp.specs.Precedence.{GivenPair}
 use Rattle.vector_stamp.specs.Settling.{SettledEntry}
 use Rattle.vector_stamp.specs.declared.clock.Stamp.{Stamp}
-use Rattle.program_defs.specs.declared.script.Request.{Request}
 use Rattle.program_defs.specs.declared.script.Script.{Script}
-use Rattle.report_rules.specs.Lookups.{request_at}
 use Rattle.weave_entries.specs.declared.gate_log.GateEntry.{GateEntry}
 use Rattle.weave_entries.specs.declared.gate_log.GateDeed.{GateDeed}
 use Rattle.weave_entries.specs.declared.gate_log.GateDeed.TheVariants.{BeganTx, BeganProgram, Sent, Nop, Heard, Raised, Finished}
@@ -22,30 +20,28 @@ use Rattle.weave_entries.specs.declared.oracle_log.OracleEntry.{OracleEntry}
 use Rattle.weave_entries.specs.GateReplay.{BegunRequest, begun_by, begun_in}
 use Rattle.weave_entries.specs.OracleReplay.{pairs_of_entry, pairs_of_log, settled_entry}
 use Rattle.weave_account.specs.declared.account.Account.{Account}
-use Rattle.weave_account.specs.Account.{all_begun, gate_log, pairs_in, session_log}
+use Rattle.weave_account.specs.Account.{gate_log, pairs_in}
 use Rattle.weave_account.specs.GoesOn.{IsBeginningOf}
 use Rattle.weave_account.specs.IsAccount.{IsAccount}
-use Rattle.step_rules.specs.Requests.{has_reply}
 use Rattle.hands_account.proofs.ByHands.{by-author, start-within}
-use Rattle.seen_logs.specs.Seen.{entries_since, without_sessions}
+use Rattle.seen_logs.specs.Seen.{entries_since}
 use Rattle.weaver_core.specs.declared.client.Client.{Client}
 use Rattle.weaver_core.specs.Staying.{StayLaws}
 use Rattle.weaver_locks.specs.declared.hand.Hand.{Hand}
 use Rattle.weaver_locks.specs.declared.shared.Shared.{Shared}
 use Rattle.weaver_locks.specs.Closing.{seen_by_number}
 use Rattle.weaver_locks.specs.Hands.{hand_number, made_by, seen_by}
-use Rattle.weaver_locks.specs.Locks.{hands_of, start_of}
+use Rattle.weaver_locks.specs.Locks.{hands_of}
 use Rattle.weaver_workers.specs.Carrying.{is_telling}
-use Rattle.workers_account.specs.Asked.{AsksForOwn, IsBegunSince}
-use Rattle.workers_account.specs.Pairs.{AddsOpenPairs, GainBelow, GainsBelow, IsOpen}
-use Rattle.workers_account.specs.Phase.{HasDone, IsClosedBy, IsPhaseRun}
+use Rattle.workers_account.specs.Asked.{IsBegunSince}
+use Rattle.workers_account.specs.Pairs.{AddsOpenPairs, GainBelow, IsOpen}
+use Rattle.workers_account.specs.Phase.{IsClosedBy, IsPhaseRun}
 use Rattle.workers_account.specs.PhaseLaws.{PhaseLaws}
 use Rattle.workers_account.proofs.Begun.{all-has, begun-in-part, made-there}
 use Rattle.workers_account.proofs.ByLog.{replied-before}
 use Rattle.workers_account.proofs.Follows.{begun-new}
 use Rattle.workers_account.proofs.Own.{own-entry, since-is}
-use Rattle.workers_account.proofs.OwnSince.{own-gained}
-use Rattle.workers_account.proofs.Parts.{OfNumber, Part, at-hand, gates-on, of-number, own-since, part-of, seen-start}
+use Rattle.workers_account.proofs.Parts.{Part, gates-on, of-number, own-since, part-of, seen-start}
 use Rattle.workers_account.proofs.Visited.{begun-author}
 
 -- what is made of the elements of a list, each of one that gives it

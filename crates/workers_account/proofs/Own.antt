@@ -1,21 +1,14 @@
 -- What a hand of a phase began and judged since the start is what its part began and judged.
--- Used by ByLog, Follows, OpenPairs, Programs and Visited.
-use Rattle.std.proofs.Common.{◌≡◌, ℕ, ◌≤◌, ◌==◌, Bool, true, false, cond, List, [], ◌∷◌, ◌++◌, length, drop, map, Contains, IsTrue, inl, inr, refl, sym, ap, subst, ◌∙◌}
-use Rattle.std.specs.List.{filter, flat_map}
-use Rattle.std.proofs.lemmas.Bool.{cases_Bool, eq-eqb}
-use Rattle.std.proofs.lemmas.List.Elements.{filter-append}
+-- Used by ByLog, Follows, HowFar, OpenPairs, Programs, SinceStart and Visited.
+use Rattle.std.proofs.Common.{◌≡◌, ℕ, ◌==◌, List, ◌∷◌, ◌++◌, length, drop, Contains, sym, ap, subst, ◌∙◌}
+use Rattle.std.specs.List.{filter}
+use Rattle.std.proofs.lemmas.Bool.{eq-eqb}
 use Rattle.std.proofs.Math.Seq.{drop-append_seam}
 use Rattle.weave_data.proofs.Members.{has_cut, has_filter}
-use Rattle.vector_stamp.specs.declared.clock.Stamp.{Stamp}
 use Rattle.program_defs.specs.declared.script.Script.{Script}
 use Rattle.weave_entries.specs.declared.gate_log.GateEntry.{GateEntry}
-use Rattle.weave_entries.specs.declared.gate_log.GateDeed.{GateDeed}
-use Rattle.weave_entries.specs.declared.gate_log.GateDeed.TheVariants.{BeganTx, BeganProgram, Sent, Nop, Heard, Raised, Finished}
-use Rattle.weave_entries.specs.declared.store_log.StoreEntry.{StoreEntry}
-use Rattle.weave_entries.specs.declared.store_log.StoreDeed.{StoreDeed}
-use Rattle.weave_entries.specs.declared.store_log.StoreDeed.TheVariants.{Judged}
-use Rattle.weave_entries.specs.GateReplay.{BegunRequest, begun_by, begun_in}
-use Rattle.weave_entries.specs.StoreReplay.{Judgement, judged_by, judgements_of}
+use Rattle.weave_entries.specs.GateReplay.{BegunRequest, begun_in}
+use Rattle.weave_entries.specs.StoreReplay.{Judgement, judgements_of}
 use Rattle.weave_account.specs.declared.account.Account.{Account}
 use Rattle.weave_account.specs.Account.{gate_log}
 use Rattle.hands_account.specs.Runs.{own_begun, own_judgements}

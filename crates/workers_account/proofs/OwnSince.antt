@@ -1,6 +1,6 @@
 -- The own entries of a log: of what was added to it they are those that were gained, and what entries begin and judge
 -- has their author.
--- Used by BegunPlaces, OpenPairs, Own, OwnLogs, Parts and crate sessions_account.
+-- Used by BegunPlaces, Own, OwnLogs, Parts and crate sessions_account.
 use Rattle.std.proofs.Common.{◌≡◌, ℕ, ◌==◌, Bool, true, false, cond, List, [], ◌∷◌, ◌++◌, length, map, drop, refl, sym, ap, ◌∙◌}
 use Rattle.std.specs.List.{filter, flat_map}
 use Rattle.std.proofs.Math.Seq.{drop-append_seam}

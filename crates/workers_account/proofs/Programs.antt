@@ -1,6 +1,6 @@
 -- Each program that a hand began since the start has read its vertices in turn, and a hand finishes no programs but
 -- those.
--- Used by ByLog, ClosedAccount, Idle and crate sessions_account.
+-- Used by ByLog, ClosedAccount and crate sessions_account.
 use Rattle.std.proofs.Common.{◌≡◌, ℕ, ◌-◌, ◌<◌, Bool, false, List, [], ◌∷◌, ◌++◌, length, drop, take, Contains, AllPairs, IsTrue, Option, None, Some, inl, inr, refl, sym, ap, subst, ◌∙◌, arith}
 use Rattle.std.specs.Prelude.{is_some, if◌then◌else◌}
 use Rattle.std.proofs.lemmas.List.{append-nil}

@@ -1,11 +1,16 @@
 -- Who read what in a phase: each visit is of a program that had begun at the start, or of one that its hand began
 -- since.
--- Used by ByLog, HowFar, Idle, OpenPairs, Programs and crate sessions_account.
-use Rattle.std.proofs.Common.{◌≡◌, ℕ, ◌<◌, ◌==◌, List, Contains, ◌⊎◌, inl, inr, sym, ap, subst, ◌∙◌, eq-eqb}
+-- Used by ByLog, HeardOf, HowFar, OneHand, OpenPairs, Programs and crate sessions_account.
+use Rattle.std.proofs.Common.{◌≡◌, ◌≢◌, ℕ, ◌<◌, ◌==◌, false, List, ◌∷◌, ◌++◌, length, Contains, ◌⊎◌, inl, inr, sym, ap, subst, ◌∙◌, append_assoc, eq-eqb, arith}
 use Rattle.std.specs.List.{filter}
-use Rattle.std.proofs.lemmas.Bool.{eqb-true}
+use Rattle.std.proofs.lemmas.Bool.{eqb-true, ne_eqb}
+use Rattle.std.proofs.lemmas.List.{append-nil, length-append}
+use Rattle.std.proofs.lemmas.List.Concat.{flat_map-append}
+use Rattle.std.proofs.lemmas.List.Elements.{filter-append}
 use Rattle.std.proofs.lemmas.Option.{same_Some}
-use Rattle.weave_data.proofs.Members.{cut_at, filter_has, flat_has, has_filter, has_flat, has_none, only}
+use Rattle.weave_data.proofs.ListPlaces.{all-from}
+use Rattle.weave_data.proofs.Lists.{filter-none}
+use Rattle.weave_data.proofs.Members.{cut_at, filter_has, flat_has, has_cut, has_filter, has_flat, has_none, only}
 use Rattle.vector_stamp.specs.declared.clock.Stamp.{Stamp}
 use Rattle.program_defs.specs.declared.script.Request.{Request}
 use Rattle.program_defs.specs.declared.script.Script.{Script}
@@ -20,8 +25,9 @@ use Rattle.weave_entries.specs.ShardReplay.{Visit, visit_by, visits_of}
 use Rattle.weave_entries.proofs.OwnStamps.{program-begun}
 use Rattle.weave_account.specs.declared.account.Account.{Account}
 use Rattle.weave_account.specs.Account.{all_begun, gate_log, reads_of, shard_log}
+use Rattle.weave_account.specs.GoesOn.{visits_by}
 use Rattle.weave_account.specs.Shards.{ShardFitsAs}
-use Rattle.weave_account.proofs.GoesOn.{has-on}
+use Rattle.weave_account.proofs.GoesOn.{has-on, longer}
 use Rattle.hands_account.proofs.ByHands.{start-or-hand, start-within}
 use Rattle.hands_account.proofs.Once.{begun-author as entry-author}
 use Rattle.seen_logs.specs.Seen.{VisitsItsOwn, entries_since}
@@ -163,3 +169,44 @@ module _ (laws : PhaseLaws) (shared : Shared) (script : Script) (upto : ℕ) (st
         (has_flat (λ (e : ShardEntry). visit_by e.author e.deed) (shard_log closed shard) from.0 visit
         (has-on (shard_log (seen_by hand) shard) (shard_log closed shard) ((end.within hand h).shards shard) from.0 from.1) from.2)
         (eqb-true visit.request r one.1)))
+
+    -- no visit was made for it that the hand has not seen
+    none-later : (shard : ℕ) (visit : Visit) → Contains (visits_of ((end.within hand h).shards shard).0) visit → visit.request ≢ r
+    none-later shard visit later for-r =
+        let seen = shard_log (seen_by hand) shard in
+        let on = (end.within hand h).shards shard in
+        let from = flat_has (λ (e : ShardEntry). visit_by e.author e.deed) on.0 visit later in
+        let cut = cut_at on.0 from.0 from.1 in
+        let at : shard_log closed shard ≡ (seen ++ cut.before) ++ from.0 ∷ cut.after =
+        on.1 ∙ ap (λ (l : List ShardEntry). seen ++ l) cut.is ∙ sym (append_assoc seen cut.before (from.0 ∷ cut.after)) in
+        let all : Contains (visits_of (shard_log closed shard)) visit =
+        has_flat (λ (e : ShardEntry). visit_by e.author e.deed) (shard_log closed shard) from.0 visit
+        (subst (λ (l : List ShardEntry). Contains l from.0) (sym at) (has_cut (seen ++ cut.before) from.0 cut.after)) from.2 in
+        let mine : from.0.author ≡ hand_number hand = visit-author from.0.author from.0.deed visit from.2 ∙ visit-own shard visit all for-r in
+        let many = length-append seen cut.before in
+        let number = run.by_number hand h in
+        elim (end.of_hands.shard_entries shard (seen ++ cut.before) from.0 cut.after at) [
+          | inl early ↦
+              let starts = ap (λ (a : Account). length (shard_log a shard)) number.1 in
+              let longer-now = longer (shard_log start shard) (shard_log (seen_by_number hands (hand_number hand)) shard)
+              ((end.of_hands.seen (hand_number hand) number.0).starts.shards shard) in
+              absurd (omega (arith, early, many, starts, longer-now))
+          | inr by ↦
+              let less : length (seen ++ cut.before) < length seen = subst (λ (a : Account). length (seen ++ cut.before) < length (shard_log a shard)) number.1
+              (subst (λ (n : ℕ). length (seen ++ cut.before) < length (shard_log (seen_by_number hands n) shard)) mine by.1) in
+              absurd (omega (arith, less, many))
+        ]
+
+    -- and it has seen all visits that were made for it
+    pub visits-seen : (shard : ℕ) → visits_by r (shard_log (seen_by hand) shard) ≡ visits_by r (shard_log closed shard)
+    visits-seen shard =
+        let for-it = λ (visit : Visit). visit.request == r in
+        let seen = shard_log (seen_by hand) shard in
+        let on = (end.within hand h).shards shard in
+        sym (ap (visits_by r) on.1
+        ∙ ap (filter for-it) (flat_map-append (λ (e : ShardEntry). visit_by e.author e.deed) seen on.0)
+        ∙ filter-append for-it (visits_of seen) (visits_of on.0)
+        ∙ ap (λ (l : List Visit). filter for-it (visits_of seen) ++ l)
+        (filter-none for-it (visits_of on.0) (all-from (λ (visit : Visit). (visit.request == r) ≡ false) (visits_of on.0)
+        (λ visit later. ne_eqb visit.request r (none-later shard visit later))))
+        ∙ append-nil (filter for-it (visits_of seen)))

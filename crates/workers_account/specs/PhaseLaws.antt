@@ -1,9 +1,10 @@
 -- The laws that the account of a phase relies on, in one record. No public contract cites this.
-use Rattle.std.specs.Prelude.{◌≡◌, ◌↔◌, ℕ, ◌<◌, ◌≤◌, ◌==◌, List, [], map, take, length, AllPairs, Contains, IsTrue, Some}
+use Rattle.std.specs.Prelude.{◌≡◌, ◌≢◌, ◌↔◌, ℕ, ◌<◌, ◌≤◌, ◌==◌, List, [], map, take, length, AllPairs, Contains, IsTrue, Some}
 use Rattle.std.specs.List.{filter}
 use Rattle.weave_data.specs.Limits.{most_gates}
 use Rattle.vector_stamp.specs.declared.clock.Clock.{Clock}
 use Rattle.vector_stamp.specs.declared.clock.Stamp.{Stamp}
+use Rattle.vector_stamp.specs.Order.{id_of}
 use Rattle.program_defs.specs.declared.script.Request.{Request}
 use Rattle.program_defs.specs.declared.script.Script.{Script}
 use Rattle.program_defs.specs.Limits.{IsWithinLimits}
@@ -16,7 +17,7 @@ use Rattle.weave_entries.specs.GateRules.{BeginsEachOnce, EndsWhatItBegan, IsGat
 use Rattle.weave_entries.specs.SessionReplay.{IsSessionLog, begins_in, has_reply_in, next_request, replied_count, replied_in, session_of}
 use Rattle.weave_entries.specs.ShardReplay.{Visit}
 use Rattle.weave_account.specs.declared.account.Account.{Account}
-use Rattle.weave_account.specs.Account.{gate_log, reads_of, session_log, shard_log}
+use Rattle.weave_account.specs.Account.{all_begun, gate_log, reads_of, session_log, shard_log}
 use Rattle.weave_account.specs.Clocks.{IsKnown}
 use Rattle.weave_account.specs.Gatekeepers.{BeginEachOnce, last_stamp}
 use Rattle.weave_account.specs.GoesOn.{GoesOn, IsBeginningOf, visits_by}
@@ -84,6 +85,9 @@ pub record PhaseLaws : Type 0 where
   -- Accounts
   pub once_at : (script : Script) (account : Account) → IsWithinLimits script → IsAccount script account
       → (home : ℕ) → BeginsEachOnce (gate_log account home)
+  pub ids : (script : Script) (account : Account) → IsWithinLimits script → IsAccount script account
+      → (a b : BegunRequest) → Contains (all_begun account) a → Contains (all_begun account) b → a.request ≢ b.request
+      → id_of a.stamp ≢ id_of b.stamp
   pub replies_stay : (script : Script) (account next : Account) → GoesOn account next
       → (deed : SessionDeed) → RepliesAs account deed → RepliesAs next deed
   pub clocks_stay : (script : Script) (account next : Account) → GoesOn account next

@@ -8,7 +8,8 @@ use hands_account::laws::{
 };
 use seen_logs::laws::programs_read_what_was_seen;
 use weave_account::laws::{
-    facts_stay_true, finished_exactly_if_replied, requests_end_or_go_on, requests_of_a_session_rise,
+    begun_stamps_are_coherent, facts_stay_true, finished_exactly_if_replied, requests_end_or_go_on,
+    requests_of_a_session_rise,
 };
 use weave_entries::laws::{
     begun_and_replied_are_decided, requests_end, sessions_go_in_turn, what_has_not_ended_goes_on,
@@ -24,6 +25,7 @@ pub(crate) fn phases_keep_their_laws()
     ensures { PhaseLaws }
 {
     begun_and_replied_are_decided();
+    begun_stamps_are_coherent();
     closed_logs_are_an_account();
     closed_logs_go_on();
     facts_stay_true();

@@ -20,6 +20,7 @@ returns c = record {
     rise = c.requests_of_a_session_rise.ensures.rise;
     last_is = c.last_stamps_are_those_of_sessions.ensures;
     once_at = c.requests_end_or_go_on.ensures.once;
+    ids = c.begun_stamps_are_coherent.ensures.differ;
     replies_stay = c.facts_stay_true.ensures.replies;
     clocks_stay = c.facts_stay_true.ensures.clocks;
     account = c.closed_logs_are_an_account.ensures;

@@ -1,4 +1,4 @@
-use Rattle.std.proofs.Common.{◌≡◌, ℕ, true, List, length, map, All, Contains, Option, Some, refl, sym, ap, subst, ◌∙◌, arith}
+use Rattle.std.proofs.Common.{List, length, map, All, Contains, Option, Some, refl, sym, ap, subst, ◌∙◌, arith}
 use Rattle.std.specs.Prelude.{slice_get}
 use Rattle.std.proofs.lemmas.List.{length-map}
 use Rattle.weaver_core.specs.declared.client.Client.{Client}
@@ -13,6 +13,7 @@ use Rattle.weave_phase.specs.Seats.{hand_in, ArePutBack, AreTaken, HaveRun}
 use Rattle.weave_phase.proofs.JoinedParts.{parts-go-on}
 use Rattle.weave_phase.proofs.Opened.{clients-in-slots, written}
 use Rattle.weave_phase.proofs.PhaseParts.{all-back, all-ended, client-none, client-there, hands-are, hands-count, machines-start, many-clients, many-left, run-is, seated, seats-enough, whole-run}
+use Rattle.weave_phase.proofs.Ran.{all-done}
 use Rattle.weave_phase.proofs.RanSeats.{all-numbers}
 use Rattle.weave_phase.proofs.ReadySeats.{ready-seat}
 use Rattle.weave_phase.proofs.phase.run_parts.Goals as goal
@@ -73,8 +74,7 @@ unseat_all-requires-clause-clients g c = λ k seat at low.
     let after = c.run_all.new.seats in
     let ran = subst (λ (l : List Seat). HaveRun shared split.script c.args.phase l after) c.as_mut_slice.ensures.value c.run_all.ensures.ran in
     let all = written c.in_ok-seats.seats.len after seats (let many = ran.many in let k = c.in_ok-seats.seats.ok.0 in omega (arith, many, k)) in
-    let done : (k : ℕ) (seat : Seat) → slice_get after k ≡ Some seat → seat.done ≡ true = λ k seat at.
-    c.all_done.ensures c.if-not-all_done.false k seat (ap (λ (l : List Seat). slice_get l k) (c.deref.ensures.value ∙ all) ∙ at) in
+    let done = all-done after c.in_ok-run_all.ensures.done in
     client-there laws c.args.phase split parts shared hands sessions opened seats dealt after ran done k seat (ap (λ (l : List Seat). slice_get l k) (sym all) ∙ at) low
 
 pub unseat_all-requires-clause-others : goal.unseat_all-requires-clause-others
@@ -101,8 +101,7 @@ unseat_all-requires-clause-others g c = λ k seat at high.
     let after = c.run_all.new.seats in
     let ran = subst (λ (l : List Seat). HaveRun shared split.script c.args.phase l after) c.as_mut_slice.ensures.value c.run_all.ensures.ran in
     let all = written c.in_ok-seats.seats.len after seats (let many = ran.many in let k = c.in_ok-seats.seats.ok.0 in omega (arith, many, k)) in
-    let done : (k : ℕ) (seat : Seat) → slice_get after k ≡ Some seat → seat.done ≡ true = λ k seat at.
-    c.all_done.ensures c.if-not-all_done.false k seat (ap (λ (l : List Seat). slice_get l k) (c.deref.ensures.value ∙ all) ∙ at) in
+    let done = all-done after c.in_ok-run_all.ensures.done in
     client-none laws c.args.phase split parts shared hands sessions opened seats dealt after ran done k seat (ap (λ (l : List Seat). slice_get l k) (sym all) ∙ at) high
 
 pub unseat_all-requires-clause-enough : goal.unseat_all-requires-clause-enough
@@ -129,8 +128,7 @@ unseat_all-requires-clause-enough g c =
     let after = c.run_all.new.seats in
     let ran = subst (λ (l : List Seat). HaveRun shared split.script c.args.phase l after) c.as_mut_slice.ensures.value c.run_all.ensures.ran in
     let all = written c.in_ok-seats.seats.len after seats (let many = ran.many in let k = c.in_ok-seats.seats.ok.0 in omega (arith, many, k)) in
-    let done : (k : ℕ) (seat : Seat) → slice_get after k ≡ Some seat → seat.done ≡ true = λ k seat at.
-    c.all_done.ensures c.if-not-all_done.false k seat (ap (λ (l : List Seat). slice_get l k) (c.deref.ensures.value ∙ all) ∙ at) in
+    let done = all-done after c.in_ok-run_all.ensures.done in
     let enough = seats-enough laws c.args.phase split parts shared hands sessions opened seats dealt after ran done in
     let many = ran.many in
     let k = c.in_ok-seats.seats.ok.0 in
@@ -170,8 +168,7 @@ from_slots-requires g c = λ place slot at.
     let after = c.run_all.new.seats in
     let ran = subst (λ (l : List Seat). HaveRun shared split.script c.args.phase l after) c.as_mut_slice.ensures.value c.run_all.ensures.ran in
     let all = written c.in_ok-seats.seats.len after seats (let many = ran.many in let k = c.in_ok-seats.seats.ok.0 in omega (arith, many, k)) in
-    let done : (k : ℕ) (seat : Seat) → slice_get after k ≡ Some seat → seat.done ≡ true = λ k seat at.
-    c.all_done.ensures c.if-not-all_done.false k seat (ap (λ (l : List Seat). slice_get l k) (c.deref.ensures.value ∙ all) ∙ at) in
+    let done = all-done after c.in_ok-run_all.ensures.done in
     let between = c.seat_all.new.slots.items in
     let slots = c.unseat_all.new.slots.items in
     let taken = subst (λ (l : List (Option Client)). AreTaken sessions l between) c.in_ok-slots.ensures c.in_ok-seats.ensures.taken in
@@ -202,8 +199,7 @@ close-gates-requires-clause-each g c =
     let after = c.run_all.new.seats in
     let ran = subst (λ (l : List Seat). HaveRun shared split.script c.args.phase l after) c.as_mut_slice.ensures.value c.run_all.ensures.ran in
     let all = written c.in_ok-seats.seats.len after seats (let many = ran.many in let k = c.in_ok-seats.seats.ok.0 in omega (arith, many, k)) in
-    let done : (k : ℕ) (seat : Seat) → slice_get after k ≡ Some seat → seat.done ≡ true = λ k seat at.
-    c.all_done.ensures c.if-not-all_done.false k seat (ap (λ (l : List Seat). slice_get l k) (c.deref.ensures.value ∙ all) ∙ at) in
+    let done = all-done after c.in_ok-run_all.ensures.done in
     let between = c.seat_all.new.slots.items in
     let slots = c.unseat_all.new.slots.items in
     let taken = subst (λ (l : List (Option Client)). AreTaken sessions l between) c.in_ok-slots.ensures c.in_ok-seats.ensures.taken in
@@ -240,8 +236,7 @@ close-gates-requires-clause-all g c = λ number low.
     let after = c.run_all.new.seats in
     let ran = subst (λ (l : List Seat). HaveRun shared split.script c.args.phase l after) c.as_mut_slice.ensures.value c.run_all.ensures.ran in
     let all = written c.in_ok-seats.seats.len after seats (let many = ran.many in let k = c.in_ok-seats.seats.ok.0 in omega (arith, many, k)) in
-    let done : (k : ℕ) (seat : Seat) → slice_get after k ≡ Some seat → seat.done ≡ true = λ k seat at.
-    c.all_done.ensures c.if-not-all_done.false k seat (ap (λ (l : List Seat). slice_get l k) (c.deref.ensures.value ∙ all) ∙ at) in
+    let done = all-done after c.in_ok-run_all.ensures.done in
     let between = c.seat_all.new.slots.items in
     let slots = c.unseat_all.new.slots.items in
     let taken = subst (λ (l : List (Option Client)). AreTaken sessions l between) c.in_ok-slots.ensures c.in_ok-seats.ensures.taken in
@@ -279,8 +274,7 @@ close-gates-requires-clause-count g c =
     let after = c.run_all.new.seats in
     let ran = subst (λ (l : List Seat). HaveRun shared split.script c.args.phase l after) c.as_mut_slice.ensures.value c.run_all.ensures.ran in
     let all = written c.in_ok-seats.seats.len after seats (let many = ran.many in let k = c.in_ok-seats.seats.ok.0 in omega (arith, many, k)) in
-    let done : (k : ℕ) (seat : Seat) → slice_get after k ≡ Some seat → seat.done ≡ true = λ k seat at.
-    c.all_done.ensures c.if-not-all_done.false k seat (ap (λ (l : List Seat). slice_get l k) (c.deref.ensures.value ∙ all) ∙ at) in
+    let done = all-done after c.in_ok-run_all.ensures.done in
     let between = c.seat_all.new.slots.items in
     let slots = c.unseat_all.new.slots.items in
     let taken = subst (λ (l : List (Option Client)). AreTaken sessions l between) c.in_ok-slots.ensures c.in_ok-seats.ensures.taken in
@@ -319,8 +313,7 @@ returns g c =
     let after = c.run_all.new.seats in
     let ran = subst (λ (l : List Seat). HaveRun shared split.script c.args.phase l after) c.as_mut_slice.ensures.value c.run_all.ensures.ran in
     let all = written c.in_ok-seats.seats.len after seats (let many = ran.many in let k = c.in_ok-seats.seats.ok.0 in omega (arith, many, k)) in
-    let done : (k : ℕ) (seat : Seat) → slice_get after k ≡ Some seat → seat.done ≡ true = λ k seat at.
-    c.all_done.ensures c.if-not-all_done.false k seat (ap (λ (l : List Seat). slice_get l k) (c.deref.ensures.value ∙ all) ∙ at) in
+    let done = all-done after c.in_ok-run_all.ensures.done in
     let between = c.seat_all.new.slots.items in
     let slots = c.unseat_all.new.slots.items in
     let taken = subst (λ (l : List (Option Client)). AreTaken sessions l between) c.in_ok-slots.ensures c.in_ok-seats.ensures.taken in

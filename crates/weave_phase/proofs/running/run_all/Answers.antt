@@ -51,10 +51,16 @@ for_each_mut-requires-clause-accepts g c κs within = λ i p low at. (
   (search sendable depth 12, search sendable depth 12),
 )
 
-pub returns : goal.returns
-returns g c = record {
-  ran = have_run c.args.shared.now c.args.script.now c.args.phase c.args.seats.now c.for_each_mut.new.s c.for_each_mut.auto.s (λ k d low.
-      let changed = (c.for_each_mut.ensures k d low).1 in
-      ran_as c.args.shared.now c.args.script.now c.args.phase changed.argument.now changed.after_call.now (get_or c.args.seats.now k d) (get_or c.for_each_mut.new.s k d)
-      changed.argument_is changed.left changed.call);
-}
+pub returns-then-not-all_done-clause-ran : goal.returns-then-not-all_done-clause-ran
+returns-then-not-all_done-clause-ran g c =
+    have_run c.args.shared.now c.args.script.now c.args.phase c.args.seats.now c.for_each_mut.new.s c.for_each_mut.auto.s (λ k d low.
+    let changed = (c.for_each_mut.ensures k d low).1 in
+    ran_as c.args.shared.now c.args.script.now c.args.phase changed.argument.now changed.after_call.now (get_or c.args.seats.now k d) (get_or c.for_each_mut.new.s k d)
+    changed.argument_is changed.left changed.call)
+
+pub returns-clause-ran : goal.returns-clause-ran
+returns-clause-ran g c =
+    have_run c.args.shared.now c.args.script.now c.args.phase c.args.seats.now c.for_each_mut.new.s c.for_each_mut.auto.s (λ k d low.
+    let changed = (c.for_each_mut.ensures k d low).1 in
+    ran_as c.args.shared.now c.args.script.now c.args.phase changed.argument.now changed.after_call.now (get_or c.args.seats.now k d) (get_or c.for_each_mut.new.s k d)
+    changed.argument_is changed.left changed.call)

@@ -5,7 +5,7 @@ use Rattle.weave_entries.specs.SessionReplay.{SessionState}
 use Rattle.weaver_core.specs.Sessions.{IsInTurn}
 use Rattle.weaver_locks.specs.Locks.{shard_count}
 use Rattle.weaver_hands.specs.Transactions.{Transacts}
-use Rattle.weaver_workers.proofs.Deeds.{asked-there, changed, few-ops, refused}
+use Rattle.weaver_workers.proofs.Deeds.{asked-there, changed, few-ops, nothing-runs, refused}
 use Rattle.weaver_workers.proofs.ReadOn.{if-ok}
 use Rattle.weaver_workers.proofs.Refusals.{refuses-transaction}
 use Rattle.weaver_workers.proofs.changing.try_change.Goals as goal
@@ -61,7 +61,8 @@ returns-in-Err g c =
     if-ok c.tried_in_vain.result (λ tried is upto below.
     refused c.workers_keep_their_laws.ensures c.args.shared.now c.args.script.now c.args.number upto c.args.hand.now
     c.transact.new.hand c.args.client.now c.reserve.new.self c.reserve.new.self c.requires.keeps
-    c.reserve.ensures.same c.transact.ensures.hand c.args.request asked (record {
+    c.reserve.ensures.same c.transact.ensures.hand
+    (nothing-runs c.args.client.now.running (sym c.requires.keeps.waits ∙ c.requires.turn.replied)) c.args.request asked (record {
       request_is = asked_is;
       turn = subst (λ (s : SessionState). IsInTurn s c.args.request) (sym c.reserve.ensures.same.session) c.requires.turn;
       below = below;

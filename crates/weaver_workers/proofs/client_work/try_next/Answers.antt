@@ -1,6 +1,7 @@
 use Rattle.std.proofs.Common.{arith}
 use Rattle.std.specs.Prelude.{◌+◌}
 use Rattle.weaver_workers.specs.Turning.{stand}
+use Rattle.weaver_workers.proofs.BusyTurns.{tried-before}
 use Rattle.weaver_workers.proofs.Going.{goes-then}
 use Rattle.weaver_workers.proofs.ReadOn.{if-ok}
 use Rattle.weaver_workers.proofs.client_work.try_next.Goals as goal
@@ -16,5 +17,7 @@ returns-in_ok-start_look-in-Look g c = if-ok c.look_on-in-Look.result (λ tried 
   goes = goes-then c.args.shared.now c.args.script.now c.args.number upto (stand c.args.hand.now c.args.client.now)
       (stand c.start_look.new.hand c.start_look.new.client) (stand c.look_on-in-Look.new.hand c.look_on-in-Look.new.client)
       (c.in_ok-start_look-in-Look.ensures.goes upto below) (all upto).goes;
-  answered = (all upto).answered;
+  answered = tried-before c.args.shared.now c.args.script.now upto (stand c.args.hand.now c.args.client.now)
+      (stand c.start_look.new.hand c.start_look.new.client) (stand c.look_on-in-Look.new.hand c.look_on-in-Look.new.client)
+      c.in_ok-start_look-in-Look.ensures.runs.running c.in_ok-start_look-in-Look.ensures.runs.running_is tried (all upto).answered;
 }) c.look_on-in-Look.ensures

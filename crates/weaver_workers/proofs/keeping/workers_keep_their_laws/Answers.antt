@@ -3,6 +3,7 @@ use Rattle.weaver_workers.proofs.keeping.workers_keep_their_laws.Goals as goal
 
 pub returns : goal.returns
 returns c = record {
+  own_at_gate = c.own_entries_of_each_log.ensures.gate;
   at_gate = c.what_was_not_begun_stays.ensures.gate;
   elsewhere = c.what_was_not_begun_stays.ensures.others;
   runs = c.programs_left_alone_go_on.ensures.running;
