@@ -1,5 +1,5 @@
 -- A run prints a right report.
--- Used by `report_of`.
+-- Used by `answer_of` and `answer_of_steps`.
 use Rattle.std.proofs.Common.{◌≡◌, ℕ, ◌≤◌, List, [], ◌∷◌, ◌++◌, length, refl, sym, ap, ◌∙◌, subst, append_assoc}
 use Rattle.program_defs.specs.declared.script.Script.{Script}
 use Rattle.report_rules.specs.declared.report.Report.{Report}

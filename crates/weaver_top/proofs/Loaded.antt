@@ -1,5 +1,5 @@
 -- What is promised of what `load` writes.
--- Used by `loaded` and `summary_of`.
+-- Used by `load` and `summary_of_core`.
 use Rattle.std.proofs.Common.{◌≡◌, ℕ, ◌*◌, List, length, IsTrue, Some, sym, ap, ◌∙◌, subst}
 use Rattle.std.proofs.lemmas.Option.{slice_get_within}
 use Rattle.program_defs.specs.Limits.{IsWithinLimits}

@@ -1,5 +1,5 @@
 -- A generated script has as many requests as its size says, and four times as many steps.
--- Used by `loaded` and Loaded.
+-- Used by `summary_of_core` and Loaded.
 use Rattle.std.proofs.Common.{◌≡◌, ℕ, zero, suc, ◌*◌, List, [], ◌∷◌, length, refl, arith}
 use Rattle.std.proofs.lemmas.List.{length-append}
 use Rattle.weave_script.specs.Scripts.{steps_of}

@@ -1,5 +1,5 @@
 -- What `check` writes of what `run` wrote.
-use Rattle.std.specs.Prelude.{◌≡◌, ◌≤◌, ℕ, List, [], ◌∷◌, ◌++◌, length}
+use Rattle.std.specs.Prelude.{◌≡◌, ℕ, List, [], ◌∷◌, ◌++◌}
 use Rattle.weaver_top.specs.Headlines.{TellsYes}
 use Rattle.weaver_top.specs.VerdictLines.{yes_line}
 use Rattle.weave_script.specs.Limits.{IsShort}

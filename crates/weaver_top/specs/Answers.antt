@@ -1,6 +1,9 @@
 -- What a command answers to an input, before it is written.
 use Rattle.std.specs.Prelude.{◌≡◌, ◌⊎◌, ℕ, Bool, true, false, IsTrue, List, [], Some, if◌then◌else◌}
+use Rattle.program_defs.specs.declared.script.Script.{Script}
 use Rattle.weave_io.specs.Told.{ToldBytes, Appends, AppendsPrefix}
+use Rattle.weave_script.specs.Limits.{IsShort}
+use Rattle.weave_script.specs.ScriptLines.{IsTextOf}
 use Rattle.weaver_top.specs.declared.answer.Answer.{Answer}
 use Rattle.weaver_top.specs.declared.command.Command.{Command}
 use Rattle.weaver_top.specs.declared.command.Command.TheVariants.{Run, Check, Trace, Load}
@@ -73,6 +76,10 @@ TellsAnswer command input text = (status : Status) × TellsAt command status inp
 pub record IsAnswerTo (command : Command) (input : List ℕ) (answer : Answer) : Type 0 where
   pub tells : TellsAt command answer.status input answer.text.items
   pub ends : IsTrue (can_end command answer.status)
+
+-- the answer is right for each text of the script. No public contract cites this.
+pub record AnswersScript (command : Command) (script : Script) (answer : Answer) : Type 0 where
+  pub to_each_text : (input : List ℕ) → IsShort input → IsTextOf input script → IsAnswerTo command input answer
 
 -- the answer's text was written, or the writing failed and some of it was written, from its start.
 -- No public contract cites this.

@@ -1,8 +1,9 @@
 //! What `load` writes.
-ghost use Rattle.std.specs.Prelude.{◌≡◌, ◌≤◌, ◌*◌, ℕ, List, IfOk};
+ghost use Rattle.std.specs.Prelude.{◌≡◌, ◌≤◌, ◌*◌, ℕ, List, length, IfOk, OnOk};
 ghost use Rattle.weave_data.specs.Limits.{most_requests};
 ghost use Rattle.load_maker.specs.Generated.{script_of};
 ghost use Rattle.report_rules.specs.RightReport.{IsRightReport};
+ghost use Rattle.step_rules.specs.CoreState.{start_state};
 ghost use Rattle.weave_script.specs.Scripts.{IsScript};
 ghost use Rattle.weaver_top.specs.Answers.{IsAnswerTo};
 ghost use Rattle.weaver_top.specs.LoadProgress.{IsLoaded};
@@ -40,28 +41,45 @@ fn summary_of(alloc: Global, seed: u64, size: u32) -> Result<Vec<u8>, AllocError
     requires { (1 ≤ size) × (size ≤ most_requests) }
     ensures { IfOk result (λ text. TellsLoad seed size text.items) }
 {
+    scripts_are_small();
+    let script = make(alloc, seed, size)?;
+    let mut core = Core::start(alloc, script)?;
+    summary_of_core(alloc, seed, size, &mut core)
+}
+
+// Does the steps of the core of a seed's script, answers every request, and sums up the report.
+fn summary_of_core(
+    alloc: Global,
+    seed: u64,
+    size: u32,
+    core: &mut Core,
+) -> Result<Vec<u8>, AllocError>
+    requires size { size ≤ most_requests }
+    requires script { core.old.script ≡ script_of seed size }
+    requires valid { IsScript core.old.script }
+    requires start { core.old.state ≡ start_state core.old.script }
+    ensures { IfOk result (λ text. TellsLoad seed size text.items) }
+{
     the_crates_below_keep_their_laws();
-    let core = loaded(alloc, seed, size)?;
+    load(alloc, core, size)?;
     let report = core.report(alloc)?;
     let text = judged_summary(alloc, seed, size, core.script(), &report)?;
     Ok(text)
 }
 
-// The core of the script of a seed, after the script's steps and with every request answered.
-fn loaded(alloc: Global, seed: u64, size: u32) -> Result<Core, AllocError>
-    requires { (1 ≤ size) × (size ≤ most_requests) }
-    ensures script { IfOk result (λ core. core.script ≡ script_of seed size) }
-    ensures valid { IfOk result (λ core. IsScript core.script) }
-    ensures loaded { IfOk result (λ core. IsLoaded core.script core.state) }
+// Does the steps of a core's script, and answers every request, of which there are `size`.
+fn load(alloc: Global, core: &mut Core, size: u32) -> Result<(), AllocError>
+    requires size { length core.old.script.requests ≡ size }
+    requires valid { IsScript core.old.script }
+    requires start { core.old.state ≡ start_state core.old.script }
+    ensures script { OnOk result (core.new.script ≡ core.old.script) }
+    ensures loaded { OnOk result (IsLoaded core.new.script core.new.state) }
 {
     the_crates_below_keep_their_laws();
-    scripts_are_small();
-    let script = make(alloc, seed, size)?;
-    let mut core = Core::start(alloc, script)?;
-    traced(alloc, &mut core)?;
+    traced(alloc, core)?;
     core.script();
-    drive(alloc, &mut core, size)?;
-    Ok(core)
+    drive(alloc, core, size)?;
+    Ok(())
 }
 
 // The summary of a right report, once it was judged.

@@ -31,19 +31,19 @@ pub(crate) fn run_on_threads<R: Threads + Wait + Sync, P: Pace>(
 {
     the_crates_below_keep_their_laws();
     scripts_are_small();
+    let phases = count_phases(&script)?;
     let core = Core::start(alloc, script)?;
-    let phases = count_phases(&core)?;
     let core = end_phases(rt, alloc, core, phases, pace)?;
     let core = run_and_end(rt, alloc, core, phases, pace)?;
     Ok(core)
 }
 
 // How many `phase` lines the script has. It refuses 2^32 or more, which no text has that is short enough to be read.
-fn count_phases(core: &Core) -> Result<u32, AllocError>
-    ensures count { IfOk result (λ count. count ≡ length core.now.script.phases) }
-    ensures too_many { OnErr result (2 ^ 32 ≤ length core.now.script.phases) }
+fn count_phases(script: &Script) -> Result<u32, AllocError>
+    ensures count { IfOk result (λ count. count ≡ length script.now.phases) }
+    ensures too_many { OnErr result (2 ^ 32 ≤ length script.now.phases) }
 {
-    let count = core.script().phases.as_slice().len();
+    let count = script.phases.as_slice().len();
     if count > u32::MAX as usize {
         return Err(AllocError);
     }

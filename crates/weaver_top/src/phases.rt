@@ -6,26 +6,26 @@ ghost use Rattle.weave_script.specs.Scripts.{IsScript, RiseTo};
 ghost use Rattle.weaver_top.specs.PhaseByPhase.{EndsAt, IsRunUpTo, IsWholeRun, RunsBelow};
 
 use crate::lower_laws::the_crates_below_keep_their_laws;
-use program_defs::{Script, Step};
+use program_defs::Step;
 use std::alloc::{AllocError, Global};
 use weave_drive::drive;
 use weave_script::scripts_are_small;
 use weaver_core::Core;
 
-/// A core of the script, in which each request has its reply. It was driven to the end of each phase in turn, and then
-/// through the last one; after each the shards dropped old versions. The script's steps play no part.
-pub(crate) fn run(alloc: Global, script: Script) -> Result<Core, AllocError>
-    requires { IsScript script }
-    ensures script { IfOk result (λ core. core.script ≡ script) }
-    ensures whole { IfOk result (λ core. IsWholeRun script core.state.account) }
+/// Each request of the core's script gets its reply. The core is driven to the end of each phase in turn, and then
+/// through the last one; after each the shards drop old versions. The script's steps play no part.
+pub(crate) fn run(alloc: Global, core: &mut Core) -> Result<(), AllocError>
+    requires valid { IsScript core.old.script }
+    requires start { core.old.state ≡ start_state core.old.script }
+    ensures script { OnOk result (core.new.script ≡ core.old.script) }
+    ensures whole { OnOk result (IsWholeRun core.old.script core.new.state.account) }
 {
     the_crates_below_keep_their_laws();
     scripts_are_small();
-    let mut core = Core::start(alloc, script)?;
-    end_phases(alloc, &mut core)?;
-    let all = count_of(&core);
-    end_phase(alloc, &mut core, all)?;
-    Ok(core)
+    end_phases(alloc, core)?;
+    let all = count_of(core);
+    end_phase(alloc, core, all)?;
+    Ok(())
 }
 
 // Each phase that ends at a `phase` line ends in turn.

@@ -1,8 +1,9 @@
 //! What `run` answers to an input.
-ghost use Rattle.std.specs.Prelude.{◌≤◌, ℕ, List, length, IfOk};
+ghost use Rattle.std.specs.Prelude.{◌≡◌, ◌≤◌, ℕ, List, length, IfOk};
+ghost use Rattle.step_rules.specs.CoreState.{start_state};
 ghost use Rattle.weave_script.specs.Scripts.{IsScript};
 ghost use Rattle.weave_script.specs.ScriptLines.{IsTextOf};
-ghost use Rattle.weaver_top.specs.Answers.{IsAnswerTo, TellsRun};
+ghost use Rattle.weaver_top.specs.Answers.{AnswersScript, IsAnswerTo};
 ghost use Rattle.weaver_top.specs.PhaseByPhase.{IsWholeRun};
 ghost use Rattle.weave_script.specs.Limits.{IsShort};
 
@@ -41,14 +42,22 @@ pub(crate) fn report_on(alloc: Global, input: &[u8]) -> Result<Answer, AllocErro
 // Runs the script.
 fn answer_for(alloc: Global, script: Script) -> Result<Answer, AllocError>
     requires { IsScript script }
-    ensures { IfOk result (λ answer. (input : List ℕ)
-        → IsShort input → IsTextOf input script → IsAnswerTo Command.Run input answer) }
+    ensures { IfOk result (AnswersScript Command.Run script) }
 {
-    let core = run(alloc, script)?;
-    Ok(Answer {
-        status: Status::Done,
-        text: report_of(alloc, &core)?,
-    })
+    scripts_are_small();
+    let mut core = Core::start(alloc, script)?;
+    answer_of_run(alloc, &mut core)
+}
+
+// Runs the script of a core, and prints its report.
+fn answer_of_run(alloc: Global, core: &mut Core) -> Result<Answer, AllocError>
+    requires valid { IsScript core.old.script }
+    requires start { core.old.state ≡ start_state core.old.script }
+    ensures { IfOk result (AnswersScript Command.Run core.old.script) }
+{
+    run(alloc, core)?;
+    let answer = answer_of(alloc, core)?;
+    Ok(answer)
 }
 
 /// Reads the script, runs it by workers on threads, and prints its report; or says why the input is refused. It may
@@ -79,22 +88,17 @@ fn answer_on_threads<R: Threads + Wait + Sync, P: Pace>(
     pace: &P,
 ) -> Result<Answer, AllocError>
     requires { IsScript script }
-    ensures { IfOk result (λ answer. (input : List ℕ)
-        → IsShort input → IsTextOf input script → IsAnswerTo Command.Run input answer) }
+    ensures { IfOk result (AnswersScript Command.Run script) }
 {
     let core = run_on_threads(rt, alloc, script, pace)?;
-    Ok(Answer {
-        status: Status::Done,
-        text: report_of(alloc, &core)?,
-    })
+    answer_of(alloc, &core)
 }
 
 // Prints the report of a core whose script was run.
-fn report_of(alloc: Global, core: &Core) -> Result<Vec<u8>, AllocError>
+fn answer_of(alloc: Global, core: &Core) -> Result<Answer, AllocError>
     requires valid { IsScript core.now.script }
     requires whole { IsWholeRun core.now.script core.now.state.account }
-    ensures { IfOk result (λ text. (input : List ℕ)
-        → IsShort input → IsTextOf input core.now.script → TellsRun input text.items) }
+    ensures { IfOk result (AnswersScript Command.Run core.now.script) }
 {
     account_is_right();
     phases_are_kept();
@@ -105,5 +109,8 @@ fn report_of(alloc: Global, core: &Core) -> Result<Vec<u8>, AllocError>
     report_texts_follow_script_texts();
     let report = core.report(alloc)?;
     let text = print_report(alloc, core.script(), &report)?;
-    Ok(text)
+    Ok(Answer {
+        status: Status::Done,
+        text,
+    })
 }

@@ -6,15 +6,16 @@ ghost use Rattle.step_rules.specs.IsCore.{IsStepOf};
 ghost use Rattle.step_rules.specs.Trace.{trace_of};
 ghost use Rattle.weave_script.specs.Scripts.{IsScript, steps_of};
 ghost use Rattle.weave_script.specs.ScriptLines.{IsTextOf};
-ghost use Rattle.weaver_top.specs.Answers.{IsAnswerTo, TellsTraceAccepted};
+ghost use Rattle.weaver_top.specs.Answers.{AnswersScript, IsAnswerTo};
+ghost use Rattle.weaver_top.specs.StepReports.{IsReportOfSteps};
 ghost use Rattle.weave_script.specs.Limits.{IsShort};
 
 use crate::answer::{Answer, refusal};
 use crate::command::Command;
 use crate::status::Status;
 use program_defs::{Script, Step};
-use report_rules::StepAnswer;
 use report_rules::laws::orders_are_of_replies_and_pairs;
+use report_rules::{Report, StepAnswer};
 use std::alloc::{AllocError, Global};
 use step_rules::laws::replies_finish_programs;
 use weave_account::laws::account_is_right;
@@ -43,34 +44,47 @@ pub(crate) fn trace_on(alloc: Global, input: &[u8]) -> Result<Answer, AllocError
 // Does the steps of the script.
 fn answer_for(alloc: Global, script: Script) -> Result<Answer, AllocError>
     requires { IsScript script }
-    ensures { IfOk result (λ answer. (input : List ℕ)
-        → IsShort input → IsTextOf input script → IsAnswerTo Command.Trace input answer) }
+    ensures { IfOk result (AnswersScript Command.Trace script) }
 {
-    Ok(Answer {
-        status: Status::Done,
-        text: report_of(alloc, script)?,
-    })
+    scripts_are_small();
+    let mut core = Core::start(alloc, script)?;
+    answer_of_steps(alloc, &mut core)
 }
 
-// Does the steps of a script, and prints their report.
-fn report_of(alloc: Global, script: Script) -> Result<Vec<u8>, AllocError>
-    requires { IsScript script }
-    ensures { IfOk result (λ text. (input : List ℕ)
-        → IsShort input → IsTextOf input script → TellsTraceAccepted input text.items) }
+// Does the steps of a core's script, and prints their report.
+fn answer_of_steps(alloc: Global, core: &mut Core) -> Result<Answer, AllocError>
+    requires valid { IsScript core.old.script }
+    requires start { core.old.state ≡ start_state core.old.script }
+    ensures { IfOk result (AnswersScript Command.Trace core.old.script) }
 {
     account_is_right();
-    orders_are_of_replies_and_pairs();
     replies_finish_programs();
     scripts_are_small();
     script_names_are_distinct();
     printed_text_is_text();
     report_texts_follow_script_texts();
-    let mut core = Core::start(alloc, script)?;
-    let answers = traced(alloc, &mut core)?;
+    let report = report_of_steps(alloc, core)?;
+    let text = print_report(alloc, core.script(), &report)?;
+    Ok(Answer {
+        status: Status::Done,
+        text,
+    })
+}
+
+// Does the steps of a core's script, and makes their report.
+fn report_of_steps(alloc: Global, core: &mut Core) -> Result<Report, AllocError>
+    requires start { core.old.state ≡ start_state core.old.script }
+    requires steps { AllByRecursion (IsStepOf core.old.script) (steps_of core.old.script.steps) }
+    ensures script { OnOk result (core.new.script ≡ core.old.script) }
+    ensures report { IfOk result (IsReportOfSteps core.old.script) }
+{
+    orders_are_of_replies_and_pairs();
+    let answers = traced(alloc, core)?;
+    // Shows that the logs are an account.
+    core.script();
     let mut report = core.report(alloc)?;
     report.answers = answers;
-    let text = print_report(alloc, core.script(), &report)?;
-    Ok(text)
+    Ok(report)
 }
 
 /// Does the steps of the core's script, one after another, and gives their answers.
