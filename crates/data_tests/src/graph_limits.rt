@@ -44,10 +44,24 @@ fn script(rt: &impl Abort, alloc: Global, nodes: (u32, u32), count: usize) -> Sc
     }
 }
 
+// Whether a script of a program and a transaction is within the limits.
+fn is_within(
+    rt: &impl Abort,
+    alloc: Global,
+    nodes: (u32, u32),
+    gate: u32,
+    session: u32,
+    count: usize,
+) -> bool {
+    let mut script = script(rt, alloc, nodes, 1);
+    let transaction = request(rt, gate, session, change(rt, alloc, count));
+    script.requests.push(transaction).expect(rt, "memory");
+    script.is_within_limits()
+}
+
 // Gatekeepers and shards, then the gatekeeper, session and number of operations of a transaction after a program.
 #[test]
 fn limits_of_scripts(rt: HostRuntime) {
-    let alloc = rt.alloc();
     let rows = [
         ((1, 1), 0, 63, 0, true),
         ((8, 16), 7, 0, 64, true),
@@ -60,11 +74,7 @@ fn limits_of_scripts(rt: HostRuntime) {
         ((8, 16), 7, 63, 65, false),
     ];
     for (nodes, gate, session, count, wanted) in rows {
-        let mut script = script(&rt, alloc, nodes, 1);
-        let work = change(&rt, alloc, count);
-        let transaction = request(&rt, gate, session, work);
-        script.requests.push(transaction).expect(&rt, "memory");
-        assert!(rt; script.is_within_limits() == wanted);
+        assert!(rt; is_within(&rt, rt.alloc(), nodes, gate, session, count) == wanted);
     }
 }
 
@@ -72,6 +82,7 @@ fn limits_of_scripts(rt: HostRuntime) {
 #[test]
 fn the_most_requests(rt: HostRuntime) {
     let alloc = rt.alloc();
-    assert!(rt; script(&rt, alloc, (1, 1), 10_000).is_within_limits());
-    assert!(rt; !script(&rt, alloc, (1, 1), 10_001).is_within_limits());
+    let most = script(&rt, alloc, (1, 1), 10_000).is_within_limits();
+    let more = script(&rt, alloc, (1, 1), 10_001).is_within_limits();
+    assert!(rt; most && !more);
 }

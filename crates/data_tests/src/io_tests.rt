@@ -38,45 +38,81 @@ fn reads(alloc: Global, source: &mut MemorySource, text: &[u8]) -> bool {
     }
 }
 
+// The text is read in such pieces, and nothing after its end.
+fn reads_in_pieces(rt: &impl Abort, alloc: Global, piece: usize)
+    requires { 0 < piece }
+{
+    let mut source = source(rt, alloc, TEXT, &[], piece);
+    assert!(rt; reads(alloc, &mut source, TEXT) && reads(alloc, &mut source, b""));
+}
+
 #[test]
 fn reads_in_pieces_of_any_size(rt: HostRuntime) {
-    let alloc = rt.alloc();
     for piece in [1, 7, 100_000] {
         assert!(rt; piece > 0);
-        let mut source = source(&rt, alloc, TEXT, &[], piece);
-        assert!(rt; reads(alloc, &mut source, TEXT), "in pieces of {piece}");
-        assert!(rt; reads(alloc, &mut source, b""), "after the end");
+        reads_in_pieces(&rt, rt.alloc(), piece);
     }
+}
+
+// Whether reading fails if the call of this number does.
+fn fails_at(rt: &impl Abort, alloc: Global, number: u64) -> bool {
+    let mut source = source(rt, alloc, TEXT, &[number], 7);
+    matches!(&read_all(alloc, &mut source), Err(ReadFault::Read))
 }
 
 // Nineteen bytes in pieces of seven are three calls, and one more meets the end.
 #[test]
 fn a_failed_call_ends_the_reading(rt: HostRuntime) {
-    let alloc = rt.alloc();
     for number in 1..=4 {
-        let mut source = source(&rt, alloc, TEXT, &[number], 7);
-        let answer = read_all(alloc, &mut source);
-        assert!(rt; matches!(&answer, Err(ReadFault::Read)), "at call {number}");
+        assert!(rt; fails_at(&rt, rt.alloc(), number), "at call {number}");
     }
-    let mut source = source(&rt, alloc, TEXT, &[5], 7);
-    assert!(rt; reads(alloc, &mut source, TEXT));
+    let mut source = source(&rt, rt.alloc(), TEXT, &[5], 7);
+    assert!(rt; reads(rt.alloc(), &mut source, TEXT));
+}
+
+// An input of that many bytes is read whole.
+fn reads_longest(rt: &impl Abort, alloc: Global, piece: usize)
+    requires { 0 < piece }
+{
+    let mut longest = spaces(rt, alloc, 4_194_304, piece);
+    let bytes = read_all(alloc, &mut longest).expect(rt, "a short input");
+    assert!(rt; bytes.len() == 4_194_304);
+}
+
+// One of two bytes more is too long, and one byte of these two was taken.
+fn refuses_longer(rt: &impl Abort, alloc: Global, piece: usize)
+    requires { 0 < piece }
+{
+    let mut longer = spaces(rt, alloc, 4_194_306, piece);
+    let answer = read_all(alloc, &mut longer);
+    assert!(rt; matches!(&answer, Err(ReadFault::TooLong)));
+    assert!(rt; reads(alloc, &mut longer, b" "));
 }
 
 #[test]
 fn the_longest_input_passes_and_one_byte_more_does_not(rt: HostRuntime) {
-    let alloc = rt.alloc();
     for piece in [1, 65_537] {
         assert!(rt; piece > 0);
-        let mut longest = spaces(&rt, alloc, 4_194_304, piece);
-        let bytes = read_all(alloc, &mut longest).expect(&rt, "a short input");
-        assert!(rt; bytes.len() == 4_194_304);
-        let mut longer = spaces(&rt, alloc, 4_194_306, piece);
-        let answer = read_all(alloc, &mut longer);
-        assert!(rt; matches!(&answer, Err(ReadFault::TooLong)));
-        // One byte of two too many was taken.
-        assert!(rt; reads(alloc, &mut longer, b" "));
+        reads_longest(&rt, rt.alloc(), piece);
+        refuses_longer(&rt, rt.alloc(), piece);
     }
     assert!(rt; MOST_BYTES == 4_194_304);
+}
+
+// A call with this much room has this answer, and the buffer then has these bytes.
+fn takes(
+    rt: &impl Abort,
+    source: &mut MemorySource,
+    buffer: &mut [u8; 4],
+    room: usize,
+    answer: Result<usize, Failed>,
+    held: &[u8],
+) {
+    if room > 4 {
+        panic!(rt; "no such room");
+    }
+    assert!(rt; source.take(&mut buffer[..room]) == answer);
+    assert!(rt; buffer.as_slice() == held, "at {held:?}");
 }
 
 #[test]
@@ -93,8 +129,14 @@ fn planned_calls_of_a_source_fail(rt: HostRuntime) {
         (4, Ok(0), b"ed\0\0"),
     ];
     for (room, answer, held) in rows {
-        assert!(rt; source.take(&mut buffer[..room]) == answer);
-        assert!(rt; buffer.as_slice() == held.as_slice(), "at {held:?}");
+        takes(&rt, &mut source, &mut buffer, room, answer, held);
+    }
+}
+
+// The sink's calls have these answers, one after another.
+fn put_each(rt: &impl Abort, sink: &mut MemorySink, rows: &[(&[u8], Result<usize, Failed>)]) {
+    for row in rows {
+        assert!(rt; sink.put(row.0) == row.1);
     }
 }
 
@@ -107,21 +149,27 @@ fn planned_calls_of_a_sink_fail(rt: HostRuntime) {
         (b"c", Ok(1)),
         (b"", Ok(0)),
     ];
-    for (piece, answer) in rows {
-        assert!(rt; sink.put(piece) == answer, "at {piece:?}");
-    }
+    put_each(&rt, &mut sink, &rows);
     assert!(rt; sink.bytes() == b"abc".as_slice());
+}
+
+// Writing a text has this answer, and the sink then has these bytes.
+fn writes(
+    rt: &impl Abort,
+    sink: &mut MemorySink,
+    text: &[u8],
+    answer: &Result<(), WriteFault>,
+    bytes: &[u8],
+) {
+    assert!(rt; write_all(sink, text) == *answer);
+    assert!(rt; sink.bytes() == bytes);
 }
 
 #[test]
 fn writes_in_pieces_of_any_size(rt: HostRuntime) {
     for piece in [1, 7, 100_000] {
         let mut sink = sink(&rt, rt.alloc(), &[], piece);
-        assert!(rt;
-            write_all(&mut sink, TEXT) == Ok(()),
-            "in pieces of {piece}"
-        );
-        assert!(rt; sink.bytes() == TEXT, "in pieces of {piece}");
+        writes(&rt, &mut sink, TEXT, &Ok(()), TEXT);
     }
 }
 
@@ -129,15 +177,14 @@ fn writes_in_pieces_of_any_size(rt: HostRuntime) {
 fn a_failed_call_leaves_a_prefix_written(rt: HostRuntime) {
     for (number, prefix) in [(2, b"repor".as_slice()), (4, b"report 1\norder\n")] {
         let mut sink = sink(&rt, rt.alloc(), &[number], 5);
-        assert!(rt; write_all(&mut sink, TEXT) == Err(WriteFault));
-        assert!(rt; sink.bytes() == prefix, "at call {number}");
+        writes(&rt, &mut sink, TEXT, &Err(WriteFault), prefix);
     }
 }
 
 #[test]
 fn a_sink_that_takes_nothing_is_a_fault(rt: HostRuntime) {
     let mut sink = sink(&rt, rt.alloc(), &[], 0);
-    assert!(rt; write_all(&mut sink, TEXT) == Err(WriteFault));
-    assert!(rt; sink.bytes().len() == 0);
-    assert!(rt; write_all(&mut sink, b"") == Ok(()), "an empty text");
+    writes(&rt, &mut sink, TEXT, &Err(WriteFault), b"");
+    // An empty text is written.
+    writes(&rt, &mut sink, b"", &Ok(()), b"");
 }

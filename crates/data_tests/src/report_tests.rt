@@ -5,7 +5,9 @@ use std::alloc::Global;
 use std::process::Abort;
 use vector_stamp::{Clock, Stamp};
 use weave_data::Items;
-use weave_report::{Reply, ReplyState, ReportCause, ReportFault, print_report, read_report};
+use weave_report::{
+    Reply, ReplyState, Report, ReportCause, ReportFault, print_report, read_report,
+};
 use weave_script::{print_script, read_check};
 
 const BOTH: &str = "weaver 1 2 3
@@ -43,16 +45,24 @@ order p t
 did 1 waits v\n
 end\n\n# the end";
 
-// The script that is read before a report, and the report, printed one after the other.
+// A script and its report, printed one after the other.
+fn printed(rt: &impl Abort, alloc: Global, script: &Script, report: &Report) -> Vec<u8> {
+    let mut printed = print_script(alloc, script).expect(rt, "memory");
+    let after = print_report(alloc, script, report).expect(rt, "memory");
+    printed.extend_from_slice(&after).expect(rt, "memory");
+    printed
+}
+
+// Whether the script that is read before a report, and the report, are printed so.
+fn is_printed_back(rt: &impl Abort, alloc: Global, text: &str) -> bool {
+    let (script, report) = read_check(alloc, text.as_bytes()).expect(rt, "a report");
+    printed(rt, alloc, &script, &report).as_slice() == BOTH.as_bytes()
+}
+
 #[test]
 fn a_script_and_its_report_are_printed_back(rt: HostRuntime) {
-    let alloc = rt.alloc();
     for text in [BOTH, BOTH_WITH_SKIPPED_LINES] {
-        let (script, report) = read_check(alloc, text.as_bytes()).expect(&rt, "a report");
-        let mut printed = print_script(alloc, &script).expect(&rt, "memory");
-        let after = print_report(alloc, &script, &report).expect(&rt, "memory");
-        printed.extend_from_slice(&after).expect(&rt, "memory");
-        assert!(rt; printed.as_slice() == BOTH.as_bytes());
+        assert!(rt; is_printed_back(&rt, rt.alloc(), text));
     }
 }
 
@@ -83,31 +93,43 @@ order t  t
 end
 ";
 
-// Request 9, which the script doesn't have and whose name is empty, and an answer that isn't of the program's form.
-#[test]
-fn a_report_that_no_text_gives(rt: HostRuntime) {
-    let alloc = rt.alloc();
-    let (script, mut report) = read_check(alloc, READ.as_bytes()).expect(&rt, "a report");
-    let unknown = Reply {
+// Request 9, which the script doesn't have and whose name is empty.
+fn unknown() -> Reply {
+    Reply {
         request: 9,
         stamp: None,
         state: ReplyState::Unbegun,
-    };
+    }
+}
+
+// An answer that isn't of the program's form.
+fn reached() -> Reply {
     let clock = Clock {
         epoch: 0,
         counts: [1, 0, 0, 0, 0, 0, 0, 0],
     };
-    let reached = Reply {
+    Reply {
         request: 1,
         stamp: Some(Stamp { home: 0, clock }),
         state: ReplyState::Finished(Answer::Reached(true)),
-    };
-    report.replies.push(unknown).expect(&rt, "memory");
-    report.replies.push(reached).expect(&rt, "memory");
-    report.order.push(9).expect(&rt, "memory");
-    report.order.push(0).expect(&rt, "memory");
-    let printed = print_report(alloc, &script, &report).expect(&rt, "memory");
+    }
+}
+
+// The report with both of these is printed.
+fn add_and_print(rt: &impl Abort, alloc: Global, script: &Script, report: &mut Report) {
+    report.replies.push(unknown()).expect(rt, "memory");
+    report.replies.push(reached()).expect(rt, "memory");
+    report.order.push(9).expect(rt, "memory");
+    report.order.push(0).expect(rt, "memory");
+    let printed = print_report(alloc, script, report).expect(rt, "memory");
     assert!(rt; printed.as_slice() == PRINTED.as_bytes());
+}
+
+#[test]
+fn a_report_that_no_text_gives(rt: HostRuntime) {
+    let alloc = rt.alloc();
+    let (script, mut report) = read_check(alloc, READ.as_bytes()).expect(&rt, "a report");
+    add_and_print(&rt, alloc, &script, &mut report);
 }
 
 fn empty_script(alloc: Global) -> Script

@@ -1,7 +1,6 @@
-use program_defs::Step;
+use program_defs::{Script, Step};
 use std::alloc::{AllocError, Global};
 use std::process::Abort;
-use std::test::Fail;
 use weave_data::{Items, MOST_BYTES};
 use weave_script::{ScriptFault, print_script, read_script};
 use weave_text::Text;
@@ -48,18 +47,18 @@ const HEADER: &str = "weaver 1 1 1\n";
 
 const STEPS: &str = "weaver 1 1 1\nsteps\n";
 
-const TRANSACTION: [&str; 2] = ["tx t", " 0 0\nend\n"];
+const TRANSACTION: &[&str] = &["tx t", " 0 0\nend\n"];
 
-const PROGRAM: [&str; 2] = ["prog p", " 0 0 show v\n"];
+const PROGRAM: &[&str] = &["prog p", " 0 0 show v\n"];
 
-const TWENTY_GETS: [&str; 2] = [
+const TWENTY_GETS: &[&str] = &[
     "tx t",
     " 0 0\nget v\nget v\nget v\nget v\nget v\nget v\nget v\nget v\nget v\nget v\nget v\nget v\nget v\nget v\nget v\nget v\nget v\nget v\nget v\nget v\nend\n",
 ];
 
-const TWO_VERTICES: [&str; 4] = ["tx t", " 0 0\nlink v", " e w", "\nend\n"];
+const TWO_VERTICES: &[&str] = &["tx t", " 0 0\nlink v", " e w", "\nend\n"];
 
-const STEP: [&str; 2] = ["say 0\n#", "\n"];
+const STEP: &[&str] = &["say 0\n#", "\n"];
 
 const CREATE_A_KNOWN: &str = "tx u 0 0\ncreate v0\nend\n";
 
@@ -67,79 +66,79 @@ const CREATE_ANOTHER: &str = "tx u 0 0\ncreate x\nend\n";
 
 const GET: &str = "tx u 0 0\nget v\nend\n";
 
+// A start, a number of pieces, an end, and the line and the cause of the refusal.
+type Limit = (
+    &'static str,
+    u64,
+    &'static [&'static str],
+    &'static str,
+    u32,
+    &'static str,
+);
+
 // Each limit, and one past it, but that of the operations of one transaction.
-#[test]
-fn limits(rt: HostRuntime) -> Result<(), Fail> {
-    let alloc = rt.alloc();
-    for (start, count, pieces, end, line, cause) in [
-        (HEADER, 1_000, PROGRAM.as_slice(), "", 0, "read"),
-        (HEADER, 1_001, PROGRAM.as_slice(), "", 1_002, "programs"),
-        (
-            HEADER,
-            50,
-            TWENTY_GETS.as_slice(),
-            CREATE_ANOTHER,
-            0,
-            "read",
-        ),
-        (HEADER, 50, TWENTY_GETS.as_slice(), GET, 1_103, "gets"),
-        (HEADER, 10_000, TRANSACTION.as_slice(), "", 0, "read"),
-        (
-            HEADER,
-            10_001,
-            TRANSACTION.as_slice(),
-            "",
-            20_002,
-            "requests",
-        ),
-        (
-            HEADER,
-            5_000,
-            TWO_VERTICES.as_slice(),
-            CREATE_A_KNOWN,
-            0,
-            "read",
-        ),
-        (
-            HEADER,
-            5_000,
-            TWO_VERTICES.as_slice(),
-            CREATE_ANOTHER,
-            15_003,
-            "vertices",
-        ),
-        (STEPS, 100_000, STEP.as_slice(), "", 0, "read"),
-        (STEPS, 100_001, STEP.as_slice(), "", 200_003, "steps"),
-    ] {
-        let text = many(alloc, start, count, pieces, end)?;
-        let want = (line, cause.as_bytes());
-        assert!(rt; refusal_of(alloc, &text) == want, "{count} {cause}");
-    }
-    Ok(())
+const LIMITS: [Limit; 10] = [
+    (HEADER, 1_000, PROGRAM, "", 0, "read"),
+    (HEADER, 1_001, PROGRAM, "", 1_002, "programs"),
+    (HEADER, 50, TWENTY_GETS, CREATE_ANOTHER, 0, "read"),
+    (HEADER, 50, TWENTY_GETS, GET, 1_103, "gets"),
+    (HEADER, 10_000, TRANSACTION, "", 0, "read"),
+    (HEADER, 10_001, TRANSACTION, "", 20_002, "requests"),
+    (HEADER, 5_000, TWO_VERTICES, CREATE_A_KNOWN, 0, "read"),
+    (
+        HEADER,
+        5_000,
+        TWO_VERTICES,
+        CREATE_ANOTHER,
+        15_003,
+        "vertices",
+    ),
+    (STEPS, 100_000, STEP, "", 0, "read"),
+    (STEPS, 100_001, STEP, "", 200_003, "steps"),
+];
+
+// The text is refused at this line for this cause.
+fn refuses(rt: &impl Abort, alloc: Global, limit: &Limit) {
+    let text = many(alloc, limit.0, limit.1, limit.2, limit.3).expect(rt, "memory");
+    assert!(rt; refusal_of(alloc, &text) == (limit.4, limit.5.as_bytes()));
 }
 
 #[test]
-fn the_longest_input(rt: HostRuntime) -> Result<(), Fail> {
-    let alloc = rt.alloc();
-    let longest = vec![in alloc; b'#'; MOST_BYTES]?;
-    assert!(rt; refusal_of(alloc, &longest) == (2, b"header".as_slice()));
-    let too_long = vec![in alloc; b'#'; MOST_BYTES + 1]?;
-    assert!(rt; refusal_of(alloc, &too_long) == (0, b"too_long".as_slice()));
-    Ok(())
+fn limits(rt: HostRuntime) {
+    for limit in &LIMITS {
+        refuses(&rt, rt.alloc(), limit);
+    }
+}
+
+// What a comment of that many bytes is refused for.
+fn refusal_of_bytes(rt: &impl Abort, alloc: Global, count: usize) -> (u32, &'static [u8]) {
+    let text = vec![in alloc; b'#'; count].expect(rt, "memory");
+    refusal_of(alloc, &text)
+}
+
+#[test]
+fn the_longest_input(rt: HostRuntime) {
+    assert!(rt; refusal_of_bytes(&rt, rt.alloc(), MOST_BYTES) == (2, b"header".as_slice()));
+    let too_long = refusal_of_bytes(&rt, rt.alloc(), MOST_BYTES + 1);
+    assert!(rt; too_long == (0, b"too_long".as_slice()));
 }
 
 // A phase after more requests than there are, and a step of a request that the script lacks, whose name is empty.
+fn change(rt: &impl Abort, alloc: Global, script: &mut Script) {
+    script.phases.push(9).expect(rt, "memory");
+    let mut steps = Items::new(alloc);
+    steps.push(Step::Reply { request: 6 }).expect(rt, "memory");
+    script.steps = Some(steps);
+}
+
+const CHANGED: &str = "weaver 1 1 1\nprog p 0 0 show v\nphase\nsteps\nreply \n";
+
 #[test]
 fn a_script_that_no_text_gives(rt: HostRuntime) {
     let alloc = rt.alloc();
     let text = b"weaver 1 1 1\nprog p 0 0 show v\n";
     let mut script = read_script(alloc, text).expect(&rt, "a script");
-    script.phases.push(9).expect(&rt, "memory");
-    let mut steps = Items::new(alloc);
-    steps.push(Step::Reply { request: 6 }).expect(&rt, "memory");
-    script.steps = Some(steps);
+    change(&rt, alloc, &mut script);
     let printed = print_script(alloc, &script).expect(&rt, "memory");
-    assert!(rt;
-        printed.as_slice() == b"weaver 1 1 1\nprog p 0 0 show v\nphase\nsteps\nreply \n".as_slice()
-    );
+    assert!(rt; printed.as_slice() == CHANGED.as_bytes());
 }

@@ -25,8 +25,7 @@ fn each_relation(rt: HostRuntime) {
         (clock(2, 0, 0), clock(1, 5, 7), Relation::After, false),
     ];
     for (one, other, relation, at_most) in cases.iter() {
-        assert!(rt; one.compare(other) == *relation, "{one:?} and {other:?}");
-        assert!(rt; one.at_most(other) == *at_most, "{one:?} and {other:?}");
+        assert!(rt; one.compare(other) == *relation && one.at_most(other) == *at_most);
     }
 }
 
@@ -37,28 +36,8 @@ fn ticks_of_two_gatekeepers(rt: HostRuntime) {
     let first = clock_of_0.tick(0);
     let other = clock_of_1.tick(1);
     let second = clock_of_0.tick(0);
-    assert!(rt;
-        first
-            == Stamp {
-                home: 0,
-                clock: clock(0, 1, 0)
-            }
-    );
-    assert!(rt;
-        other
-            == Stamp {
-                home: 1,
-                clock: clock(0, 0, 1)
-            }
-    );
-    assert!(rt;
-        second
-            == Stamp {
-                home: 0,
-                clock: clock(0, 2, 0)
-            }
-    );
-    assert!(rt; clock_of_0 == second.clock);
+    assert!(rt; first == stamp(0, clock(0, 1, 0)) && other == stamp(1, clock(0, 0, 1)));
+    assert!(rt; second == stamp(0, clock(0, 2, 0)) && clock_of_0 == second.clock);
     assert!(rt;
         second.id()
             == EventId {
@@ -108,7 +87,7 @@ fn hears(rt: HostRuntime) {
     for (case, before, heard, after) in cases.iter() {
         let mut own = *before;
         own.hear(0, heard);
-        assert!(rt; own == *after, "{case}: {own:?}");
+        assert!(rt; own == *after, "{case}");
     }
 }
 
@@ -139,14 +118,17 @@ fn raises_and_meets(rt: HostRuntime) {
         (clock(2, 0, 0), clock(1, 3, 5), clock(1, 3, 5)),
     ];
     for (one, other, meet) in cases.iter() {
-        assert!(rt; one.meet(other) == *meet, "{one:?} and {other:?}");
+        assert!(rt; one.meet(other) == *meet);
     }
 }
 
-fn answer_of(rt: &impl Abort, alloc: Global, places: &[u32]) -> Settled {
-    Settled {
+// Whether an answer with these places is copied.
+fn is_copied(rt: &impl Abort, alloc: Global, places: &[u32]) -> bool {
+    let answer = Settled {
         places: Items::from_vec(Vec::from_slice(alloc, places).expect(rt, "memory")),
-    }
+    };
+    let copied = answer.copy(alloc).expect(rt, "memory");
+    copied.places.as_slice() == places
 }
 
 // An answer without places, with one and with several.
@@ -155,10 +137,7 @@ fn copies(rt: HostRuntime) {
     let alloc = rt.alloc();
     let rows: [&[u32]; 4] = [&[], &[0], &[1, 4], &[0, 1, 2, 7, u32::MAX]];
     for places in rows {
-        let copied = answer_of(&rt, alloc, places)
-            .copy(alloc)
-            .expect(&rt, "memory");
-        assert!(rt; copied.places.as_slice() == places);
+        assert!(rt; is_copied(&rt, alloc, places));
     }
 }
 
@@ -185,12 +164,10 @@ fn compares_stamps(rt: HostRuntime) {
         (stamp(0, clock(0, 1, 7)), first, false, false, false),
     ];
     for (one, two, before, unordered, apart) in cases.iter() {
-        assert!(rt; one.is_before(two) == *before);
-        assert!(rt; one.is_unordered(two) == *unordered);
+        assert!(rt; one.is_before(two) == *before && one.is_unordered(two) == *unordered);
         assert!(rt; one.is_apart(two) == *apart);
     }
-    assert!(rt; second.own_count() == 2);
-    assert!(rt; stamp(9, clock(0, 1, 0)).own_count() == 0);
+    assert!(rt; second.own_count() == 2 && stamp(9, clock(0, 1, 0)).own_count() == 0);
 }
 
 #[test]

@@ -101,44 +101,63 @@ fn output_of(good: u64, most: usize) -> Taking {
     }
 }
 
+// After that many calls each call of a source fails.
+fn fails_after(rt: &impl Abort, good: u64) {
+    let mut buffer = [0u8; 4];
+    let mut source = StdSource::new(&Planned { good });
+    for _ in 0..good {
+        assert!(rt; source.take(&mut buffer) == Ok(1) && buffer[0] == b'a');
+    }
+    assert!(rt; source.take(&mut buffer) == Err(Failed), "after {good}");
+    assert!(rt; source.take(&mut buffer) == Err(Failed));
+}
+
+// Reading all of such a source fails.
+fn reading_fails(rt: &impl Abort, alloc: Global, good: u64) {
+    let mut whole = StdSource::new(&Planned { good });
+    let answer = read_all(alloc, &mut whole);
+    assert!(rt; matches!(&answer, Err(ReadFault::Read)), "after {good}");
+}
+
 #[test]
 fn a_reader_that_fails_is_not_at_its_end(rt: HostRuntime) {
-    let mut buffer = [0u8; 4];
     for good in 0..3 {
-        let mut source = StdSource::new(&Planned { good });
-        for _ in 0..good {
-            assert!(rt; source.take(&mut buffer) == Ok(1) && buffer[0] == b'a');
-        }
-        assert!(rt; source.take(&mut buffer) == Err(Failed), "after {good}");
-        assert!(rt; source.take(&mut buffer) == Err(Failed), "once more");
-        let mut whole = StdSource::new(&Planned { good });
-        let answer = read_all(rt.alloc(), &mut whole);
-        assert!(rt; matches!(&answer, Err(ReadFault::Read)), "after {good}");
+        fails_after(&rt, good);
+        reading_fails(&rt, rt.alloc(), good);
     }
+}
+
+// After that many calls each call of a sink fails.
+fn puts_fail_after(rt: &impl Abort, good: u64) {
+    let output = output_of(good, 1);
+    let mut sink = StdSink::new(&output);
+    for _ in 0..good {
+        assert!(rt; sink.put(b"abcd") == Ok(1));
+    }
+    assert!(rt; sink.put(b"abcd") == Err(Failed), "after {good}");
+    assert!(rt; sink.put(b"abcd") == Err(Failed));
+}
+
+// Writing four bytes to such a sink, of this many bytes a call, has this answer.
+fn writes(rt: &impl Abort, good: u64, most: usize, answer: &Result<(), WriteFault>) {
+    let output = output_of(good, most);
+    let mut whole = StdSink::new(&output);
+    assert!(rt; write_all(&mut whole, b"abcd") == *answer, "after {good}");
+}
+
+// A sink takes nothing, and is not done.
+fn takes_nothing(rt: &impl Abort) {
+    let output = output_of(4, 0);
+    let mut full = StdSink::new(&output);
+    assert!(rt; full.put(b"abcd") == Ok(0) && write_all(&mut full, b"abcd") == Err(WriteFault));
 }
 
 #[test]
 fn a_writer_that_fails_is_not_done(rt: HostRuntime) {
     for good in 0..3 {
-        let output = output_of(good, 1);
-        let mut sink = StdSink::new(&output);
-        for _ in 0..good {
-            assert!(rt; sink.put(b"abcd") == Ok(1));
-        }
-        assert!(rt; sink.put(b"abcd") == Err(Failed), "after {good}");
-        assert!(rt; sink.put(b"abcd") == Err(Failed), "once more");
-        let output = output_of(good, 1);
-        let mut whole = StdSink::new(&output);
-        assert!(rt;
-            write_all(&mut whole, b"abcd") == Err(WriteFault),
-            "after {good}"
-        );
+        puts_fail_after(&rt, good);
+        writes(&rt, good, 1, &Err(WriteFault));
     }
-    let output = output_of(4, 1);
-    let mut enough = StdSink::new(&output);
-    assert!(rt; write_all(&mut enough, b"abcd") == Ok(()));
-    let output = output_of(4, 0);
-    let mut full = StdSink::new(&output);
-    assert!(rt; full.put(b"abcd") == Ok(0));
-    assert!(rt; write_all(&mut full, b"abcd") == Err(WriteFault));
+    writes(&rt, 4, 1, &Ok(()));
+    takes_nothing(&rt);
 }

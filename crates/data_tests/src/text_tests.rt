@@ -1,4 +1,4 @@
-use std::alloc::AllocError;
+use std::alloc::{AllocError, Global};
 use std::process::Abort;
 use weave_text::{
     Numeral, Pieces, Text, first_line, first_words, is, is_skipped, number, number_up_to, pieces,
@@ -34,9 +34,17 @@ fn lines_are_cut(rt: HostRuntime) {
 
 #[test]
 fn lines_are_skipped(rt: HostRuntime) {
-    assert!(rt; is_skipped(b""));
-    assert!(rt; is_skipped(b"# a"));
-    assert!(rt; !is_skipped(b" #"));
+    assert!(rt; is_skipped(b"") && is_skipped(b"# a") && !is_skipped(b" #"));
+}
+
+// How many words a line has.
+fn word_count(rt: &impl Abort, alloc: Global, line: &[u8]) -> usize {
+    words(alloc, line).expect(rt, "memory").len()
+}
+
+// How many of the first three words a line has.
+fn first_count(rt: &impl Abort, alloc: Global, line: &[u8]) -> usize {
+    first_words(alloc, 3, line).expect(rt, "memory").len()
 }
 
 #[test]
@@ -47,28 +55,21 @@ fn words_are_cut(rt: HostRuntime) {
         (b" a  b", 4),
         (b"", 1),
     ] {
-        let words = words(alloc, line).expect(&rt, "memory");
-        assert!(rt; words.len() == count);
+        assert!(rt; word_count(&rt, alloc, line) == count);
     }
-    for (line, count) in [(b"set ann city oslo".as_slice(), 3), (b" a", 2)] {
-        let words = first_words(alloc, 3, line).expect(&rt, "memory");
-        assert!(rt; words.len() == count);
-    }
+    assert!(rt; first_count(&rt, alloc, b"set ann city oslo") == 3);
+    assert!(rt; first_count(&rt, alloc, b" a") == 2);
     let pieces = pieces(alloc, b':', b"0:1:3,4").expect(&rt, "memory");
-    assert!(rt; pieces.len() == 3);
-    assert!(rt; is(b"set", b"set"));
+    assert!(rt; pieces.len() == 3 && is(b"set", b"set"));
 }
 
 // The pieces of a text at its colons, cut off one after another, are these.
 fn assert_pieces(rt: &impl Abort, text: &[u8], wanted: &[&[u8]]) {
     let mut pieces = Pieces::new(b':', text);
     for piece in wanted {
-        assert!(rt; !pieces.is_empty());
-        assert!(rt; pieces.next() == Some(*piece), "at {text:?}");
+        assert!(rt; !pieces.is_empty() && pieces.next() == Some(*piece));
     }
-    assert!(rt; pieces.is_empty());
-    assert!(rt; pieces.next() == None, "at {text:?}");
-    assert!(rt; pieces.next() == None, "at {text:?}");
+    assert!(rt; pieces.is_empty() && pieces.next() == None && pieces.next() == None);
 }
 
 #[test]

@@ -20,26 +20,34 @@ fn reads(rt: &impl Abort, alloc: Global, count: u64) -> Items<Op> {
     ops
 }
 
+// A part of that many operations, and that many earlier commits.
+fn part_of(rt: &impl Abort, alloc: Global, count: u64) -> Part {
+    Part {
+        vertex: name(rt, "v"),
+        before: count,
+        ops: reads(rt, alloc, count),
+    }
+}
+
 // A message with that many parts: of no operation, of one, of two and so on. One without parts is of no transaction.
-fn message_of(rt: &impl Abort, alloc: Global, count: u64) -> Addressed {
+fn message_of(rt: &impl Abort, alloc: Global, count: u64) -> Message {
     let mut parts = Items::new(alloc);
     for before in 0..count {
-        let part = Part {
-            vertex: name(rt, "v"),
-            before,
-            ops: reads(rt, alloc, before),
-        };
-        parts.push(part).expect(rt, "memory");
+        parts.push(part_of(rt, alloc, before)).expect(rt, "memory");
     }
-    let message = Message {
+    Message {
         request: if count == 0 { None } else { Some(4) },
         stamp: stamp(0, 2, 1, 0),
         low: clock(0, 1, 1),
         parts,
-    };
+    }
+}
+
+// A message to shard 1.
+fn addressed(number: u64, message: Message) -> Addressed {
     Addressed {
         shard: 1,
-        number: count,
+        number,
         message,
     }
 }
@@ -62,7 +70,7 @@ fn one_part(rt: &impl Abort, alloc: Global) -> Message {
 
 fn is_copied(rt: &impl Abort, alloc: Global, sent: &Addressed) {
     let copied = sent.copy(alloc).expect(rt, "memory");
-    assert!(rt; (copied.shard, copied.number) == (sent.shard, sent.number));
+    assert!(rt; copied.shard == sent.shard && copied.number == sent.number);
     assert!(rt; copied.message.stamp() == stamp(0, 2, 1, 0));
     assert!(rt; same_message(&copied.message, &sent.message));
 }
@@ -71,14 +79,9 @@ fn is_copied(rt: &impl Abort, alloc: Global, sent: &Addressed) {
 fn messages_of_several_parts(rt: HostRuntime) {
     let alloc = rt.alloc();
     for count in 0..4 {
-        is_copied(&rt, alloc, &message_of(&rt, alloc, count));
+        is_copied(&rt, alloc, &addressed(count, message_of(&rt, alloc, count)));
     }
-    let sent = Addressed {
-        shard: 1,
-        number: 5,
-        message: one_part(&rt, alloc),
-    };
-    is_copied(&rt, alloc, &sent);
+    is_copied(&rt, alloc, &addressed(5, one_part(&rt, alloc)));
 }
 
 // The kind of a deed, its numbers and its clocks.
@@ -113,12 +116,12 @@ fn shown(deed: &GateDeed) -> (&'static str, [u64; 2], Option<Stamp>, Option<Cloc
     }
 }
 
+// The sending of that many messages.
 fn sent(rt: &impl Abort, alloc: Global, count: u64) -> GateDeed {
     let mut messages = Items::new(alloc);
     for parts in 0..count {
-        messages
-            .push(message_of(rt, alloc, parts))
-            .expect(rt, "memory");
+        let one = addressed(parts, message_of(rt, alloc, parts));
+        messages.push(one).expect(rt, "memory");
     }
     GateDeed::Sent {
         request: 4,
@@ -126,43 +129,49 @@ fn sent(rt: &impl Abort, alloc: Global, count: u64) -> GateDeed {
     }
 }
 
-fn gate_deeds(rt: &impl Abort, alloc: Global) -> [GateDeed; 10] {
-    let addressed = Addressed {
-        shard: 1,
-        number: 5,
-        message: one_part(rt, alloc),
-    };
+// The sending of one message with one part of one operation.
+fn sent_one_part(rt: &impl Abort, alloc: Global) -> GateDeed {
+    let one = addressed(5, one_part(rt, alloc));
+    GateDeed::Sent {
+        request: 4,
+        messages: list(rt, alloc, [one]),
+    }
+}
+
+// Ten deeds, numbered from 0.
+fn gate_deed(rt: &impl Abort, alloc: Global, number: u32) -> GateDeed {
     let (stamp, low) = (stamp(0, 2, 1, 0), clock(0, 1, 1));
-    [
-        GateDeed::BeganTx { request: 4, stamp },
-        GateDeed::BeganProgram { request: 5, stamp },
-        sent(rt, alloc, 0),
-        sent(rt, alloc, 1),
-        sent(rt, alloc, 3),
-        GateDeed::Sent {
-            request: 4,
-            messages: list(rt, alloc, [addressed]),
-        },
-        GateDeed::Nop {
+    match number {
+        0 => GateDeed::BeganTx { request: 4, stamp },
+        1 => GateDeed::BeganProgram { request: 5, stamp },
+        2 => sent(rt, alloc, 0),
+        3 => sent(rt, alloc, 1),
+        4 => sent(rt, alloc, 3),
+        5 => sent_one_part(rt, alloc),
+        6 => GateDeed::Nop {
             shard: 15,
             number: u64::MAX,
             stamp,
             low,
         },
-        GateDeed::Heard { clock: low },
-        GateDeed::Raised { epoch: 9 },
-        GateDeed::Finished { request: 6 },
-    ]
+        7 => GateDeed::Heard { clock: low },
+        8 => GateDeed::Raised { epoch: 9 },
+        _ => GateDeed::Finished { request: 6 },
+    }
+}
+
+// The entry of a deed is copied.
+fn is_gate_copied(rt: &impl Abort, alloc: Global, deed: GateDeed) {
+    let entry = GateEntry { author: 8, deed };
+    let copied = entry.copy(alloc).expect(rt, "memory");
+    assert!(rt; copied.author == 8);
+    assert!(rt; shown(&copied.deed) == shown(&entry.deed));
 }
 
 #[test]
 fn each_deed_of_a_gatekeeper(rt: HostRuntime) {
-    let alloc = rt.alloc();
-    for deed in gate_deeds(&rt, alloc) {
-        let entry = GateEntry { author: 8, deed };
-        let copied = entry.copy(alloc).expect(&rt, "memory");
-        assert!(rt; copied.author == 8);
-        assert!(rt; shown(&copied.deed) == shown(&entry.deed));
+    for number in 0..10 {
+        is_gate_copied(&rt, rt.alloc(), gate_deed(&rt, rt.alloc(), number));
     }
 }
 
@@ -203,10 +212,9 @@ fn shown_of_shard(
     }
 }
 
-fn arrived(rt: &impl Abort, alloc: Global, parts: u64) -> ShardDeed {
-    let Addressed { message, .. } = message_of(rt, alloc, parts);
+fn arrived(gate: u32, message: Message) -> ShardDeed {
     ShardDeed::Arrived {
-        gate: 7,
+        gate,
         number: 5,
         message,
     }
@@ -222,55 +230,83 @@ fn visited(rt: &impl Abort, settled: bool) -> ShardDeed {
     }
 }
 
-#[test]
-fn each_deed_of_a_shard(rt: HostRuntime) {
-    let alloc = rt.alloc();
-    let deeds = [
-        arrived(&rt, alloc, 0),
-        arrived(&rt, alloc, 1),
-        arrived(&rt, alloc, 3),
-        ShardDeed::Arrived {
-            gate: 1,
-            number: 5,
-            message: one_part(&rt, alloc),
-        },
-        ShardDeed::Applied { gate: 7, number: 5 },
-        visited(&rt, true),
-        visited(&rt, false),
-        ShardDeed::Collected { bound: None },
-        ShardDeed::Collected {
+// Nine deeds, numbered from 0.
+fn shard_deed(rt: &impl Abort, alloc: Global, number: u32) -> ShardDeed {
+    match number {
+        0 => arrived(7, message_of(rt, alloc, 0)),
+        1 => arrived(7, message_of(rt, alloc, 1)),
+        2 => arrived(7, message_of(rt, alloc, 3)),
+        3 => arrived(1, one_part(rt, alloc)),
+        4 => ShardDeed::Applied { gate: 7, number: 5 },
+        5 => visited(rt, true),
+        6 => visited(rt, false),
+        7 => ShardDeed::Collected { bound: None },
+        _ => ShardDeed::Collected {
             bound: Some(clock(0, 1, 1)),
         },
-    ];
-    for deed in deeds {
-        let entry = ShardEntry { author: 8, deed };
-        let copied = entry.copy(alloc).expect(&rt, "memory");
-        assert!(rt; copied.author == 8);
-        assert!(rt; shown_of_shard(&copied.deed) == shown_of_shard(&entry.deed));
     }
+}
+
+// The entry of a deed is copied.
+fn is_shard_copied(rt: &impl Abort, alloc: Global, deed: ShardDeed) {
+    let entry = ShardEntry { author: 8, deed };
+    let copied = entry.copy(alloc).expect(rt, "memory");
+    assert!(rt; copied.author == 8);
+    assert!(rt; shown_of_shard(&copied.deed) == shown_of_shard(&entry.deed));
+}
+
+#[test]
+fn each_deed_of_a_shard(rt: HostRuntime) {
+    for number in 0..9 {
+        is_shard_copied(&rt, rt.alloc(), shard_deed(&rt, rt.alloc(), number));
+    }
+}
+
+// The answers of that many `get`s, the first of which reads nothing.
+fn answers_of(rt: &impl Abort, alloc: Global, count: u32) -> Items<Got> {
+    let mut answers = Items::new(alloc);
+    for op in 0..count {
+        let state = if op == 0 { None } else { Some(bare(alloc)) };
+        answers.push(Got { op, state }).expect(rt, "memory");
+    }
+    answers
+}
+
+// A record without properties and edges.
+fn bare(alloc: Global) -> Record {
+    Record {
+        props: NameMap::new(alloc),
+        edges: NameMap::new(alloc),
+    }
+}
+
+// That many vertices, with the numbers of their earlier commits.
+fn counts_of(rt: &impl Abort, alloc: Global, count: u32) -> Items<Counted> {
+    let vertex = name(rt, "v");
+    let mut counts = Items::new(alloc);
+    for number in 0..count {
+        let before = u64::from(number);
+        counts.push(Counted { vertex, before }).expect(rt, "memory");
+    }
+    counts
 }
 
 // A commit that reads that many states, the first one absent, and names that many vertices.
 fn commit_of(rt: &impl Abort, alloc: Global, count: u32) -> Verdict {
-    let v = name(rt, "v");
-    let mut answers = Items::new(alloc);
-    let mut counts = Items::new(alloc);
-    for op in 0..count {
-        let read = Record {
-            props: NameMap::new(alloc),
-            edges: NameMap::new(alloc),
-        };
-        let state = if op == 0 { None } else { Some(read) };
-        answers.push(Got { op, state }).expect(rt, "memory");
-        let before = u64::from(op);
-        counts
-            .push(Counted { vertex: v, before })
-            .expect(rt, "memory");
-    }
     Verdict::Committed {
         number: 7,
-        answers,
-        counts,
+        answers: answers_of(rt, alloc, count),
+        counts: counts_of(rt, alloc, count),
+    }
+}
+
+// A commit that reads one state, and names one vertex.
+fn commit_of_one(rt: &impl Abort, alloc: Global) -> Verdict {
+    let vertex = name(rt, "v");
+    Verdict::Committed {
+        number: 7,
+        answers: list(rt, alloc, [Got { op: 2, state: None }]),
+        counts: list(rt, alloc, [Counted { vertex, before: 3 }]),
     }
 }
 
@@ -295,29 +331,32 @@ fn shown_of_verdict(verdict: &Verdict) -> (&'static str, [u64; 3], Option<Name>,
     }
 }
 
-fn all_verdicts(rt: &impl Abort, alloc: Global) -> [Verdict; 7] {
-    let vertex = name(rt, "v");
-    [
-        commit_of(rt, alloc, 0),
-        commit_of(rt, alloc, 1),
-        commit_of(rt, alloc, 3),
-        Verdict::Committed {
-            number: 7,
-            answers: list(rt, alloc, [Got { op: 2, state: None }]),
-            counts: list(rt, alloc, [Counted { vertex, before: 3 }]),
-        },
-        Verdict::Conflict { vertex, newer: 9 },
-        Verdict::Refused {
+// Seven verdicts, numbered from 0.
+fn verdict(rt: &impl Abort, alloc: Global, number: u32) -> Verdict {
+    match number {
+        0 => commit_of(rt, alloc, 0),
+        1 => commit_of(rt, alloc, 1),
+        2 => commit_of(rt, alloc, 3),
+        3 => commit_of_one(rt, alloc),
+        4 => conflict(rt),
+        5 => Verdict::Refused {
             op: 1,
             reason: Reason::Missing,
             at: 6,
         },
-        Verdict::Refused {
+        _ => Verdict::Refused {
             op: 64,
             reason: Reason::Full,
             at: u64::MAX,
         },
-    ]
+    }
+}
+
+fn conflict(rt: &impl Abort) -> Verdict {
+    Verdict::Conflict {
+        vertex: name(rt, "v"),
+        newer: 9,
+    }
 }
 
 fn names(rt: &impl Abort, alloc: Global, count: u64) -> Items<Name> {
@@ -340,40 +379,49 @@ fn judged(rt: &impl Abort, alloc: Global, count: u64, verdict: Verdict) -> Store
     StoreEntry { author: 8, deed }
 }
 
+// A judgement with this verdict is copied.
+fn is_verdict_copied(rt: &impl Abort, alloc: Global, verdict: Verdict) {
+    let wanted = shown_of_verdict(&verdict);
+    let entry = judged(rt, alloc, 1, verdict);
+    let copied = entry.copy(alloc).expect(rt, "memory");
+    let StoreDeed::Judged { verdict, .. } = &copied.deed;
+    assert!(rt; shown_of_verdict(verdict) == wanted);
+}
+
 #[test]
 fn each_verdict_of_the_store(rt: HostRuntime) {
-    let alloc = rt.alloc();
-    for verdict in all_verdicts(&rt, alloc) {
-        let wanted = shown_of_verdict(&verdict);
-        let copied = judged(&rt, alloc, 1, verdict)
-            .copy(alloc)
-            .expect(&rt, "memory");
-        let StoreDeed::Judged { verdict, .. } = &copied.deed;
-        assert!(rt; shown_of_verdict(verdict) == wanted);
+    for number in 0..7 {
+        is_verdict_copied(&rt, rt.alloc(), verdict(&rt, rt.alloc(), number));
     }
+}
+
+// Whether it is the judgement of that many operations.
+fn is_judged(entry: &StoreEntry, count: u64) -> bool {
+    let StoreDeed::Judged {
+        request,
+        stamp: judged_at,
+        ops,
+        asked,
+        ..
+    } = &entry.deed;
+    entry.author == 8
+        && *request == 4
+        && *judged_at == stamp(0, 2, 1, 0)
+        && ops.as_slice().len() as u64 == count
+        && asked.as_slice().len() as u64 == count
+}
+
+// A judgement of that many operations is copied.
+fn is_judgement_copied(rt: &impl Abort, alloc: Global, count: u64) {
+    let entry = judged(rt, alloc, count, conflict(rt));
+    let copied = entry.copy(alloc).expect(rt, "memory");
+    assert!(rt; is_judged(&copied, count));
 }
 
 #[test]
 fn judgements_of_each_size(rt: HostRuntime) {
-    let alloc = rt.alloc();
     for count in 0..4 {
-        let verdict = Verdict::Conflict {
-            vertex: name(&rt, "v"),
-            newer: 9,
-        };
-        let copied = judged(&rt, alloc, count, verdict)
-            .copy(alloc)
-            .expect(&rt, "memory");
-        let StoreDeed::Judged {
-            request,
-            stamp: judged_at,
-            ops,
-            asked,
-            ..
-        } = &copied.deed;
-        assert!(rt; (copied.author, *request, *judged_at) == (8, 4, stamp(0, 2, 1, 0)));
-        assert!(rt; ops.as_slice().len() as u64 == count);
-        assert!(rt; asked.as_slice().len() as u64 == count);
+        is_judgement_copied(&rt, rt.alloc(), count);
     }
 }
 
@@ -397,13 +445,18 @@ fn is_settled_copied(
 
 #[test]
 fn what_the_oracle_was_asked(rt: HostRuntime) {
-    let alloc = rt.alloc();
-    let (a, b, c) = (stamp(0, 1, 0, 0), stamp(0, 0, 1, 0), stamp(0, 2, 2, 0));
-    is_settled_copied(&rt, alloc, &[], a, &[]);
-    is_settled_copied(&rt, alloc, &[a], a, &[0]);
-    is_settled_copied(&rt, alloc, &[a], b, &[0]);
-    is_settled_copied(&rt, alloc, &[a, b, c], a, &[2]);
-    is_settled_copied(&rt, alloc, &[a, b, c], a, &[0, 1, 2]);
+    let (a, b) = (stamp(0, 1, 0, 0), stamp(0, 0, 1, 0));
+    let (one, all) = ([a], [a, b, stamp(0, 2, 2, 0)]);
+    let rows: [(&[Stamp], Stamp, &[u32]); 5] = [
+        (&[], a, &[]),
+        (&one, a, &[0]),
+        (&one, b, &[0]),
+        (&all, a, &[2]),
+        (&all, a, &[0, 1, 2]),
+    ];
+    for (earlier, later, places) in rows {
+        is_settled_copied(&rt, rt.alloc(), earlier, later, places);
+    }
 }
 
 #[test]

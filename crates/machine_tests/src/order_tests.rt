@@ -1,4 +1,4 @@
-ghost use Rattle.std.specs.Prelude.{◌<◌, Contains};
+ghost use Rattle.std.specs.Prelude.{◌≡◌, ◌<◌, length, Contains};
 ghost use Rattle.weave_data.specs.Limits.{most_gates};
 ghost use Rattle.vector_stamp.specs.declared.clock.Stamp.{Stamp};
 ghost use Rattle.vector_stamp.specs.Coherence.{AreCoherent};
@@ -32,51 +32,84 @@ fn add(rt: &impl Abort, graph: &mut OrderGraph, events: &[Stamp], earlier: &Stam
     graph.add(*earlier, *later).expect(rt, "memory");
 }
 
-// Whether one of the events precedes another.
-fn precedes(rt: &impl Abort, graph: &OrderGraph, events: &[Stamp], a: &Stamp, b: &Stamp) -> bool
+// Whether one of the events precedes another is this.
+fn has_order(
+    rt: &impl Abort,
+    graph: &OrderGraph,
+    events: &[Stamp],
+    a: &Stamp,
+    b: &Stamp,
+    wanted: bool,
+)
     requires a { Contains events.now a.now }
     requires b { Contains events.now b.now }
     requires coherent { AreCoherent events.now }
     requires known { (stamp : Stamp) → Contains (ends_of graph.now.pairs) stamp → Contains events.now stamp }
 {
     parts_and_unions_are_coherent();
-    graph.precedes(a, b).expect(rt, "memory")
+    if graph.precedes(a, b).expect(rt, "memory") != wanted {
+        panic!(rt; "another order");
+    }
+}
+
+// Each event but the last two is put before the next one.
+fn add_first_pairs(rt: &impl Abort, graph: &mut OrderGraph, events: &[Stamp])
+    requires number { length events.now ≡ 201 }
+    requires coherent { AreCoherent events.now }
+    requires known { (stamp : Stamp) → Contains (ends_of graph.old.pairs) stamp → Contains events.now stamp }
+    ensures { (stamp : Stamp) → Contains (ends_of graph.new.pairs) stamp → Contains events.now stamp }
+{
+    for place in 0..199 {
+        add(rt, graph, events, &events[place], &events[place + 1]);
+    }
+}
+
+// The last pair puts the first event before the last one.
+fn add_last_pair(rt: &impl Abort, graph: &mut OrderGraph, events: &[Stamp])
+    requires number { length events.now ≡ 201 }
+    requires coherent { AreCoherent events.now }
+    requires known { (stamp : Stamp) → Contains (ends_of graph.old.pairs) stamp → Contains events.now stamp }
+{
+    assert!(rt; events[0].is_unordered(&events[200]));
+    has_order(rt, graph, events, &events[0], &events[200], false);
+    add(rt, graph, events, &events[199], &events[200]);
+    has_order(rt, graph, events, &events[0], &events[200], true);
+    has_order(rt, graph, events, &events[200], &events[0], false);
+}
+
+fn build_from_start(rt: &impl Abort, alloc: Global, events: &[Stamp]) {
+    if events.len() != 201 || !are_coherent(events) {
+        panic!(rt; "other events");
+    }
+    let mut graph = OrderGraph::new(alloc);
+    graph.reserve(200).expect(rt, "memory");
+    add_first_pairs(rt, &mut graph, events);
+    add_last_pair(rt, &mut graph, events);
 }
 
 #[test]
 fn chain_of_200_pairs(rt: HostRuntime) {
-    let alloc = rt.alloc();
-    let events = events_in_turn(&rt, alloc, 201);
-    let events = events.as_slice();
-    assert!(rt; events.len() == 201);
-    assert!(rt; are_coherent(events));
-    let mut graph = OrderGraph::new(alloc);
-    graph.reserve(200).expect(&rt, "memory");
-    for place in 0..199 {
-        add(&rt, &mut graph, events, &events[place], &events[place + 1]);
-    }
-    assert!(rt; events[0].is_unordered(&events[200]));
-    assert!(rt; !precedes(&rt, &graph, events, &events[0], &events[200]));
-    add(&rt, &mut graph, events, &events[199], &events[200]);
-    assert!(rt; precedes(&rt, &graph, events, &events[0], &events[200]));
-    assert!(rt; !precedes(&rt, &graph, events, &events[200], &events[0]));
+    let events = events_in_turn(&rt, rt.alloc(), 201);
+    build_from_start(&rt, rt.alloc(), events.as_slice());
 }
 
-// The last pair first: so each event is put before those that are there, and its pair makes it precede all of them.
-#[test]
-fn chain_built_from_its_end(rt: HostRuntime) {
-    let alloc = rt.alloc();
-    let events = events_in_turn(&rt, alloc, 100);
-    let events = events.as_slice();
+fn build_from_end(rt: &impl Abort, alloc: Global, events: &[Stamp]) {
     assert!(rt; events.len() == 100);
     assert!(rt; are_coherent(events));
     let mut graph = OrderGraph::new(alloc);
     for number in 0..99 {
         let place = 98 - number;
-        add(&rt, &mut graph, events, &events[place], &events[place + 1]);
+        add(rt, &mut graph, events, &events[place], &events[place + 1]);
     }
-    assert!(rt; precedes(&rt, &graph, events, &events[0], &events[99]));
-    assert!(rt; !precedes(&rt, &graph, events, &events[99], &events[0]));
+    has_order(rt, &graph, events, &events[0], &events[99], true);
+    has_order(rt, &graph, events, &events[99], &events[0], false);
+}
+
+// The last pair first: so each event is put before those that are there, and its pair makes it precede all of them.
+#[test]
+fn chain_built_from_its_end(rt: HostRuntime) {
+    let events = events_in_turn(&rt, rt.alloc(), 100);
+    build_from_end(&rt, rt.alloc(), events.as_slice());
 }
 
 fn push_three(rt: &impl Abort, events: &mut Vec<Stamp>, home: usize)
@@ -121,10 +154,10 @@ fn put_at(rt: &impl Abort, alloc: Global, events: &[Stamp], home: usize)
     add(rt, &mut graph, events, a, last);
     add(rt, &mut graph, events, b, last);
     add(rt, &mut graph, events, a, middle);
-    assert!(rt; precedes(rt, &graph, events, b, last), "{home}");
-    assert!(rt; precedes(rt, &graph, events, a, middle), "{home}");
-    assert!(rt; !precedes(rt, &graph, events, b, middle), "{home}");
-    assert!(rt; !precedes(rt, &graph, events, last, a), "{home}");
+    has_order(rt, &graph, events, b, last, true);
+    has_order(rt, &graph, events, a, middle, true);
+    has_order(rt, &graph, events, b, middle, false);
+    has_order(rt, &graph, events, last, a, false);
 }
 
 #[test]
@@ -143,6 +176,6 @@ fn later_events_of_each_gatekeeper(rt: HostRuntime) {
 fn takes_room(rt: HostRuntime) {
     let mut graph = OrderGraph::new(rt.alloc());
     for pairs in [0, 1, 5, 3, 1_000] {
-        assert!(rt; graph.reserve(pairs) == Ok(()), "{pairs}");
+        assert!(rt; graph.reserve(pairs) == Ok(()));
     }
 }

@@ -1,6 +1,6 @@
 use crate::passing::after_ops;
 use crate::values::{name, numbered};
-use graph_ops::{Name, Op};
+use graph_ops::{Name, Op, Record};
 use std::alloc::Global;
 use std::marker::Model;
 use std::process::Abort;
@@ -69,50 +69,46 @@ fn first_update(rt: &impl Abort, alloc: Global, v: Name, props: u8) -> Vec<Op> {
     ops
 }
 
-// The number of properties after an update.
-fn props_at(rt: &impl Abort, alloc: Global, row: &Row, update: u64) -> Option<usize> {
+// The vertex has that many properties after an update, `None` for absent.
+fn has_props(rt: &impl Abort, alloc: Global, row: &Row, update: u64, props: Option<usize>) {
     let state = row.parts.state_at(alloc, update).expect(rt, "memory");
-    state.as_ref().map(|found| found.props.len())
+    assert!(rt; state.as_ref().map(|found| found.props.len()) == props);
+}
+
+// There were that many updates, and there are that many parts.
+fn has_parts(rt: &impl Abort, row: &Row, updates: u64, parts: u64) {
+    if row.updates != updates || row.parts.count() != parts {
+        panic!(rt; "other parts");
+    }
+}
+
+// An update of 64 items, one of a 64th property, and 100 that write the first property again.
+fn write_a_property_again(rt: &impl Abort, alloc: Global, row: &mut Row) {
+    let v = name(rt, "v");
+    let (first, last) = (numbered(rt, 0), numbered(rt, 63));
+    let ops = first_update(rt, alloc, v, 63);
+    add(rt, alloc, row, ops.as_slice());
+    let (key, value) = (last, v);
+    add(rt, alloc, row, &[Op::Set { v, key, value }]);
+    let (key, value) = (first, last);
+    for _round in 0..100 {
+        add(rt, alloc, row, &[Op::Set { v, key, value }]);
+    }
 }
 
 // An update of 64 items, one of a 64th property, and 100 that write the first property again.
 #[test]
 fn parts_are_what_changed(rt: HostRuntime) {
     let alloc = rt.alloc();
-    let v = name(&rt, "v");
-    let (first, last) = (numbered(&rt, 0), numbered(&rt, 63));
     let mut row = start(alloc);
-    let ops = first_update(&rt, alloc, v, 63);
-    add(&rt, alloc, &mut row, ops.as_slice());
-    add(
-        &rt,
-        alloc,
-        &mut row,
-        &[Op::Set {
-            v,
-            key: last,
-            value: v,
-        }],
-    );
-    for _round in 0..100 {
-        add(
-            &rt,
-            alloc,
-            &mut row,
-            &[Op::Set {
-                v,
-                key: first,
-                value: last,
-            }],
-        );
+    write_a_property_again(&rt, alloc, &mut row);
+    has_parts(&rt, &row, 102, 165);
+    for (update, props) in [(0, None), (1, Some(63)), (102, Some(64))] {
+        has_props(&rt, alloc, &row, update, props);
     }
-    assert!(rt; (row.updates, row.parts.count()) == (102, 165));
-    assert!(rt; props_at(&rt, alloc, &row, 0) == None);
-    assert!(rt; props_at(&rt, alloc, &row, 1) == Some(63));
-    assert!(rt; props_at(&rt, alloc, &row, 102) == Some(64));
     collect(&mut row, 101);
-    assert!(rt; row.parts.count() == 66);
-    assert!(rt; props_at(&rt, alloc, &row, 101) == Some(64));
+    has_parts(&rt, &row, 102, 66);
+    has_props(&rt, alloc, &row, 101, Some(64));
 }
 
 // The operations of an update, of a table of updates.
@@ -126,15 +122,22 @@ fn part(rt: &impl Abort, alloc: Global, table: &[(u64, Op)], number: u64) -> Vec
     ops
 }
 
+// The state of an update is this one.
+fn has_state(rt: &impl Abort, alloc: Global, row: &Row, update: u64, state: &Option<Record>) {
+    let found = row.parts.state_at(alloc, update).expect(rt, "memory");
+    if found != *state {
+        panic!(rt; "another state");
+    }
+}
+
 // Compares each state from an update on with what the operations of the table leave one after another.
 fn compare(rt: &impl Abort, alloc: Global, row: &Row, table: &[(u64, Op)], from: u64) {
     let mut state = None;
     for update in 0..=row.updates {
         let ops = part(rt, alloc, table, update);
         state = after_ops(rt, alloc, ops.as_slice(), state);
-        let found = row.parts.state_at(alloc, update).expect(rt, "memory");
-        if from <= update && found != state {
-            panic!(rt; "another state after {update}");
+        if from <= update {
+            has_state(rt, alloc, row, update, &state);
         }
     }
 }
@@ -229,27 +232,46 @@ fn table(rt: &impl Abort, v: Name) -> [(u64, Op); 19] {
     ]
 }
 
+// The seven updates of a table.
+fn add_seven(rt: &impl Abort, alloc: Global, row: &mut Row, table: &[(u64, Op)]) {
+    for number in 1..8 {
+        let ops = part(rt, alloc, table, number);
+        add(rt, alloc, row, ops.as_slice());
+        compare(rt, alloc, row, table, 0);
+    }
+    has_parts(rt, row, 7, 18);
+}
+
+// The newest update is taken back.
+fn take_one_back(rt: &impl Abort, alloc: Global, row: &mut Row, table: &[(u64, Op)]) {
+    take_back(rt, row);
+    has_parts(rt, row, 6, 17);
+    compare(rt, alloc, row, table, 0);
+}
+
+// A collection leaves the states from this update on, and that many parts.
+fn collects(
+    rt: &impl Abort,
+    alloc: Global,
+    row: &mut Row,
+    table: &[(u64, Op)],
+    oldest: u64,
+    parts: u64,
+) {
+    collect(row, oldest);
+    has_parts(rt, row, 6, parts);
+    compare(rt, alloc, row, table, oldest);
+}
+
 // Each kind of operation, several of them in an update. A later deletion hides what was before it, and so does a later
 // unlink.
 #[test]
 fn states_are_those_of_the_operations(rt: HostRuntime) {
     let alloc = rt.alloc();
-    let v = name(&rt, "v");
-    let table = table(&rt, v);
+    let table = table(&rt, name(&rt, "v"));
     let mut row = start(alloc);
-    for number in 1..8 {
-        let ops = part(&rt, alloc, &table, number);
-        add(&rt, alloc, &mut row, ops.as_slice());
-        compare(&rt, alloc, &row, &table, 0);
-    }
-    assert!(rt; (row.updates, row.parts.count()) == (7, 18));
-    take_back(&rt, &mut row);
-    assert!(rt; (row.updates, row.parts.count()) == (6, 17));
-    compare(&rt, alloc, &row, &table, 0);
-    collect(&mut row, 4);
-    assert!(rt; row.parts.count() == 7);
-    compare(&rt, alloc, &row, &table, 4);
-    collect(&mut row, 5);
-    assert!(rt; row.parts.count() == 3);
-    compare(&rt, alloc, &row, &table, 5);
+    add_seven(&rt, alloc, &mut row, &table);
+    take_one_back(&rt, alloc, &mut row, &table);
+    collects(&rt, alloc, &mut row, &table, 4, 7);
+    collects(&rt, alloc, &mut row, &table, 5, 3);
 }

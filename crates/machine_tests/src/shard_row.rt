@@ -299,22 +299,6 @@ pub fn read(rt: &impl Abort, visit: &Result<Option<Record>, VisitFault>) -> Read
     Reading::Colored(color.copied())
 }
 
-/// A visit for request 5 reads that.
-pub fn reads(
-    rt: &impl Abort,
-    alloc: Global,
-    row: &mut Row,
-    program: Stamp,
-    vertex: Name,
-    judge: &mut TestJudge,
-    wanted: &Reading,
-) {
-    let seen = visit(rt, alloc, row, program, vertex, judge);
-    if read(rt, &seen) != *wanted {
-        panic!(rt; "another reading");
-    }
-}
-
 /// The author, the request, the number of updates and the mark of a visit's entry.
 pub fn visited(log: &[ShardEntry], place: usize) -> Option<(u32, u32, u64, bool)> {
     let entry = log.get(place)?;

@@ -139,21 +139,31 @@ fn have_kept(rt: &impl Abort, graph: &VersionGraph, versions: usize) -> bool {
     true
 }
 
+// An update of each of forty vertices by a message of this count. Each has that many updates then.
+fn update_forty(rt: &impl Abort, alloc: Global, graph: &mut VersionGraph, own: u64, updates: u64) {
+    read_forty(rt, alloc, graph, stamp(0, own, 0, 0));
+    assert!(rt; have_updates(rt, graph, updates));
+}
+
+// Ten updates of each of them in turn, and one of no part.
+fn update_in_turn(rt: &impl Abort, alloc: Global, graph: &mut VersionGraph) {
+    for number in 0..10 {
+        update_forty(rt, alloc, graph, number + 1, number + 1);
+    }
+    assert!(rt; graph.apply_parts(alloc, stamp(0, 11, 0, 0), &[]) == Ok(()));
+    assert!(rt; have_updates(rt, graph, 10));
+}
+
 // Ten updates of each of forty vertices in turn, and one of no part. A bound of count 5 then drops the first three
 // versions of each, and the next update follows the tenth. A vertex without updates stays so.
 #[test]
 fn updates_of_what_is_there(rt: HostRuntime) {
     let alloc = rt.alloc();
     let mut graph = VersionGraph::new(alloc);
-    for number in 0..10 {
-        read_forty(&rt, alloc, &mut graph, stamp(0, number + 1, 0, 0));
-        assert!(rt; have_updates(&rt, &graph, number + 1));
-    }
-    assert!(rt; graph.apply_parts(alloc, stamp(0, 11, 0, 0), &[]) == Ok(()));
-    assert!(rt; have_updates(&rt, &graph, 10));
+    update_in_turn(&rt, alloc, &mut graph);
     collect_all(&mut graph, &stamp(0, 5, 0, 0).clock);
     assert!(rt; have_updates(&rt, &graph, 10) && have_kept(&rt, &graph, 7));
-    read_forty(&rt, alloc, &mut graph, stamp(0, 12, 0, 0));
-    assert!(rt; have_updates(&rt, &graph, 11) && have_kept(&rt, &graph, 8));
+    update_forty(&rt, alloc, &mut graph, 12, 11);
+    assert!(rt; have_kept(&rt, &graph, 8));
     assert!(rt; graph.chain(name(&rt, "v")).is_none());
 }

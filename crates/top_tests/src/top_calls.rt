@@ -6,9 +6,9 @@ use std::sync::Wait;
 use std::test::Fail;
 use std::thread::Threads;
 use weave_io::{MemorySink, MemorySource};
-use weaver_top::{NoPace, Pace, Status, weave};
+use weaver_top::{NoPace, Pace, Status, execute, weave};
 
-// How `weave` ends with a command of one word at a pace, and what was written.
+// How the command of one word ends at a pace, and what was written. `drive` is `run` on one thread.
 pub fn call<R: Threads + Wait + Sync, P: Pace>(
     rt: &R,
     alloc: Global,
@@ -16,21 +16,28 @@ pub fn call<R: Threads + Wait + Sync, P: Pace>(
     input: &[u8],
     pace: &P,
 ) -> Result<(Status, Vec<u8>), AllocError> {
+    let is_driven = command == "drive";
+    let word = if is_driven { "run" } else { command };
     let mut words = Vec::new(alloc);
-    words.push(String::from_str(alloc, command)?)?;
+    words.push(String::from_str(alloc, word)?)?;
     let mut source = MemorySource::new(Vec::from_slice(alloc, input)?, Vec::new(alloc), 65_536);
     let mut sink = MemorySink::new(alloc, Vec::new(alloc), 65_536);
-    let status = weave(rt, alloc, &words, &mut source, &mut sink, pace);
+    let status = if is_driven {
+        execute(alloc, &words, &mut source, &mut sink)
+    } else {
+        weave(rt, alloc, &words, &mut source, &mut sink, pace)
+    };
     Ok((status, Vec::from_slice(alloc, sink.bytes())?))
 }
 
-// Whether `run` takes the script, and `check` says that the report that it writes is right.
+// Whether the command, `run` or `drive`, takes the script, and `check` says that the report that it writes is right.
 pub fn is_run<R: Threads + Wait + Sync>(
     rt: &R,
     alloc: Global,
+    command: &str,
     script: &[u8],
 ) -> Result<bool, AllocError> {
-    let (status, report) = call(rt, alloc, "run", script, &NoPace)?;
+    let (status, report) = call(rt, alloc, command, script, &NoPace)?;
     let mut input = Vec::from_slice(alloc, script)?;
     input.extend_from_slice(report.as_slice())?;
     let (_, verdict) = call(rt, alloc, "check", input.as_slice(), &NoPace)?;

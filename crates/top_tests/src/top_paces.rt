@@ -192,3 +192,28 @@ fn each_worker_takes_its_turns(rt: HostRuntime) -> Result<(), Fail> {
     assert!(rt; pace.turns() == [12, 12, 12, 3, 39]);
     Ok(())
 }
+
+// A thousand requests of two sessions, at two gatekeepers that never wait for each other, and one shard; 200 a phase.
+fn large_phases(alloc: Global) -> Result<Vec<u8>, AllocError> {
+    let mut text = Vec::from_slice(alloc, b"weaver 1 2 1\n")?;
+    for number in 0..1_000u32 {
+        if number % 200 == 0 {
+            text.extend_from_slice(b"phase\n")?;
+        }
+        let side = number % 2;
+        let lines = format!(in alloc; "tx t{number} {side} {side}\ncreate v{number}\nend\n")?;
+        text.extend_from_slice(lines.as_str().as_bytes())?;
+    }
+    Ok(text)
+}
+
+// Whichever phase it is and however many requests it has, its workers do all of it.
+#[test]
+fn large_phases_are_done_by_workers(rt: HostRuntime) -> Result<(), Fail> {
+    let pace = Counting::new();
+    let script = large_phases(rt.alloc())?;
+    let (status, _report) = call(&rt, rt.alloc(), "run", script.as_slice(), &pace)?;
+    assert!(rt; status == Status::Done);
+    assert!(rt; pace.turns() == [4_000, 4_000, 4_000, 1_000, 13_000]);
+    Ok(())
+}

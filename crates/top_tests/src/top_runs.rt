@@ -29,10 +29,11 @@ fn request_lines(alloc: Global, number: u32) -> Result<String, AllocError> {
     }
 }
 
-// The vertices, made at one of eight gatekeepers, for sixteen shards.
+// 64 vertices, as many as a transaction can make, at one of eight gatekeepers, for sixteen shards. The sessions share the
+// first ones.
 fn shared_vertices(alloc: Global) -> Result<Vec<u8>, AllocError> {
     let mut text = Vec::from_slice(alloc, b"weaver 1 8 16\ntx t 0 0\n")?;
-    for v in 0..SHARED {
+    for v in 0..64u32 {
         let line = format!(in alloc; "create v{v}\n")?;
         text.extend_from_slice(line.as_str().as_bytes())?;
     }
@@ -62,7 +63,7 @@ fn in_phases(alloc: Global, phases: u32, each: u32) -> Result<Vec<u8>, AllocErro
 #[test]
 fn a_thousand_requests_in_fifty_phases(rt: HostRuntime) -> Result<(), Fail> {
     let script = in_phases(rt.alloc(), 50, 20)?;
-    assert!(rt; is_run(&rt, rt.alloc(), script.as_slice())?);
+    assert!(rt; is_run(&rt, rt.alloc(), "run", script.as_slice())?);
     Ok(())
 }
 
@@ -70,7 +71,30 @@ fn a_thousand_requests_in_fifty_phases(rt: HostRuntime) -> Result<(), Fail> {
 #[test]
 fn all_sixty_four_sessions_at_once(rt: HostRuntime) -> Result<(), Fail> {
     let script = in_phases(rt.alloc(), 1, 192)?;
-    assert!(rt; is_run(&rt, rt.alloc(), script.as_slice())?);
+    assert!(rt; is_run(&rt, rt.alloc(), "run", script.as_slice())?);
+    Ok(())
+}
+
+// A vertex is changed a thousand times, and once more after a thousand and one `phase` lines.
+fn changes_and_phases(alloc: Global) -> Result<Vec<u8>, AllocError> {
+    let mut text = Vec::from_slice(alloc, b"weaver 1 1 1\ntx t 0 0\ncreate v\nend\n")?;
+    for number in 0..1_000u32 {
+        let lines = format!(in alloc; "tx t{number} 0 0\nset v k x{number}\nend\n")?;
+        text.extend_from_slice(lines.as_str().as_bytes())?;
+    }
+    for _ in 0..1_001u32 {
+        text.extend_from_slice(b"phase\n")?;
+    }
+    text.extend_from_slice(b"tx last 0 0\nget v\nset v k x\nend\nprog p 1 0 show v\n")?;
+    Ok(text)
+}
+
+// Neither the 1,001st commit of a vertex nor the 1,001st `phase` line ends a run as out of memory.
+#[test]
+fn a_thousand_changes_and_phases(rt: HostRuntime) -> Result<(), Fail> {
+    let script = changes_and_phases(rt.alloc())?;
+    assert!(rt; is_run(&rt, rt.alloc(), "run", script.as_slice())?);
+    assert!(rt; is_run(&rt, rt.alloc(), "drive", script.as_slice())?);
     Ok(())
 }
 
@@ -78,6 +102,6 @@ fn all_sixty_four_sessions_at_once(rt: HostRuntime) -> Result<(), Fail> {
 fn a_generated_script_is_run(rt: HostRuntime) -> Result<(), Fail> {
     let script = make(rt.alloc(), 7, 200)?;
     let text = print_script(rt.alloc(), &script)?;
-    assert!(rt; is_run(&rt, rt.alloc(), text.as_slice())?);
+    assert!(rt; is_run(&rt, rt.alloc(), "run", text.as_slice())?);
     Ok(())
 }

@@ -12,14 +12,15 @@ use weaver_top::{Pace, Status, WorkKind};
 // How often a worker that is held looks whether all have come, at most.
 const LOOKS: u32 = 200_000;
 
-// One request of each of eight sessions, at two gatekeepers and one shard.
+// One request of each of eight sessions, at two gatekeepers and one shard: three transactions at each gatekeeper, and
+// two programs.
 const EIGHT_SESSIONS: &[u8] = b"weaver 1 2 1\n\
-    prog p0 8 0 show v\n\
-    prog p1 9 1 show v\n\
-    prog p2 10 0 show v\n\
-    prog p3 11 1 show v\n\
-    prog p4 12 0 show v\n\
-    prog p5 13 1 show v\n\
+    tx t0 8 0\ncreate v0\nend\n\
+    tx t1 9 1\ncreate v1\nend\n\
+    tx t2 10 0\ncreate v2\nend\n\
+    tx t3 11 1\ncreate v3\nend\n\
+    tx t4 12 0\ncreate v4\nend\n\
+    tx t5 13 1\ncreate v5\nend\n\
     prog p6 14 0 show v\n\
     prog p7 15 1 show v\n";
 

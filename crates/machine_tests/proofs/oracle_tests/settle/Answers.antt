@@ -27,15 +27,15 @@ settle-requires-clause-coherent g c =
     let pushed = rw c.expect.ensures at c.push.ensures.items in
     let extended = rw c.expect-2.ensures at c.extend_from_slice.ensures.items in
     c.parts_and_unions_are_coherent.ensures.part _ c.as_slice-all.result.now (c.are_coherent.ensures.0 c.if-not-are_coherent.false)
-    (has_all c.args.kept.now.items c.args.earlier.now c.as_slice-all.result.now c.args.later (c.as_slice-all.ensures.value ∙ extended ∙ ap (λ (stamps : List Stamp). stamps ++ c.args.earlier.now) pushed) (ends_of (pairs_of_log c.args.oracle.now)) c.requires.known)
+    (has_all c.row.inside.kept.items c.args.earlier.now c.as_slice-all.result.now c.args.later (c.as_slice-all.ensures.value ∙ extended ∙ ap (λ (stamps : List Stamp). stamps ++ c.args.earlier.now) pushed) (ends_of (pairs_of_log c.row.inside.oracle)) c.row.invariant)
 
-pub returns : goal.returns
-returns g c =
+pub invariant_of-row : goal.invariant_of-row
+invariant_of-row g c =
     let pushed = rw c.expect.ensures at c.push.ensures.items in
     let extended = rw c.expect-2.ensures at c.extend_from_slice.ensures.items in
     let grown = extended ∙ ap (λ (stamps : List Stamp). stamps ++ c.args.earlier.now) pushed in
     λ stamp h.
     elim (c.settle.ensures.known stamp h) [
-      | inl before ↦ has_old c.args.kept.now.items c.args.earlier.now c.extend_from_slice.new.self.items c.args.later grown stamp (c.requires.known stamp before)
-      | inr handed ↦ has_handed c.args.kept.now.items c.args.earlier.now c.extend_from_slice.new.self.items c.args.later grown stamp handed
+      | inl before ↦ has_old c.row.inside.kept.items c.args.earlier.now c.extend_from_slice.new.self.items c.args.later grown stamp (c.row.invariant stamp before)
+      | inr handed ↦ has_handed c.row.inside.kept.items c.args.earlier.now c.extend_from_slice.new.self.items c.args.later grown stamp handed
     ]

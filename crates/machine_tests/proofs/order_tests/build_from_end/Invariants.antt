@@ -1,7 +1,7 @@
 use Rattle.std.specs.Prelude.{Contains}
 use Rattle.vector_stamp.specs.declared.clock.Stamp.{Stamp}
 use Rattle.order_graph.specs.Building.{ends_of}
-use Rattle.machine_tests.proofs.order_tests.chain_built_from_its_end.Given as goal
+use Rattle.machine_tests.proofs.order_tests.build_from_end.Given as goal
 
 abbrev pub invariant-loop-number : goal.invariant-loop-number
 invariant-loop-number g l = (stamp : Stamp) → Contains (ends_of l.graph.pairs) stamp → Contains l.events stamp
