@@ -1,10 +1,10 @@
 #!/usr/bin/env python3
 """Goes through every interleaving of a few threads that enter and leave a lock: can one of them sleep for good?
 
-Run it by hand at the top of the repository, or give the top as the argument; it takes half a minute. It reads from
-`enter`, `leave` and the bell (crates/chronicle/src) what a thread does to the lock's word and the bell, in which order.
-It prints the table of docs/CHRONICLE.md for that order and for three others, then a shortest way into such a sleep for
-each order that has one. It fails if the code's own has one, or if the code does anything else to the word or the bell.
+Run it by hand at the top of the repository, or give the top as the argument; it takes half a minute. It reads what a
+thread does to the lock's word and the bell, in which order, from crates/chronicle/src. It prints the table of
+docs/CHRONICLE.md for that order and three others, and a shortest way into such a sleep for each that has one.
+It fails if the code's own has one, or if the code does anything else to the word or the bell.
 """
 from collections import namedtuple
 import re
@@ -15,18 +15,18 @@ CODE = f"{sys.argv[1] if len(sys.argv) > 1 else '.'}/crates/chronicle/src"
 FUNCTIONS = {
     "enter": ("enter.rt", 3, {"try": "let found = shared.compare_exchange::<Enters>(&mut seat, WORD, FREE, TAKEN);",
                               "end": "self.bell.end(rung);", "wait": "rung = Some(self.bell.wait(rt, rung));"}),
-    "wait": ("bell.rt", 2, {"sleep": "Some(rung) => self.rings.park(rt, (rung % 4_294_967_296) as u32)",
-                            "count": "None => { self.waiting.fetch_add(1, Ordering::SeqCst); }",
-                            "read": "self.rings.load(Ordering::SeqCst)",
-                          "take back": "self.called.store(0, Ordering::SeqCst)"}),
+    "wait": ("bell.rt", 2, {"sleep": "Some(rung) => rung.sleep(rt, &self.rings)", "count": "self.waiting.fetch_add(1, ",
+                            "read": "Reading::of(&self.rings)", "take back": ".take_back(&self.called)"}),
+    "of": ("rung.rt", 1, {"read": "rings.load("}), "take_back": ("rung.rt", 1, {"take back": "called.store(0, "}),
+    "sleep": ("rung.rt", 1, {"sleep": "rings.park(rt, (self.rings % 4_294_967_296) as u32);"}),
     "end": ("bell.rt", 1, {"end": "if rung.is_some() { self.waiting.fetch_sub(1, Ordering::SeqCst); }"}),
-    "leave": ("held.rt", 0, {"free": "shared.store::<Leaves>(&mut seat, WORD, FREE)", "ring": "chronicle.bell.ring()"}),
+    "leave": ("held.rt", 0, {"free": "shared.store::<Leaves>(&mut seat, WORD, FREE)", "ring": "bell.ring(&seat)"}),
     "ring": ("bell.rt", 2, {"look": "if self.waiting.load(Ordering::SeqCst) > 0",
                             "call": "&& self.called.swap(1, Ordering::SeqCst) == 0 {",
-                            "raise": "self.rings.fetch_add(1, Ordering::SeqCst)", "wake": "self.rings.wake_one()"}),
+                            "raise": "self.rings.fetch_add(1, ", "wake": "self.rings.wake_one()"}),
 }
 # All that is done to what threads share, but for the slot of the machine, which is the holder's alone.
-ACCESS = re.compile(r"\b(?:shared|bell|waiting|called|rings)\.(?!exchange\b)")
+ACCESS = re.compile(r"\b(?:(?:shared|bell|waiting|called|rings)\.(?!exchange\b)|rung\.sleep|Reading::of|take_back\(&)")
 # A thread is its next step, how many holds it still makes, and `rung`: None, or if it waits, what it read of `rings`.
 State = namedtuple("State", "word waiting called rings threads")
 # What each step makes of the word and the bell, of `rung`, and which step is next: `to` has the steps that follow.
@@ -73,8 +73,7 @@ def moves(state, to, for_no_reason):
             after, rung, then = STEPS[step](state, rung, to)
             then, holds = (then, holds) if then != "out" else ("try" if holds > 1 else "done", holds - 1)
             threads = [*state.threads[:who], (then, holds, rung), *state.threads[who + 1:]]
-            asleep = [at for at, thread in enumerate(threads) if thread[0] == "asleep" and step == "wake"]
-            for woken in asleep or [None]:
+            for woken in [at for at, it in enumerate(threads) if it[0] == "asleep" and step == "wake"] or [None]:
                 left = ((to["sleep"], *it[1:]) if at == woken else it for at, it in enumerate(threads))
                 yield who, step, after._replace(threads=tuple(left))
 
@@ -103,7 +102,7 @@ def runs_from(state, to, known):
     return known[state]
 
 
-(*_, first, second), leave, ring, *_ = map(steps_of, ("wait", "leave", "ring", "enter", "end"))
+(*_, first, second), leave, ring, *_ = map(steps_of, ("wait", "leave", "ring", *FUNCTIONS))
 ORDERS = {"as in the code": ((first, second), leave, ring), f"{second}, then {first}": ((second, first), leave, ring),
           ", then ".join(leave[::-1]): ((first, second), leave[::-1], ring),
           f"{ring[3]}, then {ring[2]}": ((first, second), leave, [*ring[:2], ring[3], ring[2]])}

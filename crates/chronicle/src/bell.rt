@@ -1,5 +1,10 @@
 //! How those who wait at a lock sleep and are woken. It isn't part of the lock's table: no seat makes a step for it,
-//! and no clause speaks of it. Whoever is woken tries again.
+//! and no public clause speaks of it. Whoever is woken tries again.
+ghost use Rattle.std.specs.Prelude.{◌≡◌};
+
+use crate::rung::{Reading, Rung};
+use crate::view::View;
+use atomic_table::Seat;
 use std::sync::Wait;
 use std::sync::atomic::{AtomicU64, Ordering};
 
@@ -30,27 +35,28 @@ impl Bell {
 
     /// A try failed. Who waits already, and knows how often the bell had rung, sleeps until it rings once more; else it
     /// waits from now on. It is to try again: how often the bell has rung.
-    pub(crate) fn wait<R: Wait>(&self, rt: &R, rung: Option<u64>) -> u64 {
+    pub(crate) fn wait<R: Wait>(&self, rt: &R, rung: Option<Rung>) -> Rung {
         match rung {
-            Some(rung) => self.rings.park(rt, (rung % 4_294_967_296) as u32),
+            Some(rung) => rung.sleep(rt, &self.rings),
             None => {
                 self.waiting.fetch_add(1, Ordering::SeqCst);
             }
         }
-        let rung = self.rings.load(Ordering::SeqCst);
-        self.called.store(0, Ordering::SeqCst);
-        rung
+        Reading::of(&self.rings).take_back(&self.called)
     }
 
     /// A try succeeded. Whoever waited doesn't wait any more.
-    pub(crate) fn end(&self, rung: Option<u64>) {
+    pub(crate) fn end(&self, rung: Option<Rung>) {
         if rung.is_some() {
             self.waiting.fetch_sub(1, Ordering::SeqCst);
         }
     }
 
-    /// Calls one of those who wait, unless one was called that has not tried again.
-    pub(crate) fn ring(&self) {
+    /// Calls one of those who wait, unless one was called that has not tried again. The caller has freed the lock: its
+    /// seat has no turn any more.
+    pub(crate) fn ring<S, E>(&self, _seat: &Seat<S, View<E>>)
+        requires { _seat.now.me.0.turn ≡ 0 }
+    {
         if self.waiting.load(Ordering::SeqCst) > 0 && self.called.swap(1, Ordering::SeqCst) == 0 {
             self.rings.fetch_add(1, Ordering::SeqCst);
             self.rings.wake_one();

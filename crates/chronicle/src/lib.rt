@@ -23,6 +23,7 @@ mod note;
 mod open;
 mod pass;
 mod rule;
+mod rung;
 mod state;
 mod steps;
 mod view;
