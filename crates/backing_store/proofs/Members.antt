@@ -1,10 +1,11 @@
 -- What is asked is among what the store keeps, and among what it judged.
 -- Used by `what_is_asked_is_kept` and Committing.
-use Rattle.std.proofs.Common.{◌≡◌, ◌≢◌, ℕ, suc, ◌≤◌, Bool, not, List, [], ◌∷◌, ◌++◌, length, map, filter, reverse, Contains, All, Option, None, Some, inl, inr, sym, ap, subst, ◌∙◌, arith}
+use Rattle.std.proofs.Common.{◌≡◌, ◌≢◌, ℕ, suc, ◌*◌, ◌≤◌, Bool, not, List, [], ◌∷◌, ◌++◌, length, map, filter, reverse, Contains, All, Option, None, Some, inl, inr, sym, ap, subst, ◌∙◌, arith}
 use Rattle.std.specs.List.{filter_map, flat_map, cons_option}
 use Rattle.std.specs.Option.{option_map}
+use Rattle.std.specs.Prelude.{option_to_list}
 use Rattle.std.proofs.lemmas.Bool.{cases_Bool}
-use Rattle.std.proofs.lemmas.List.{reverse-append, length-map}
+use Rattle.std.proofs.lemmas.List.{reverse-append, length-append, length-map}
 use Rattle.std.proofs.lemmas.List.Elements.{Contains-append_left, Contains-append_right, Contains-append_cases, All-contains, All-contains_itself, All-weaker}
 use Rattle.weave_data.proofs.Members.{has_none, has_read, has_head, has_tail, filter_has, has_filter, find_has, any_has, has_map, map_has, flat_has, has_flat}
 use Rattle.weave_data.specs.Names.{same_name, one_name}
@@ -12,8 +13,8 @@ use Rattle.weave_data.specs.declared.name.Name.{Name}
 use Rattle.vector_stamp.specs.declared.clock.Stamp.{Stamp}
 use Rattle.vector_stamp.specs.Order.{id_of, unordered}
 use Rattle.graph_ops.specs.declared.op.Op.{Op}
-use Rattle.graph_ops.specs.Operations.{vertex_of}
-use Rattle.graph_ops.specs.Mentions.{named_by, first_mentions}
+use Rattle.graph_ops.specs.Operations.{needed_by}
+use Rattle.graph_ops.specs.Mentions.{named_by, named_by_op, first_mentions}
 use Rattle.weave_entries.specs.declared.store_log.StoreEntry.{StoreEntry}
 use Rattle.weave_entries.specs.declared.store_log.StoreDeed.{StoreDeed}
 use Rattle.weave_entries.specs.declared.store_log.StoreDeed.TheVariants.{Judged}
@@ -80,20 +81,29 @@ mentions_le : (names : List Name) → length (first_mentions names) ≤ length n
 mentions_le [] = omega arith
 mentions_le (w ∷ names) = omega (arith, mentions_le names, filter_le (λ x. not (same_name w x)) (first_mentions names))
 
--- there are no more named vertices than operations
-pub named_le : (ops : List Op) → length (named_by ops) ≤ length ops
-named_le ops = omega (arith, mentions_le (map vertex_of ops), length-map ops vertex_of)
+one_more_at_most : (needed : Option Name) → length (option_to_list needed) ≤ 1
+one_more_at_most None = omega arith
+one_more_at_most (Some v) = omega arith
+
+names_le : (ops : List Op) → length (flat_map named_by_op ops) ≤ 2 * length ops
+names_le [] = omega arith
+names_le (op ∷ ops) =
+    omega (arith, names_le ops, one_more_at_most (needed_by op), length-append (option_to_list (needed_by op)) (flat_map named_by_op ops))
+
+-- there are no more named vertices than two for each operation
+pub named_le : (ops : List Op) → length (named_by ops) ≤ 2 * length ops
+named_le ops = omega (arith, mentions_le (flat_map named_by_op ops), names_le ops)
 
 -- What is asked
 
--- a judgement asks about at most as many stamps as there are operations
-pub asked_le : (stamp : Stamp) (ops : List Op) (commits : List Commit) → length (asked_stamps stamp (lasts_of ops commits)) ≤ length ops
+-- a judgement asks about at most two stamps for each operation
+pub asked_le : (stamp : Stamp) (ops : List Op) (commits : List Commit) → length (asked_stamps stamp (lasts_of ops commits)) ≤ 2 * length ops
 asked_le stamp ops commits =
     let last_at : Name → Option LastCommit = λ (v : Name). option_map (λ (commit : Commit). record { vertex = v; commit = commit }) (last_naming v commits) in
     let stamps : length (asked_stamps stamp (lasts_of ops commits)) ≡ length (asked_of stamp (lasts_of ops commits)) = length-map (asked_of stamp (lasts_of ops commits)) (λ (last : LastCommit). last.commit.stamp) in
     let among : length (asked_of stamp (lasts_of ops commits)) ≤ length (lasts_of ops commits) = filter_le (λ (last : LastCommit). unordered last.commit.stamp stamp) (lasts_of ops commits) in
     let lasts : length (lasts_of ops commits) ≤ length (named_by ops) = filter_map_le last_at (named_by ops) in
-    let named : length (named_by ops) ≤ length ops = named_le ops in
+    let named : length (named_by ops) ≤ 2 * length ops = named_le ops in
     omega arith
 
 -- a stamp that is asked is that of a last commit at a named vertex
@@ -121,11 +131,11 @@ asked_is_kept stamp ops commits one h =
     let last = of_last ops commits one (asked_of_last stamp ops commits one h) in
     let found = find_has (names_vertex last.vertex) (reverse commits) last.commit last.is_last in
     let among = any_has (λ other. same_name other last.vertex) (named_by last.commit.ops) found.1 in
-    let mentioned : Contains (map vertex_of last.commit.ops) last.vertex = subst (λ v. Contains (map vertex_of last.commit.ops) v) (one_name among.0 last.vertex among.2) (mention_has _ among.0 among.1) in
-    let op = map_has vertex_of last.commit.ops last.vertex mentioned in
+    let mentioned : Contains (flat_map named_by_op last.commit.ops) last.vertex = subst (λ v. Contains (flat_map named_by_op last.commit.ops) v) (one_name among.0 last.vertex among.2) (mention_has _ among.0 among.1) in
+    let op = flat_has named_by_op last.commit.ops last.vertex mentioned in
     let all : List Op = flat_map (λ (commit : Commit). commit.ops) commits in
     let there : Contains all op.0 = has_flat (λ (commit : Commit). commit.ops) commits last.commit op.0 (reverse_has commits last.commit found.0) op.1 in
-    let named : Contains (named_by all) last.vertex = has_mention (map vertex_of all) last.vertex (subst (λ v. Contains (map vertex_of all) v) op.2 (has_map vertex_of all op.0 there)) in
+    let named : Contains (named_by all) last.vertex = has_mention (flat_map named_by_op all) last.vertex (has_flat named_by_op all op.0 last.vertex there op.2) in
     let kept = last-there all commits last.vertex last.commit named last.is_last in
     subst (λ s. Contains (stamps_kept commits) s) last.is (has_map (λ (l : LastCommit). l.commit.stamp) (lasts_of all commits) (record { vertex = last.vertex; commit = last.commit }) kept)
 

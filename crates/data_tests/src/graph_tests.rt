@@ -71,6 +71,13 @@ fn first_mentions(rt: HostRuntime) {
     ];
     let mentions = named_vertices(alloc, &ops).expect(&rt, "memory");
     assert!(rt; mentions.as_slice() == [w, v].as_slice());
+    let ops = [
+        Op::Join { v: w, edge, target },
+        Op::Link { v, edge, target },
+        Op::Join { v, edge, target: w },
+    ];
+    let mentions = named_vertices(alloc, &ops).expect(&rt, "memory");
+    assert!(rt; mentions.as_slice() == [w, target, v].as_slice());
     assert!(rt; named_vertices(alloc, &[]).expect(&rt, "memory").is_empty());
 }
 
@@ -211,7 +218,7 @@ fn copies_of_answers(rt: HostRuntime) {
 }
 
 // Operations of each kind, each of which the graph with one vertex passes.
-fn operations(rt: &impl Abort) -> [Op; 11] {
+fn operations(rt: &impl Abort) -> [Op; 12] {
     let (v, w, edge) = names(rt);
     let (p, t, new) = (named(rt, b"p"), named(rt, b"t"), named(rt, b"new"));
     [
@@ -219,6 +226,11 @@ fn operations(rt: &impl Abort) -> [Op; 11] {
         set(v, new, w),
         Op::Unset { v, key: p },
         link(v, new),
+        Op::Join {
+            v,
+            edge: t,
+            target: v,
+        },
         tag(v, edge, t, new),
         tag(v, edge, new, new),
         Op::Untag { v, edge, key: t },
@@ -240,7 +252,7 @@ fn is_part_copied(rt: &impl Abort, alloc: Global, vertex: Name, ops: &[Op]) -> b
     copied.vertex == vertex && copied.before == 3 && copied.ops.as_slice().len() == ops.len()
 }
 
-// Copies of parts of a message with none to eleven operations.
+// Copies of parts of a message with none to twelve operations.
 #[test]
 fn copies_of_parts(rt: HostRuntime) {
     let v = named(&rt, b"v");

@@ -2,7 +2,7 @@
 -- Used by `commit_messages`, `make_place`, `parts_by_shard`, `parts_of_all`, `parts_of_one` and `put_behind`.
 use Rattle.std.proofs.Common.{◌≡◌, ◌≢◌, ℕ, zero, suc, ◌+◌, ◌<◌, ◌≤◌, Bool, false, not, cond, nat_eq, List, [], ◌∷◌, ◌++◌, length, map, filter, drop, get_or, slice_set, Option, None, Some, IsSome, is_some, inl, inr, refl, sym, ap, subst, ◌∙◌, arith}
 use Rattle.std.proofs.Math.Nat.{mod-lt}
-use Rattle.std.specs.List.{range_with_len, AllByRecursion, IsDistinct}
+use Rattle.std.specs.List.{flat_map, range_with_len, AllByRecursion, IsDistinct}
 use Rattle.std.specs.Map.{lookup}
 use Rattle.std.specs.Option.{unwrap_or}
 use Rattle.std.proofs.lemmas.Bool.{cases_Bool, cases_lt, eqb-true, eq-eqb}
@@ -12,7 +12,7 @@ use Rattle.std.proofs.lemmas.List.FromFn.{length-map-range_with_len, get_or-map-
 use Rattle.std.proofs.lemmas.Map.Keys.{IsDistinct-head, IsDistinct-tail, IsDistinct-cons}
 use Rattle.weave_data.specs.Names.{same_name, shard_of}
 use Rattle.weave_data.specs.declared.name.Name.{Name}
-use Rattle.graph_ops.specs.Mentions.{first_mentions, named_by}
+use Rattle.graph_ops.specs.Mentions.{first_mentions, named_by, named_by_op}
 use Rattle.graph_ops.specs.Operations.{vertex_of}
 use Rattle.graph_ops.specs.declared.op.Op.{Op}
 use Rattle.graph_ops.specs.declared.part.Part.{Part}
@@ -86,7 +86,7 @@ mentions_distinct (v ∷ names) =
 
 -- no vertex that operations name is counted twice
 pub counted_once : (counts : List Counted) (ops : List Op) → map (λ (counted : Counted). counted.vertex) counts ≡ named_by ops → AreOfTheirOwn counts
-counted_once counts ops is = subst (IsDistinct same_name) (sym is) (mentions_distinct (map vertex_of ops))
+counted_once counts ops is = subst (IsDistinct same_name) (sym is) (mentions_distinct (flat_map named_by_op ops))
 
 -- a table of all operations has those on each counted vertex
 pub has_all : (table : List (Name × List Op)) (ops : List Op) (counts : List Counted) → ((v : Name) → ops_at v table ≡ ops_on v ops) → HasOpsOf table ops counts

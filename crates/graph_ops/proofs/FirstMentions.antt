@@ -1,11 +1,10 @@
 -- Names in order of first mention, a name at a time.
 -- Used by `named` and crate order_witness.
-use Rattle.std.proofs.Common.{◌≡◌, ℕ, ◌+◌, ◌<◌, length, get_or, map, drop, Bool, true, false, not, cond, ◌||◌, List, [], ◌∷◌, ◌++◌, refl, sym, ap, ◌∙◌, append_assoc, add-one}
+use Rattle.std.proofs.Common.{◌≡◌, ℕ, ◌+◌, ◌<◌, length, get_or, drop, Bool, true, false, not, cond, ◌||◌, List, [], ◌∷◌, ◌++◌, refl, sym, ap, ◌∙◌, append_assoc, add-one}
 use Rattle.std.proofs.Math.Seq.{drop-cons}
-use Rattle.std.specs.List.{filter}
+use Rattle.std.specs.List.{filter, flat_map}
 use Rattle.std.proofs.lemmas.List.Folds.{list_any-append}
-use Rattle.graph_ops.specs.Mentions.{is_among, with_name, first_mentions}
-use Rattle.graph_ops.specs.Operations.{vertex_of}
+use Rattle.graph_ops.specs.Mentions.{is_among, named_by_op, with_all_names, with_name, first_mentions}
 use Rattle.graph_ops.specs.declared.op.Op.{Op}
 use Rattle.weave_data.specs.declared.name.Name.{Name}
 use Rattle.weave_data.specs.Names.{same_name, one_name}
@@ -56,9 +55,14 @@ pub fresh_none : (names : List Name) → fresh [] names ≡ names
 fresh_none [] = refl
 fresh_none (v ∷ rest) = ap (λ names. v ∷ names) (fresh_none rest)
 
--- to add the vertex of operation i and then those after it is to add the vertices of all from i on
-pub mentions_more : (names : List Name) (ops : List Op) (i : ℕ) (op : Op) → i < length ops → op ≡ get_or ops i op → with_name (vertex_of op) names ++ fresh (with_name (vertex_of op) names) (first_mentions (map vertex_of (drop (i + 1) ops))) ≡ names ++ fresh names (first_mentions (map vertex_of (drop i ops)))
-mentions_more names ops i op inside is = mentioned names _ (vertex_of op) ∙ ap (λ rest. names ++ fresh names (first_mentions (map vertex_of rest))) {x = op ∷ drop (i + 1) ops} (sym here)
+-- to add some names and then the new names of a list is to add the new names of both
+pub all_mentioned : (xs more names : List Name) → with_all_names xs names ++ fresh (with_all_names xs names) (first_mentions more) ≡ names ++ fresh names (first_mentions (xs ++ more))
+all_mentioned [] more names = refl
+all_mentioned (v ∷ xs) more names = all_mentioned xs more (with_name v names) ∙ mentioned names (first_mentions (xs ++ more)) v
+
+-- to add the names of operation i and then those after it is to add the names of all from i on
+pub mentions_more : (names : List Name) (ops : List Op) (i : ℕ) (op : Op) → i < length ops → op ≡ get_or ops i op → with_all_names (named_by_op op) names ++ fresh (with_all_names (named_by_op op) names) (first_mentions (flat_map named_by_op (drop (i + 1) ops))) ≡ names ++ fresh names (first_mentions (flat_map named_by_op (drop i ops)))
+mentions_more names ops i op inside is = all_mentioned (named_by_op op) (flat_map named_by_op (drop (i + 1) ops)) names ∙ ap (λ rest. names ++ fresh names (first_mentions (flat_map named_by_op rest))) {x = op ∷ drop (i + 1) ops} (sym here)
   where
     here : drop i ops ≡ op ∷ drop (i + 1) ops
     here = drop-cons ops i op inside ∙ rw (← is, add-one) refl

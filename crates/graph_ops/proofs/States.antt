@@ -1,6 +1,6 @@
 -- An operation on a table of states passes or is refused as on the table's graph, and leaves the new table's graph.
--- Used by `apply`, `copy`, `copy_slots`, `do_step`, `find`, `make_place`, `new`, `perform`, `read`, `run_tx`, `undo`,
--- `undo_step`, Rewinding and crates gatekeeper, program_defs and version_graph.
+-- Used by `apply`, `copy`, `copy_slots`, `do_step`, `find`, `is_there`, `make_place`, `new`, `perform`, `read`,
+-- `run_tx`, `undo`, `undo_step`, Rewinding and crates gatekeeper, program_defs and version_graph.
 use Rattle.std.proofs.Common.{◌≡◌, Bool, true, false, cond, List, [], ◌∷◌, Option, Some, None, IsSome, is_some, Result, Ok, Err, IfOk, OnErr, refl, sym, ap, ◌∙◌, subst}
 use Rattle.std.specs.Cmp.{eq_by_cmp_equiv}
 use Rattle.std.specs.Cmp.Lexicographic.{nat_list_cmp_total}
@@ -15,7 +15,7 @@ use Rattle.weave_data.specs.Names.{name_cmp, same_name, one_name}
 use Rattle.weave_data.specs.Pairs.{at_key}
 use Rattle.weave_data.specs.declared.name.Name.{Name}
 use Rattle.graph_ops.specs.Operations.{State, outcome_of_op, vertex_of, IfRefused}
-use Rattle.graph_ops.specs.PlainGraph.{PlainGraph, empty_graph, with_state, in_graph, on_graph}
+use Rattle.graph_ops.specs.PlainGraph.{PlainGraph, empty_graph, with_state, in_graph, on_graph, on_own_vertex}
 use Rattle.graph_ops.specs.Graphs.{Vertices, plain_of}
 use Rattle.graph_ops.specs.Slots.{state_in, states_of, with_slot, vertices_held, Covers}
 use Rattle.graph_ops.specs.TakingBack.{taken_back, CanTakeBack, HasOutcome, step_back}
@@ -123,7 +123,7 @@ module _ (op : Op) (v : Name) (e : v ≡ vertex_of op) (es fs : List (Name × St
   before : states_of es (vertex_of op) ≡ was
   before = subst (λ k. states_of es k ≡ was) e (sym (state_there v es _ there))
 
-  comes : on_graph op (states_of es) ≡ in_graph (vertex_of op) (outcome_of_op op was) (states_of es)
+  comes : on_own_vertex op (states_of es) ≡ in_graph (vertex_of op) (outcome_of_op op was) (states_of es)
   comes = ap (λ s. in_graph (vertex_of op) (outcome_of_op op s) (states_of es)) before
 
   becomes : states_of fs ≡ with_state (vertex_of op) now (states_of es)
@@ -136,7 +136,7 @@ module _ (op : Op) (v : Name) (e : v ≡ vertex_of op) (es fs : List (Name × St
   as_before state is = ap (λ s. with_state (vertex_of op) s (states_of fs)) is ∙ ap (with_state (vertex_of op) was) becomes ∙ rewritten (vertex_of op) was now (states_of es) before
 
   -- if the call passed, the operation passes on the table's graph with its answer, and leaves the new table's graph
-  pub done : (result : Result Change OpFault) → HasOutcome (outcome_of_op op was) was now result → IfOk result (λ change. on_graph op (states_of es) ≡ Ok (states_of fs, change.answered))
+  pub done : (result : Result Change OpFault) → HasOutcome (outcome_of_op op was) was now result → IfOk result (λ change. on_own_vertex op (states_of es) ≡ Ok (states_of fs, change.answered))
   done (Ok change) a = comes ∙ ap (λ o. in_graph (vertex_of op) o (states_of es)) a.0 ∙ ap (λ (k : PlainGraph). Ok (k, change.answered)) (sym becomes)
   done (Err fault) a = tt
 
@@ -146,7 +146,7 @@ module _ (op : Op) (v : Name) (e : v ≡ vertex_of op) (es fs : List (Name × St
   kept (Err fault) a = tt
 
   -- if the call was refused, the operation is refused on the table's graph for the same reason
-  pub refused : (result : Result Change OpFault) → HasOutcome (outcome_of_op op was) was now result → IfRefused result (λ reason. on_graph op (states_of es) ≡ Err reason)
+  pub refused : (result : Result Change OpFault) → HasOutcome (outcome_of_op op was) was now result → IfRefused result (λ reason. on_own_vertex op (states_of es) ≡ Err reason)
   refused (Ok change) a = tt
   refused (Err (Refused reason)) a = comes ∙ ap (λ o. in_graph (vertex_of op) o (states_of es)) a.0
   refused (Err Memory) a = tt

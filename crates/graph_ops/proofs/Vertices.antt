@@ -1,21 +1,31 @@
 -- A transaction leaves at each vertex what its operations there leave, and passes exactly if those of each vertex do.
--- Used by `vertices_are_independent`, Naming and 7 crates above.
+-- Used by `vertices_are_independent`, Naming, Needs and 7 crates above.
 use Rattle.std.proofs.Common.{◌≡◌, ℕ, ◌+◌, Bool, true, false, ◌&&◌, cond, List, [], ◌∷◌, IsTrue, Ok, Err, is_ok, refl, sym, ap, subst, ◌∙◌}
-use Rattle.std.proofs.lemmas.Bool.{and_parts}
 use Rattle.std.specs.Cmp.{eq_by_cmp_equiv}
 use Rattle.std.specs.Cmp.Lexicographic.{nat_list_cmp_total}
 use Rattle.weave_data.specs.Names.{same_name, one_name}
 use Rattle.weave_data.specs.declared.name.Name.{Name}
-use Rattle.graph_ops.specs.Operations.{State, Outcome, outcome_of_op, vertex_of}
-use Rattle.graph_ops.specs.PlainGraph.{PlainGraph, PassedTx, TxOutcome, with_state, in_graph, with_gots_before, outcome_then, run}
+use Rattle.graph_ops.specs.Operations.{State, Outcome, outcome_of_op, refused_if, vertex_of}
+use Rattle.graph_ops.specs.PlainGraph.{PlainGraph, PassedTx, TxOutcome, with_state, in_graph, lacks_target, outcome_in, with_gots_before, outcome_then, run}
 use Rattle.graph_ops.specs.VertexOps.{ops_on, state_left, state_after_ops, none_refused}
 use Rattle.graph_ops.specs.declared.op.Op.{Op}
 use Rattle.graph_ops.specs.declared.op.Answered.{Answered}
+use Rattle.graph_ops.specs.declared.op.Reason.TheVariants.{NoTarget}
 use Rattle.graph_ops.specs.declared.tx.Got.{Got}
 
 -- each name is the same as itself
 pub same_name-refl : (v : Name) → IsTrue (same_name v v)
 same_name-refl = (eq_by_cmp_equiv nat_list_cmp_total).refl
+
+-- What passes in a graph
+
+own-if : (b : Bool) (o : Outcome) (p : State × Answered) → refused_if b NoTarget o ≡ Ok p → o ≡ Ok p
+own-if true o p e = absurd (cc)
+own-if false o p e = e
+
+-- an operation that passes in a graph passes on its vertex's state alone, with the same outcome
+pub own-passes : (op : Op) (graph : PlainGraph) (p : State × Answered) → outcome_in op graph ≡ Ok p → outcome_of_op op (graph (vertex_of op)) ≡ Ok p
+own-passes op graph p e = own-if (lacks_target op graph) (outcome_of_op op (graph (vertex_of op))) p e
 
 -- What a transaction that passes leaves
 
@@ -48,8 +58,8 @@ module _ (op : Op) (ops : List Op) (graph h : PlainGraph) (v : Name) (now : Stat
 leaves-graph : (ops : List Op) (number : ℕ) (graph h : PlainGraph) (v : Name) → LeavesGraph (run number ops graph) h → Leaves (ops_on v ops) (graph v) (h v)
 leaves-graph [] number graph h v c = (refl, ap (λ (k : PlainGraph). k v) c)
 leaves-graph (op ∷ ops) number graph h v c =
-    elim (outcome_of_op op (graph (vertex_of op))) as (λ o. outcome_of_op op (graph (vertex_of op)) ≡ o → LeavesGraph (outcome_then number (in_graph (vertex_of op) o graph) (λ next. run (number + 1) ops next)) h → Leaves (ops_on v (op ∷ ops)) (graph v) (h v)) [
-      | Ok p ↦ λ e k. at-vertex op ops graph h v p.0 p.1 e (leaves-graph ops (number + 1) (with_state (vertex_of op) p.0 graph) h v (without-first _ _ h k)) _ refl
+    elim (outcome_in op graph) as (λ o. outcome_in op graph ≡ o → LeavesGraph (outcome_then number (in_graph (vertex_of op) o graph) (λ next. run (number + 1) ops next)) h → Leaves (ops_on v (op ∷ ops)) (graph v) (h v)) [
+      | Ok p ↦ λ e k. at-vertex op ops graph h v p.0 p.1 (own-passes op graph p e) (leaves-graph ops (number + 1) (with_state (vertex_of op) p.0 graph) h v (without-first _ _ h k)) _ refl
       | Err reason ↦ λ e k. absurd k
     ] refl c
 
@@ -66,33 +76,3 @@ passes-each ops number graph h v = at (run number ops graph) refl h
     at : (o : TxOutcome) → run number ops graph ≡ o → IsTrue (is_ok o) → IsTrue (none_refused (ops_on v ops) (graph v))
     at (Ok passed) e h = (leaves ops number graph passed v e).0
     at (Err stopped) e h = absurd (cc)
-
-after-ok : (gots : List Got) (o : TxOutcome) → IsTrue (is_ok o) → IsTrue (is_ok (with_gots_before gots o))
-after-ok gots (Ok p) h = h
-after-ok gots (Err stopped) h = h
-
--- the first operation passes on its vertex, and the rest pass on the graph that it leaves
-first-passes : (op : Op) (ops : List Op) (graph : PlainGraph) → ((v : Name) → IsTrue (none_refused (ops_on v (op ∷ ops)) (graph v))) → IsTrue (is_ok (outcome_of_op op (graph (vertex_of op))))
-first-passes op ops graph each =
-    let u = vertex_of op in
-    let here : IsTrue (none_refused (op ∷ ops_on u ops) (graph u)) = subst (λ b. IsTrue (none_refused (cond b (op ∷ ops_on u ops) (ops_on u ops)) (graph u))) (same_name-refl u) (each u) in
-    (and_parts _ _ here).0
-
-rest-passes : (op : Op) (ops : List Op) (graph : PlainGraph) (now : State) (answered : Answered) → outcome_of_op op (graph (vertex_of op)) ≡ Ok (now, answered) → ((v : Name) → IsTrue (none_refused (ops_on v (op ∷ ops)) (graph v))) → (v : Name) → IsTrue (none_refused (ops_on v ops) (with_state (vertex_of op) now graph v))
-rest-passes op ops graph now answered e each v = at (same_name (vertex_of op) v) refl (each v)
-  where
-    at : (b : Bool) → same_name (vertex_of op) v ≡ b → IsTrue (none_refused (cond b (op ∷ ops_on v ops) (ops_on v ops)) (graph v)) → IsTrue (none_refused (ops_on v ops) (cond b now (graph v)))
-    at true same h =
-        let here : vertex_of op ≡ v = one_name _ _ same in
-        let is : outcome_of_op op (graph v) ≡ Ok (now, answered) = ap (λ k. outcome_of_op op (graph k)) (sym here) ∙ e in
-        subst (λ (o : Outcome). IsTrue (is_ok o && none_refused (ops_on v ops) (state_left (graph v) o))) is h
-    at false other h = h
-
--- and if those on each vertex pass on its state, all of them pass on the graph
-pub each-passes : (ops : List Op) (number : ℕ) (graph : PlainGraph) → ((v : Name) → IsTrue (none_refused (ops_on v ops) (graph v))) → IsTrue (is_ok (run number ops graph))
-each-passes [] number graph each = refl
-each-passes (op ∷ ops) number graph each =
-    elim (outcome_of_op op (graph (vertex_of op))) as (λ o. outcome_of_op op (graph (vertex_of op)) ≡ o → IsTrue (is_ok o) → IsTrue (is_ok (outcome_then number (in_graph (vertex_of op) o graph) (λ next. run (number + 1) ops next)))) [
-      | Ok p ↦ λ e h. after-ok _ _ (each-passes ops (number + 1) (with_state (vertex_of op) p.0 graph) (rest-passes op ops graph p.0 p.1 e each))
-      | Err reason ↦ λ e h. absurd (cc)
-    ] refl (first-passes op ops graph each)

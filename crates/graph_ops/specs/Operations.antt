@@ -8,7 +8,7 @@ use Rattle.weave_data.specs.Limits.{most_edges, most_props, most_tags}
 use Rattle.graph_ops.specs.declared.record.Edge.{Edge}
 use Rattle.graph_ops.specs.declared.record.Record.{Record}
 use Rattle.graph_ops.specs.declared.op.Op.{Op}
-use Rattle.graph_ops.specs.declared.op.Op.TheVariants.{Create, Delete, Set, Unset, Link, Unlink, Tag, Untag, Get}
+use Rattle.graph_ops.specs.declared.op.Op.TheVariants.{Create, Delete, Set, Unset, Link, Join, Unlink, Tag, Untag, Get}
 use Rattle.graph_ops.specs.declared.op.Reason.{Reason}
 use Rattle.graph_ops.specs.declared.op.Reason.TheVariants.{Exists, Missing, NoKey, EdgeExists, NoEdge, Full}
 use Rattle.graph_ops.specs.declared.op.Answered.{Answered}
@@ -42,7 +42,7 @@ abbrev pub on_edge : Option Edge → (Edge → Outcome) → Outcome
 on_edge None rest = Err NoEdge
 on_edge (Some edge) rest = rest edge
 
--- the operation on its vertex
+-- the operation on its vertex; for a join the target isn't looked at
 abbrev pub outcome_of_op : Op → State → Outcome
 outcome_of_op (Create v) state = refused_if (is_some state) Exists (done_with (record { props = []; edges = [] }))
 outcome_of_op (Delete v) state = on_vertex state (λ was. Ok (None, Done))
@@ -51,6 +51,10 @@ outcome_of_op (Set v key value) state = on_vertex state (λ was.
 outcome_of_op (Unset v key) state = on_vertex state (λ was.
     refused_if (not (has key was.props)) NoKey (done_with (record was { props = without_key key was.props })))
 outcome_of_op (Link v name target) state = on_vertex state (λ was.
+    refused_if (has name was.edges) EdgeExists (
+    refused_if (is_full most_edges name was.edges) Full
+    (done_with (record was { edges = put name (record { target = target; tags = [] }) was.edges }))))
+outcome_of_op (Join v name target) state = on_vertex state (λ was.
     refused_if (has name was.edges) EdgeExists (
     refused_if (is_full most_edges name was.edges) Full
     (done_with (record was { edges = put name (record { target = target; tags = [] }) was.edges }))))
@@ -71,10 +75,16 @@ vertex_of (Delete v) = v
 vertex_of (Set v key value) = v
 vertex_of (Unset v key) = v
 vertex_of (Link v name target) = v
+vertex_of (Join v name target) = v
 vertex_of (Unlink v name) = v
 vertex_of (Tag v name key value) = v
 vertex_of (Untag v name key) = v
 vertex_of (Get v) = v
+
+-- the vertex that has to be there for it, besides its own: the target of a join
+abbrev pub needed_by : Op → Option Name
+needed_by (Join v name target) = Some target
+needed_by _ = None
 
 -- How operations are written, and what is told of them
 
@@ -85,6 +95,7 @@ op_word (Delete v) = codes "delete"
 op_word (Set v key value) = codes "set"
 op_word (Unset v key) = codes "unset"
 op_word (Link v name target) = codes "link"
+op_word (Join v name target) = codes "link"
 op_word (Unlink v name) = codes "unlink"
 op_word (Tag v name key value) = codes "tag"
 op_word (Untag v name key) = codes "untag"
@@ -97,12 +108,18 @@ op_fields (Delete v) = v ∷ []
 op_fields (Set v key value) = v ∷ key ∷ value ∷ []
 op_fields (Unset v key) = v ∷ key ∷ []
 op_fields (Link v name target) = v ∷ name ∷ target ∷ []
+op_fields (Join v name target) = v ∷ name ∷ target ∷ []
 op_fields (Unlink v name) = v ∷ name ∷ []
 op_fields (Tag v name key value) = v ∷ name ∷ key ∷ value ∷ []
 op_fields (Untag v name key) = v ∷ name ∷ key ∷ []
 op_fields (Get v) = v ∷ []
 
--- the operations that take these names
+-- the operation of version 1 of a script that has the same line: a link for a join
+abbrev pub version_1_op : Op → Op
+version_1_op (Join v name target) = Link v name target
+version_1_op op = op
+
+-- the operations of version 1 that take these names
 abbrev pub ops_with : List Name → List Op
 ops_with (v ∷ []) = Create v ∷ Delete v ∷ Get v ∷ []
 ops_with (v ∷ other ∷ []) = Unset v other ∷ Unlink v other ∷ []
@@ -122,6 +139,7 @@ is_get _ = false
 -- the vertex to which it makes an edge
 abbrev pub target_of : Op → Option Name
 target_of (Link v name target) = Some target
+target_of (Join v name target) = Some target
 target_of _ = None
 
 -- if the call was refused, not for being out of memory, the reason has P

@@ -1,11 +1,12 @@
 -- The plain graph: no stamps, no shards, no versions. A transaction runs its operations in order, and is refused at the
 -- first that is refused.
-use Rattle.std.specs.Prelude.{ℕ, ◌+◌, List, [], ◌∷◌, ◌++◌, None, Result, Ok, Err, if◌then◌else◌}
+use Rattle.std.specs.Prelude.{ℕ, ◌+◌, Bool, false, not, ◌&&◌, is_some, List, [], ◌∷◌, ◌++◌, Option, Some, None, Result, Ok, Err, if◌then◌else◌}
 use Rattle.weave_data.specs.Names.{same_name}
 use Rattle.weave_data.specs.declared.name.Name.{Name}
-use Rattle.graph_ops.specs.Operations.{State, Outcome, outcome_of_op, vertex_of}
+use Rattle.graph_ops.specs.Operations.{State, Outcome, needed_by, outcome_of_op, refused_if, vertex_of}
 use Rattle.graph_ops.specs.declared.op.Op.{Op}
 use Rattle.graph_ops.specs.declared.op.Reason.{Reason}
+use Rattle.graph_ops.specs.declared.op.Reason.TheVariants.{NoTarget}
 use Rattle.graph_ops.specs.declared.op.Answered.{Answered}
 use Rattle.graph_ops.specs.declared.op.Answered.TheVariants as answered
 use Rattle.graph_ops.specs.declared.tx.Got.{Got}
@@ -28,9 +29,26 @@ abbrev pub in_graph : Name → Outcome → PlainGraph → Result (PlainGraph × 
 in_graph v (Ok (now, answer)) graph = Ok (with_state v now graph, answer)
 in_graph v (Err reason) graph = Err reason
 
+-- a vertex that is needed is absent
+abbrev pub is_absent_in : PlainGraph → Option Name → Bool
+is_absent_in graph None = false
+is_absent_in graph (Some needed) = not (is_some (graph needed))
+
+-- the vertex that the operation needs besides its own is absent, and its own isn't
+abbrev pub lacks_target : Op → PlainGraph → Bool
+lacks_target op graph = is_absent_in graph (needed_by op) && is_some (graph (vertex_of op))
+
+-- the operation on its vertex, in a graph: `NoTarget` comes after `Missing`, and before any other reason
+abbrev pub outcome_in : Op → PlainGraph → Outcome
+outcome_in op graph = refused_if (lacks_target op graph) NoTarget (outcome_of_op op (graph (vertex_of op)))
+
 -- an operation on a graph changes its vertex's state and no other
 abbrev pub on_graph : Op → PlainGraph → Result (PlainGraph × Answered) Reason
-on_graph op graph = in_graph (vertex_of op) (outcome_of_op op (graph (vertex_of op))) graph
+on_graph op graph = in_graph (vertex_of op) (outcome_in op graph) graph
+
+-- what an operation does on its vertex's state alone. No public contract cites this.
+abbrev pub on_own_vertex : Op → PlainGraph → Result (PlainGraph × Answered) Reason
+on_own_vertex op graph = in_graph (vertex_of op) (outcome_of_op op (graph (vertex_of op))) graph
 
 -- a transaction that passes: the graph after it, and the states that its `get`s read
 pub record PassedTx : Type 0 where

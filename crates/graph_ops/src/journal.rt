@@ -1,15 +1,15 @@
 //! A transaction on a table of states, and how it is taken back.
-ghost use Rattle.std.specs.Prelude.{◌≡◌, ◌++◌, ◌<◌, ◌^◌, length, Ok, Err, IfOk, OnOk, OnErr, IsSome};
+ghost use Rattle.std.specs.Prelude.{◌≡◌, ◌++◌, ◌<◌, ◌^◌, is_some, length, Ok, Err, IfOk, OnOk, OnErr, IsSome};
 ghost use Rattle.weave_data.specs.Pairs.{at_key};
 ghost use Rattle.graph_ops.specs.Operations.{IfRefused, vertex_of};
-ghost use Rattle.graph_ops.specs.PlainGraph.{on_graph, transaction, gots_of_answer};
+ghost use Rattle.graph_ops.specs.PlainGraph.{lacks_target, on_graph, on_own_vertex, transaction, gots_of_answer};
 ghost use Rattle.graph_ops.specs.Graphs.{IfTxRefused};
 ghost use Rattle.graph_ops.specs.Slots.{states_of, Covers};
 ghost use Rattle.graph_ops.specs.TakingBack.{step_back, graph_rewound, CanTakeBack};
 ghost use Rattle.graph_ops.specs.Journals.{CanRewindIn, Keeps};
 
 use crate::back::{Back, Change, take_back};
-use crate::op::{Answered, Op, OpFault};
+use crate::op::{Answered, Op, OpFault, Reason};
 use crate::record::Record;
 use crate::rows::do_op;
 use crate::tx::{Got, TxFault};
@@ -50,14 +50,14 @@ fn make_place(slots: &mut Slots, v: Name) -> Result<(), AllocError>
     Ok(())
 }
 
-// Does an operation in its vertex's place.
+// Does an operation in its vertex's place, and looks at no other.
 fn perform(alloc: Global, slots: &mut Slots, op: &Op) -> Result<Change, OpFault>
     requires { IsSome (at_key (vertex_of op.now) slots.old.entries) }
-    ensures done { IfOk result (λ change. on_graph op.now (states_of slots.old.entries)
+    ensures done { IfOk result (λ change. on_own_vertex op.now (states_of slots.old.entries)
         ≡ Ok (states_of slots.new.entries, change.answered)) }
     ensures back { IfOk result (λ change.
         Keeps (record { v = vertex_of op.now; back = change.back }) slots.new.entries slots.old.entries) }
-    ensures refused { IfRefused result (λ reason. on_graph op.now (states_of slots.old.entries) ≡ Err reason) }
+    ensures refused { IfRefused result (λ reason. on_own_vertex op.now (states_of slots.old.entries) ≡ Err reason) }
     ensures unchanged { OnErr result (states_of slots.new.entries ≡ states_of slots.old.entries) }
     ensures others { Covers slots.new.entries slots.old.entries }
 {
@@ -67,7 +67,7 @@ fn perform(alloc: Global, slots: &mut Slots, op: &Op) -> Result<Change, OpFault>
     do_op(alloc, slot, op)
 }
 
-// Does an operation that may change its vertex, and notes how it is taken back.
+// Does an operation that may change its vertex, with no look at another, and notes how it is taken back.
 fn note(
     alloc: Global,
     slots: &mut Slots,
@@ -75,9 +75,9 @@ fn note(
     op: &Op,
 ) -> Result<Answered, OpFault>
     requires { CanRewindIn journal.old.items slots.old.entries }
-    ensures done { IfOk result (λ answer. on_graph op.now (states_of slots.old.entries)
+    ensures done { IfOk result (λ answer. on_own_vertex op.now (states_of slots.old.entries)
         ≡ Ok (states_of slots.new.entries, answer)) }
-    ensures refused { IfRefused result (λ reason. on_graph op.now (states_of slots.old.entries) ≡ Err reason) }
+    ensures refused { IfRefused result (λ reason. on_own_vertex op.now (states_of slots.old.entries) ≡ Err reason) }
     ensures kept { CanRewindIn journal.new.items slots.new.entries }
     ensures same { graph_rewound journal.new.items (states_of slots.new.entries)
         ≡ graph_rewound journal.old.items (states_of slots.old.entries) }
@@ -92,6 +92,26 @@ fn note(
         }
         Err(fault) => Err(fault),
     }
+}
+
+// Whether a vertex is there.
+fn is_there(slots: &Slots, v: Name) -> bool
+    ensures { result ≡ is_some (states_of slots.now.entries v) }
+{
+    match slots.get(&v) {
+        None => false,
+        Some(state) => state.is_some(),
+    }
+}
+
+// Whether the vertex that an operation needs besides its own is absent, and its own isn't.
+fn lacks_target(slots: &Slots, op: &Op) -> bool
+    ensures { result ≡ lacks_target op.now (states_of slots.now.entries) }
+{
+    let Some(needed) = op.needs() else {
+        return false;
+    };
+    !is_there(slots, needed) && is_there(slots, op.vertex())
 }
 
 // Does an operation; one that only reads has nothing to be taken back.
@@ -111,6 +131,9 @@ fn do_step(
 {
     if let Op::Get { v } = *op {
         return Ok(Answered::Got(read(alloc, slots, v)?));
+    }
+    if lacks_target(slots, op) {
+        return Err(OpFault::Refused(Reason::NoTarget));
     }
     note(alloc, slots, journal, op)
 }

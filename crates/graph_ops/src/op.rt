@@ -1,7 +1,7 @@
 //! Operations on one vertex.
 ghost use Rattle.std.specs.Prelude.{◌≡◌};
 ghost use Rattle.graph_ops.specs.Fields.{names_of_fields};
-ghost use Rattle.graph_ops.specs.Operations.{is_get, op_fields, op_word, target_of, vertex_of};
+ghost use Rattle.graph_ops.specs.Operations.{is_get, needed_by, op_fields, op_word, target_of, vertex_of};
 
 use crate::record::Record;
 use std::alloc::{AllocError, Global};
@@ -29,8 +29,15 @@ pub enum Op {
         v: Name,
         key: Name,
     },
-    /// Adds an edge without tags. The target need not exist.
+    /// Adds an edge without tags. The target need not exist: `link` in version 1 of a script.
     Link {
+        v: Name,
+        edge: Name,
+        target: Name,
+    },
+    /// Adds an edge without tags to a vertex that has to be there: `link` in version 2 of a script. Only a transaction
+    /// looks at the target.
+    Join {
         v: Name,
         edge: Name,
         target: Name,
@@ -74,6 +81,8 @@ pub enum Reason {
     NoEdge,
     /// One property, edge or tag too many.
     Full,
+    /// An edge to a vertex that has to be there, and is absent.
+    NoTarget,
 }
 
 /// Why an operation was not done.
@@ -144,6 +153,7 @@ impl Op {
             | Op::Set { v, .. }
             | Op::Unset { v, .. }
             | Op::Link { v, .. }
+            | Op::Join { v, .. }
             | Op::Unlink { v, .. }
             | Op::Tag { v, .. }
             | Op::Untag { v, .. }
@@ -161,6 +171,7 @@ impl Op {
             Op::Set { .. } => b"set",
             Op::Unset { .. } => b"unset",
             Op::Link { .. } => b"link",
+            Op::Join { .. } => b"link",
             Op::Unlink { .. } => b"unlink",
             Op::Tag { .. } => b"tag",
             Op::Untag { .. } => b"untag",
@@ -178,6 +189,7 @@ impl Op {
             Op::Unlink { v, edge } => Fields::Two([v, edge]),
             Op::Set { v, key, value } => Fields::Three([v, key, value]),
             Op::Link { v, edge, target } => Fields::Three([v, edge, target]),
+            Op::Join { v, edge, target } => Fields::Three([v, edge, target]),
             Op::Untag { v, edge, key } => Fields::Three([v, edge, key]),
             Op::Tag {
                 v,
@@ -200,7 +212,17 @@ impl Op {
         ensures { result ≡ target_of self.now }
     {
         match *self {
-            Op::Link { target, .. } => Some(target),
+            Op::Link { target, .. } | Op::Join { target, .. } => Some(target),
+            _ => None,
+        }
+    }
+
+    /// The vertex that has to be there for it, and that it names too: the target of a join.
+    pub fn needs(&self) -> Option<Name>
+        ensures { result ≡ needed_by self.now }
+    {
+        match *self {
+            Op::Join { target, .. } => Some(target),
             _ => None,
         }
     }

@@ -11,7 +11,8 @@ use crate::tags;
 use std::alloc::Global;
 use weave_data::{Copied, Name, NameMap};
 
-/// Does an operation to a vertex's state, by the table of operations. After either fault the state is as before.
+/// Does an operation to a vertex's state, by the table of operations; a join as a link, with no look at its target.
+/// After either fault the state is as before.
 pub fn apply_op(alloc: Global, state: &mut Option<Record>, op: &Op) -> Result<Answered, OpFault>
     ensures done { IfOk result (λ answered. outcome_of_op op.now state.old ≡ Ok (state.new, answered)) }
     ensures refused { IfRefused result (λ reason. outcome_of_op op.now state.old ≡ Err reason) }
@@ -33,6 +34,7 @@ pub(crate) fn do_op(alloc: Global, state: &mut Option<Record>, op: &Op) -> Resul
         Op::Set { key, value, .. } => set(state, key, value),
         Op::Unset { key, .. } => unset(alloc, state, key),
         Op::Link { edge, target, .. } => link(state, alloc, edge, target),
+        Op::Join { edge, target, .. } => link(state, alloc, edge, target),
         Op::Unlink { edge, .. } => unlink(alloc, state, edge),
         Op::Tag {
             edge,

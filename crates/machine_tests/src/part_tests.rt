@@ -184,7 +184,7 @@ fn table(rt: &impl Abort, v: Name) -> [(u64, Op); 19] {
         (2, Op::Unlink { v, edge: e }),
         (
             2,
-            Op::Link {
+            Op::Join {
                 v,
                 edge: e,
                 target: b,

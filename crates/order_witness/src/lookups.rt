@@ -1,8 +1,7 @@
 //! What a script and a report say of a request.
 ghost use Rattle.std.specs.Prelude.{◌≡◌, option_copied, length};
 ghost use Rattle.std.specs.List.{list_any};
-ghost use Rattle.weave_data.specs.Names.{same_name};
-ghost use Rattle.graph_ops.specs.Operations.{vertex_of};
+ghost use Rattle.graph_ops.specs.Mentions.{is_among, named_by_op};
 ghost use Rattle.graph_ops.specs.declared.op.Op.{Op};
 ghost use Rattle.order_witness.specs.Begun.{is_request_before, numbers_in};
 ghost use Rattle.report_rules.specs.Lookups as lookups;
@@ -154,7 +153,20 @@ fn work_names(v: Name, work: &Work) -> bool
 }
 
 fn is_named(v: Name, ops: &[Op]) -> bool
-    ensures { result ≡ list_any (λ (op : Op). same_name (vertex_of op) v) ops.now }
+    ensures { result ≡ list_any (λ (op : Op). is_among (named_by_op op) v) ops.now }
 {
-    ops.iter().any(|op| op.vertex() == v)
+    ops.iter().any(|op| names(op, v))
+}
+
+// Whether the operation names the vertex.
+fn names(op: &Op, v: Name) -> bool
+    ensures { result ≡ is_among (named_by_op op.now) v }
+{
+    if op.vertex() == v {
+        return true;
+    }
+    match op.needs() {
+        Some(needed) => needed == v,
+        None => false,
+    }
 }

@@ -40,3 +40,4 @@ mod FewSteps
 mod DoneReplies
 mod ReportedReplies
 mod FinishedRows
+mod JoinRows

@@ -29,8 +29,8 @@ fn request_lines(alloc: Global, number: u32) -> Result<String, AllocError> {
     }
 }
 
-// 64 vertices, as many as a transaction can make, at one of eight gatekeepers, for sixteen shards. The sessions share the
-// first ones.
+// 64 vertices, as many as a transaction can make, at one of eight gatekeepers, for sixteen shards. The sessions share
+// the first ones.
 fn shared_vertices(alloc: Global) -> Result<Vec<u8>, AllocError> {
     let mut text = Vec::from_slice(alloc, b"weaver 1 8 16\ntx t 0 0\n")?;
     for v in 0..64u32 {

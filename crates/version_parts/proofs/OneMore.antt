@@ -7,7 +7,7 @@ use Rattle.weave_data.specs.declared.name.Name.{Name}
 use Rattle.weave_data.specs.Pairs.{IsRising, at_key, has, put, without_key, is_full}
 use Rattle.weave_data.proofs.Changing.{none_rise}
 use Rattle.graph_ops.specs.declared.op.Op.{Op}
-use Rattle.graph_ops.specs.declared.op.Op.TheVariants.{Create, Delete, Set, Unset, Link, Unlink, Tag, Untag, Get}
+use Rattle.graph_ops.specs.declared.op.Op.TheVariants.{Create, Delete, Set, Unset, Link, Join, Unlink, Tag, Untag, Get}
 use Rattle.graph_ops.specs.declared.op.Reason.{Reason}
 use Rattle.graph_ops.specs.declared.op.Reason.TheVariants.{Exists, NoKey, EdgeExists, NoEdge, Full}
 use Rattle.graph_ops.specs.declared.record.Edge.{Edge}
@@ -285,6 +285,13 @@ module _ (time : Time) (lists : Lists) (before : AreBefore time lists) (numbered
       links_law name None (Some target) live (Some (record { target = target; tags = [] })) rise.0 (link_now name (Some target) live is)
       ∙ sym (left_if (has name was.edges) EdgeExists (cond (is_full 1000 name was.edges) (Err Full) done) (Some was) h
       ∙ left_if (is_full 1000 name was.edges) Full done (Some was) (ok_if (has name was.edges) EdgeExists (cond (is_full 1000 name was.edges) (Err Full) done) h))) passes
+  one_more (Join v name target) rise passes =
+      on_made (Join v name target) (with_op time (Join v name target) lists) refl (λ h. absurd cc) (λ live is h.
+      let was : Record = record_at update (Some live.0) lists in
+      let done : Outcome = done_with (record was { edges = put name (record { target = target; tags = [] }) was.edges }) in
+      links_law name None (Some target) live (Some (record { target = target; tags = [] })) rise.0 (link_now name (Some target) live is)
+      ∙ sym (left_if (has name was.edges) EdgeExists (cond (is_full 1000 name was.edges) (Err Full) done) (Some was) h
+      ∙ left_if (is_full 1000 name was.edges) Full done (Some was) (ok_if (has name was.edges) EdgeExists (cond (is_full 1000 name was.edges) (Err Full) done) h))) passes
   one_more (Unlink v name) rise passes =
       on_made (Unlink v name) (with_op time (Unlink v name) lists) refl (λ h. absurd cc) (λ live is h.
       let was : Record = record_at update (Some live.0) lists in
@@ -317,6 +324,7 @@ one_item (Delete v) = refl
 one_item (Set v key value) = refl
 one_item (Unset v key) = refl
 one_item (Link v name target) = refl
+one_item (Join v name target) = refl
 one_item (Unlink v name) = refl
 one_item (Tag v name key value) = refl
 one_item (Untag v name key) = refl

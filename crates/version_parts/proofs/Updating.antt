@@ -1,6 +1,6 @@
 -- An update under way: one item more, all items, and an update that is taken back.
 -- Used by `add_ops` and `add_update`.
-use Rattle.std.proofs.Common.{◌≡◌, ◌≤◌, ◌<◌, ◌+◌, inl, inr, ℕ, suc, Bool, true, false, ◌&&◌, cond, List, [], ◌∷◌, drop, length, get_or, IsTrue, is_ok, refl, sym, ap, ◌∙◌, subst, arith, add-one, drop-cons}
+use Rattle.std.proofs.Common.{◌≡◌, ◌≤◌, ◌<◌, ◌+◌, inl, inr, ℕ, Bool, true, false, ◌&&◌, cond, List, [], ◌∷◌, drop, length, get_or, IsTrue, is_ok, refl, sym, ap, ◌∙◌, subst, arith, add-one, drop-cons}
 use Rattle.std.specs.Prelude.{nat_le}
 use Rattle.std.proofs.lemmas.Bool.{and_parts, le-leb, lt-leb}
 use Rattle.std.proofs.Math.ListN.{drop_of_length-le}
@@ -12,17 +12,17 @@ use Rattle.graph_ops.specs.VertexOps.{state_left, state_after_ops, none_refused}
 use Rattle.version_parts.specs.declared.lists.Lists.{Lists}
 use Rattle.version_parts.specs.declared.time.Time.{Time}
 use Rattle.version_parts.specs.declared.track.Item.{Item}
-use Rattle.version_parts.specs.Counts.{count_updates, count_in_lists, changes, changes_of}
+use Rattle.version_parts.specs.Counts.{count_updates, changes, changes_of}
 use Rattle.version_parts.specs.Cuts.{lists_until}
 use Rattle.version_parts.specs.InOrder.{ListsInOrder}
-use Rattle.version_parts.specs.Ordered.{IsEarlierTime, AreBefore, KeysRise}
+use Rattle.version_parts.specs.Ordered.{IsEarlierTime, KeysRise}
 use Rattle.version_parts.specs.Placed.{AllInLists, AreUpTo}
 use Rattle.version_parts.specs.States.{state_at, with_op}
 use Rattle.version_parts.specs.Updates.{IsUnderWay}
 use Rattle.version_parts.proofs.Counting.{op_count, until_count}
 use Rattle.version_parts.proofs.Cutting.{until_stays}
 use Rattle.version_parts.proofs.OneMore.{earlier_stay, one_more}
-use Rattle.version_parts.proofs.Placing.{all_op, lists_weaker, state_past, counts_agree}
+use Rattle.version_parts.proofs.Placing.{all_op, lists_weaker, counts_agree}
 use Rattle.version_parts.proofs.Pushing.{no_later_update}
 use Rattle.version_parts.proofs.Sequences.{op_push}
 

@@ -1,5 +1,5 @@
 -- When an item was added.
-use Rattle.std.specs.Prelude.{ℕ, Bool, false, ◌&&◌, ◌||◌, ◌==◌, nat_lt, Option, Some, None}
+use Rattle.std.specs.Prelude.{Bool, false, ◌&&◌, ◌||◌, ◌==◌, nat_lt, Option, Some, None}
 use Rattle.version_parts.specs.declared.time.Time.{Time}
 
 -- before every update: these are numbered from 1

@@ -1,5 +1,5 @@
 -- The items of one thing, in the order of their times: what the thing became, and when.
-use Rattle.std.specs.Prelude.{◌≤◌, ℕ, zero, suc, Bool, not, ◌&&◌, List, [], ◌∷◌, ◌++◌, filter, Option, Some, None, is_some, nat_le, if◌then◌else◌}
+use Rattle.std.specs.Prelude.{ℕ, not, ◌&&◌, List, [], ◌∷◌, filter, Option, Some, None, is_some, nat_le, if◌then◌else◌}
 use Rattle.std.specs.List.{AllByRecursion}
 use Rattle.std.specs.Option.{option_map, option_and_then}
 use Rattle.version_parts.specs.declared.time.Time.{Time}

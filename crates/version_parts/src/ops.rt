@@ -87,6 +87,10 @@ fn add_op(lists: &mut Lists, alloc: Global, time: Time, op: &Op) -> Result<(), A
             let value = Some(target);
             add_edge_item(&mut lists.edges, alloc, edge, None, Item { time, value })
         }
+        Op::Join { edge, target, .. } => {
+            let value = Some(target);
+            add_edge_item(&mut lists.edges, alloc, edge, None, Item { time, value })
+        }
         Op::Unlink { edge, .. } => {
             add_edge_item(
                 &mut lists.edges,

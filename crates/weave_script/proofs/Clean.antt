@@ -1,7 +1,7 @@
 -- The lines of a script have clean words.
 -- Used by `printed_checks_come_back` and `printed_scripts_come_back`.
-use Rattle.std.proofs.Common.{◌≡◌, ℕ, ◌+◌, ◌≤◌, ◌<◌, ◌^◌, true, List, [], ◌∷◌, ◌++◌, map, Option, Some, None, refl, arith}
-use Rattle.std.specs.Prelude.{IsTrue, length, codes}
+use Rattle.std.proofs.Common.{◌≡◌, ℕ, ◌+◌, ◌≤◌, ◌<◌, ◌^◌, Bool, true, false, List, [], ◌∷◌, ◌++◌, map, Option, Some, None, refl, arith}
+use Rattle.std.specs.Prelude.{IsTrue, length}
 use Rattle.std.specs.Fmt.{decimal}
 use Rattle.std.specs.List.{AllByRecursion, list_all}
 use Rattle.std.proofs.lemmas.Bool.{and_from}
@@ -22,7 +22,7 @@ use Rattle.program_defs.specs.declared.script.Work.TheVariants.{Change, Look}
 use Rattle.weave_text.specs.Cutting.{is_clean, is_clean_line}
 use Rattle.weave_text.specs.Lines.{Word, Line}
 use Rattle.weave_text.proofs.Clean.{name_is_kept}
-use Rattle.weave_script.specs.ScriptLines.{op_line, end_line, filter_words, program_words, work_lines, request_lines, phase_lines, due_phases, later_phases, item_lines, step_line, steps_lines, script_lines, name_of_request}
+use Rattle.weave_script.specs.ScriptLines.{op_line, end_line, filter_words, program_words, work_lines, request_lines, phase_lines, due_phases, later_phases, item_lines, step_line, steps_lines, script_lines, has_joins, version_word, name_of_request}
 use Rattle.weave_script.specs.Scripts.{IsName, IsOperation, IsFilter, IsProgram, IsWork, IsRequest, IsStep, IsScript, steps_of}
 use Rattle.weave_script.proofs.Places.{request_is_named}
 
@@ -131,11 +131,15 @@ module _ (laws : CleanLaws) where
   steps_clean gates shards requests few few_shards all None h = tt
   steps_clean gates shards requests few few_shards all (Some steps) h = (refl, each_step_clean gates shards requests few few_shards all steps h)
 
+  version_clean : (joins : Bool) → IsClean (version_word joins)
+  version_clean true = refl
+  version_clean false = refl
+
   -- every line of a script is clean
   pub script_is_clean : (script : Script) → IsScript script → IsTrue (list_all is_clean_line (script_lines script))
   script_is_clean script h =
       list_all-from is_clean_line (script_lines script) (
-        words_clean (codes "1" ∷ decimal script.gates ∷ decimal script.shards ∷ []) (refl, (small script.gates 8 h.gates.1 (omega arith), (small script.shards 16 h.shards.1 (omega arith), tt))),
+        words_clean (version_word (has_joins script.requests) ∷ decimal script.gates ∷ decimal script.shards ∷ []) (version_clean (has_joins script.requests), (small script.gates 8 h.gates.1 (omega arith), (small script.shards 16 h.shards.1 (omega arith), tt))),
         all-append IsCleanLine (item_lines 0 script.requests script.phases) (steps_lines script.requests script.steps) (items_clean script.gates h.gates.1 0 script.requests script.phases h.requests)
             (steps_clean script.gates script.shards script.requests h.gates.1 h.shards.1 h.requests script.steps h.steps),
       )

@@ -1,16 +1,19 @@
 -- Worked texts: what the definition says of them.
 -- Used by nothing: worked examples.
 use Rattle.std.proofs.Common.{◌≡◌, refl, ℕ, [], ◌∷◌, Ok, Err, codes}
-use Rattle.std.specs.Prelude.{Result, Some}
+use Rattle.std.specs.Prelude.{Result, Some, None}
+use Rattle.std.specs.Fmt.{digits}
 use Rattle.weave_script.specs.declared.fault.Cause.{Cause}
 use Rattle.weave_script.specs.declared.fault.Cause.TheVariants as causes
-use Rattle.graph_ops.specs.declared.op.Op.TheVariants.{Link, Get}
+use Rattle.graph_ops.specs.declared.op.Op.TheVariants.{Link, Join, Get}
 use Rattle.program_defs.specs.declared.program.Program.TheVariants.{Path}
 use Rattle.program_defs.specs.declared.script.Script.{Script}
 use Rattle.program_defs.specs.declared.script.Step.TheVariants.{Begin, Deliver}
 use Rattle.program_defs.specs.declared.script.Work.TheVariants.{Change, Look}
 use Rattle.weave_text.specs.Numbers.{number_up_to}
+use Rattle.graph_ops.specs.declared.op.Op.{Op}
 use Rattle.weave_script.specs.ReadText.{Fault, read_text}
+use Rattle.weave_script.specs.ScriptLines.{script_text}
 
 refused : ℕ → Cause → Result Script Fault
 refused line cause = Err (record { line = line; cause = cause })
@@ -107,3 +110,41 @@ small = record {
 small_text : read_text (codes "\n# small\nweaver 1 1 2\nphase\ntx t 0 0\nlink v e w\n\nget v\nend\nphase\nprog p 63 0 path v w 1000 where k x\nsteps\nbegin p\ndeliver 0 1 12") ≡ Ok small
 unfolding small number_up_to
 small_text = refl
+
+-- there is no version 3
+third_version : read_text (codes "weaver 3 1 1\n") ≡ refused 1 causes.Header
+unfolding refused number_up_to
+third_version = refl
+
+-- a transaction with a link, as a value
+linking : Op → Script
+linking op = record {
+  gates = 1;
+  shards = 1;
+  requests = record { name = codes "t"; session = 0; gate = 0; work = Change (op ∷ []) } ∷ [];
+  phases = [];
+  steps = None;
+}
+
+-- in version 1 it is a link, in version 2 a join
+link_in_1 : read_text (codes "weaver 1 1 1\ntx t 0 0\nlink v e w\nend\n") ≡ Ok (linking (Link (codes "v") (codes "e") (codes "w")))
+unfolding linking number_up_to
+link_in_1 = refl
+
+link_in_2 : read_text (codes "weaver 2 1 1\ntx t 0 0\nlink v e w\nend\n") ≡ Ok (linking (Join (codes "v") (codes "e") (codes "w")))
+unfolding linking number_up_to
+link_in_2 = refl
+
+-- without it the two versions are one script
+one_script : read_text (codes "weaver 2 1 1\ntx t 0 0\nget v\nend\n") ≡ read_text (codes "weaver 1 1 1\ntx t 0 0\nget v\nend\n")
+unfolding number_up_to
+one_script = refl
+
+-- it is printed with the header of version 2 exactly if it has a join
+join_printed : script_text (linking (Join (codes "v") (codes "e") (codes "w"))) ≡ codes "weaver 2 1 1\ntx t 0 0\nlink v e w\nend\n"
+unfolding linking digits
+join_printed = refl
+
+link_printed : script_text (linking (Link (codes "v") (codes "e") (codes "w"))) ≡ codes "weaver 1 1 1\ntx t 0 0\nlink v e w\nend\n"
+unfolding linking digits
+link_printed = refl

@@ -29,3 +29,4 @@ pub mod CheckReading
 pub mod CheckLaws
 pub mod CheckFaults
 pub mod CheckTold
+pub mod Versions

@@ -1,5 +1,5 @@
 -- The script so far, and what the next line makes of it.
-use Rattle.std.specs.Prelude.{List, [], ◌∷◌, ◌++◌, length, Option, Some, None, is_some, Ok, Err, codes, if◌then◌else◌}
+use Rattle.std.specs.Prelude.{false, List, [], ◌∷◌, ◌++◌, length, Option, Some, None, is_some, Ok, Err, codes, if◌then◌else◌}
 use Rattle.std.specs.Str.{bytes_eq}
 use Rattle.graph_ops.specs.declared.op.Op.{Op}
 use Rattle.program_defs.specs.declared.script.Request.{Request}
@@ -18,13 +18,13 @@ use Rattle.weave_data.specs.Steps.{◌>>=◌}
 use Rattle.weave_script.specs.Fields.{ReadOrCause}
 use Rattle.weave_script.specs.Header.{header_of}
 use Rattle.weave_script.specs.Limits.{over_limit, counts_of_script}
-use Rattle.weave_script.specs.Ops.{is_end, op_of}
+use Rattle.weave_script.specs.Ops.{is_end, op_in_line}
 use Rattle.weave_script.specs.Requests.{request_of, tx_of, prog_of}
 use Rattle.weave_script.specs.Steps.{place_of, step_of}
 
 -- before the first line
 abbrev pub start : Reading
-start = record { gates = 0; shards = 0; requests = []; phases = []; place = Start }
+start = record { joins = false; gates = 0; shards = 0; requests = []; phases = []; place = Start }
 
 -- the requests so far, and the transaction that has no end yet
 abbrev pub requests_so_far : Place → List Request → List Request
@@ -93,7 +93,8 @@ after_item reading (word ∷ words) =
 -- after the first line
 abbrev pub after_header : Reading → Line → ReadOrCause Reading
 after_header reading line =
-    header_of line >>= λ counts. Ok (record reading { gates = counts.0; shards = counts.1; place = Between })
+    header_of line >>= λ header.
+    Ok (record reading { joins = header.joins; gates = header.gates; shards = header.shards; place = Between })
 
 -- after a line inside a transaction: its end, or an operation
 abbrev pub after_line_inside : Reading → Opening → List Op → Line → ReadOrCause Reading
@@ -103,7 +104,7 @@ after_line_inside reading opening ops line =
       requests = reading.requests ++ request_of opening (Change ops) ∷ [];
       place = Between;
     })
-    else (op_of line >>= λ op. Ok (record reading { place = Inside opening (ops ++ op ∷ []) }))
+    else (op_in_line reading.joins line >>= λ op. Ok (record reading { place = Inside opening (ops ++ op ∷ []) }))
 
 -- after a line that follows `steps`
 abbrev pub after_step : Reading → List Step → Line → ReadOrCause Reading

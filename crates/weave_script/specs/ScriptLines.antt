@@ -1,12 +1,12 @@
 -- The lines of a script.
-use Rattle.std.specs.Prelude.{ℕ, ◌≡◌, ◌+◌, nat_le, List, [], ◌∷◌, ◌++◌, map, Option, Some, None, codes, if◌then◌else◌}
+use Rattle.std.specs.Prelude.{ℕ, ◌≡◌, ◌+◌, nat_le, Bool, true, false, is_some, List, [], ◌∷◌, ◌++◌, map, Option, Some, None, codes, if◌then◌else◌}
 use Rattle.std.specs.Fmt.{decimal}
-use Rattle.std.specs.List.{slice_get}
+use Rattle.std.specs.List.{list_any, slice_get}
 use Rattle.std.specs.Option.{option_map_or}
 use Rattle.weave_text.specs.Cutting.{lines_of, kept_lines}
 use Rattle.weave_text.specs.Lines.{Bytes, Word, Line, lines_text}
 use Rattle.weave_data.specs.declared.name.Name.{Name}
-use Rattle.graph_ops.specs.Operations.{op_fields, op_word}
+use Rattle.graph_ops.specs.Operations.{needed_by, op_fields, op_word}
 use Rattle.graph_ops.specs.declared.op.Op.{Op}
 use Rattle.program_defs.specs.declared.program.Filter.{Filter}
 use Rattle.program_defs.specs.declared.program.Program.{Program}
@@ -17,11 +17,17 @@ use Rattle.program_defs.specs.declared.script.Step.{Step}
 use Rattle.program_defs.specs.declared.script.Step.TheVariants.{Begin, Judge, Send, Say, Hear, Nop, Deliver, Apply, Visit, Reply, Collect, Epoch}
 use Rattle.program_defs.specs.declared.script.Work.{Work}
 use Rattle.program_defs.specs.declared.script.Work.TheVariants.{Change, Look}
+use Rattle.program_defs.specs.Works.{ops_of}
 use Rattle.weave_script.specs.Scripts.{IsScript}
 
--- the first line, with the numbers of gatekeepers and shards
-abbrev pub header_line : ℕ → ℕ → Line
-header_line gates shards = codes "weaver" ∷ codes "1" ∷ decimal gates ∷ decimal shards ∷ []
+-- the word of a version: of 2 if links are joins
+abbrev pub version_word : Bool → Word
+version_word true = codes "2"
+version_word false = codes "1"
+
+-- the first line, with the version and the numbers of gatekeepers and shards
+abbrev pub header_line : Bool → ℕ → ℕ → Line
+header_line joins gates shards = codes "weaver" ∷ version_word joins ∷ decimal gates ∷ decimal shards ∷ []
 
 -- an operation's line: its word, and its fields in their order
 abbrev pub op_line : Op → Line
@@ -112,16 +118,29 @@ abbrev pub steps_lines : List Request → Option (List Step) → List Line
 steps_lines requests None = []
 steps_lines requests (Some steps) = steps_line ∷ map (step_line requests) steps
 
--- a script's lines
-abbrev pub script_lines : Script → List Line
-script_lines script =
-    header_line script.gates script.shards ∷ item_lines 0 script.requests script.phases
+-- the operation is a join
+abbrev pub is_join : Op → Bool
+is_join op = is_some (needed_by op)
+
+-- a transaction has a join
+abbrev pub has_joins : List Request → Bool
+has_joins requests = list_any (λ (request : Request). list_any is_join (ops_of request.work)) requests
+
+-- a script's lines in a version
+abbrev pub script_lines_in : Bool → Script → List Line
+script_lines_in joins script =
+    header_line joins script.gates script.shards ∷ item_lines 0 script.requests script.phases
     ++ steps_lines script.requests script.steps
+
+-- its lines as they are printed: in version 2 exactly if it has a join
+abbrev pub script_lines : Script → List Line
+script_lines script = script_lines_in (has_joins script.requests) script
 
 -- a script's one printed text
 abbrev pub script_text : Script → Bytes
 script_text script = lines_text (script_lines script)
 
--- the bytes are a text of the script: its lines, between which others may be skipped
+-- the bytes are a text of the script: its lines in a version that has its operations, between which others may be
+-- skipped. A script without links and joins has texts of both versions.
 unfoldable pub IsTextOf : Bytes → Script → Type 0
-IsTextOf bytes script = IsScript script × (kept_lines (lines_of bytes) ≡ script_lines script)
+IsTextOf bytes script = (is : IsScript script) × (kept_lines (lines_of bytes) ≡ script_lines_in is.joins script)

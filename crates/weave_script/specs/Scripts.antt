@@ -1,9 +1,9 @@
 -- Scripts that have a text.
-use Rattle.std.specs.Prelude.{◌≡◌, ◌≤◌, ◌<◌, ℕ, List, [], ◌∷◌, length, Option, Some, None}
+use Rattle.std.specs.Prelude.{◌≡◌, ◌≤◌, ◌<◌, ℕ, Bool, List, [], ◌∷◌, length, Option, Some, None}
 use Rattle.std.specs.List.{AllByRecursion, IsDistinct}
 use Rattle.weave_data.specs.Names.{same_name}
 use Rattle.weave_data.specs.Limits.{last_session, most_bound, most_epoch, most_gates, most_notice, most_ops, most_shards}
-use Rattle.graph_ops.specs.Operations.{op_fields}
+use Rattle.graph_ops.specs.Operations.{op_fields, version_1_op}
 use Rattle.graph_ops.specs.declared.op.Op.{Op}
 use Rattle.program_defs.specs.declared.program.Filter.{Filter}
 use Rattle.program_defs.specs.declared.program.Program.{Program}
@@ -14,12 +14,22 @@ use Rattle.program_defs.specs.declared.script.Step.{Step}
 use Rattle.program_defs.specs.declared.script.Step.TheVariants.{Begin, Judge, Send, Say, Hear, Nop, Deliver, Apply, Visit, Reply, Collect, Epoch}
 use Rattle.program_defs.specs.declared.script.Work.{Work}
 use Rattle.program_defs.specs.declared.script.Work.TheVariants.{Change, Look}
+use Rattle.program_defs.specs.Works.{ops_of}
 pub use Rattle.weave_report.specs.TextOf.{IsName, request_names}
 use Rattle.weave_script.specs.Limits.{over_limit, counts_of_script}
+use Rattle.weave_script.specs.Ops.{op_in}
 
 -- every field is a name
 abbrev pub IsOperation : Op → Type 0
 IsOperation op = AllByRecursion IsName (op_fields op)
+
+-- the version (2 if `joins`) has the operation
+abbrev pub IsOfVersion : Bool → Op → Type 0
+IsOfVersion joins op = op_in (version_1_op op) joins ≡ op
+
+-- and each operation of a request
+abbrev pub IsRequestOf : Bool → Request → Type 0
+IsRequestOf joins request = AllByRecursion (IsOfVersion joins) (ops_of request.work)
 
 -- names, if there is a filter
 abbrev pub IsFilter : Option Filter → Type 0
@@ -75,7 +85,7 @@ steps_of None = []
 steps_of (Some steps) = steps
 
 -- Everything is in its range, no two requests have the same name, phases are before, between and after requests in
--- their order, and no limit is met.
+-- their order, no limit is met, and one version has all operations: in version 2 (if `joins`) links are joins.
 pub record IsScript (script : Script) : Type 0 where
   pub gates : (1 ≤ script.gates) × (script.gates ≤ most_gates)
   pub shards : (1 ≤ script.shards) × (script.shards ≤ most_shards)
@@ -84,3 +94,5 @@ pub record IsScript (script : Script) : Type 0 where
   pub phases : RiseTo 0 (length script.requests) script.phases
   pub steps : AllByRecursion (IsStep script.gates script.shards (length script.requests)) (steps_of script.steps)
   pub within : over_limit (counts_of_script 0 script.requests (length (steps_of script.steps))) ≡ None
+  pub joins : Bool
+  pub version : AllByRecursion (IsRequestOf joins) script.requests

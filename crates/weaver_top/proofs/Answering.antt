@@ -1,5 +1,5 @@
 -- An answer to each text of a script is one to a text of it that was read.
--- Used by `trace_on`, `report_on` and `report_on_threads`.
+-- Used by `report_on`, `report_on_threads` and `trace_on`.
 use Rattle.std.proofs.Common.{ℕ, List, Result, Ok, Err, IfOk}
 use Rattle.program_defs.specs.declared.script.Script.{Script}
 use Rattle.weave_script.specs.Limits.{IsShort}

@@ -1,5 +1,5 @@
 -- The phases of a run end one after another, and with the last requests it is a run by phases.
--- Used by `end_next`, `end_phases`, `answer_of`, `run`, Headline and OnThreads.
+-- Used by `answer_of`, `end_next`, `end_phases`, `run`, Headline and OnThreads.
 use Rattle.std.proofs.Common.{◌≡◌, ℕ, zero, suc, ◌+◌, ◌<◌, ◌≤◌, ◌⊎◌, Bool, true, false, cond, nat_le, nat_lt, List, [], ◌∷◌, length, replicate, get_or, Contains, IsTrue, Some, inl, inr, refl, sym, ap, subst, ◌∙◌, arith}
 use Rattle.std.specs.Prelude.{count_by, slice_get}
 use Rattle.std.specs.List.{list_any}

@@ -1,5 +1,5 @@
 -- The steps of a valid script, and what holds of their report.
--- Used by `load`, `answer_of_steps` and `report_of_steps`.
+-- Used by `answer_of_steps`, `load` and `report_of_steps`.
 use Rattle.std.proofs.Common.{◌≡◌, ℕ, ◌≤◌, List, [], ◌∷◌, length, refl, subst}
 use Rattle.std.specs.List.{AllByRecursion}
 use Rattle.program_defs.specs.declared.script.Script.{Script}

@@ -64,8 +64,8 @@ fn vertices_of(alloc: Global, script: &Script) -> Result<NameMap<bool>, AllocErr
 fn put_ops(vertices: &mut NameMap<bool>, ops: &[Op]) -> Result<(), AllocError> {
     for op in ops {
         vertices.put(op.vertex(), true)?;
-        if let Op::Link { target, .. } = op {
-            vertices.put(*target, true)?;
+        if let Some(target) = op.target() {
+            vertices.put(target, true)?;
         }
     }
     Ok(())

@@ -78,6 +78,8 @@ pub(crate) fn reason_in(word: &[u8]) -> Result<Reason, LineFault>
         Ok(Reason::NoEdge)
     } else if is(word, b"full") {
         Ok(Reason::Full)
+    } else if is(word, b"no_target") {
+        Ok(Reason::NoTarget)
     } else {
         Err(LineFault::Refused(ReportCause::Line))
     }

@@ -10,7 +10,7 @@ use crate::fault::{Cause, LineFault};
 use crate::limits::over_limit;
 use crate::read::header::header_of;
 use crate::read::index::Index;
-use crate::read::ops::{is_end, op_of};
+use crate::read::ops::{is_end, op_in_line};
 use crate::read::partial_script::{Counts, Opening, Place, Reading};
 use crate::read::requests::{prog_of, tx_of};
 use crate::read::steps::{Sizes, step_of};
@@ -36,6 +36,7 @@ pub(crate) fn start(alloc: Global) -> Reader
 {
     Reader {
         reading: Reading {
+            joins: false,
             gates: 0,
             shards: 0,
             requests: Items::new(alloc),
@@ -116,9 +117,10 @@ fn after_header(reader: &mut Reader, words: &[&[u8]]) -> Result<(), LineFault>
         (after_header reader.old.reading (map (λ word. word.now) words.now)) }
 {
     match header_of(words) {
-        Ok((gates, shards)) => {
-            reader.reading.gates = gates;
-            reader.reading.shards = shards;
+        Ok(header) => {
+            reader.reading.joins = header.joins;
+            reader.reading.gates = header.gates;
+            reader.reading.shards = header.shards;
             reader.reading.place = Place::Between;
             Ok(())
         }
@@ -245,7 +247,7 @@ fn after_line_inside(
         reader.reading.place = Place::Between;
         return Ok(());
     }
-    let op = match op_of(words) {
+    let op = match op_in_line(reader.reading.joins, words) {
         Ok(op) => op,
         Err(cause) => return Err(LineFault::Refused(cause)),
     };

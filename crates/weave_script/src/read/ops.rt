@@ -1,6 +1,6 @@
 //! The lines of a transaction.
 ghost use Rattle.std.specs.Prelude.{◌≡◌, ◌∷◌, [], map};
-ghost use Rattle.weave_script.specs.Ops.{is_end, op_of};
+ghost use Rattle.weave_script.specs.Ops.{is_end, op_in, op_in_line, op_of};
 
 use crate::fault::Cause;
 use crate::read::fields::name_of;
@@ -17,8 +17,34 @@ pub(crate) fn is_end(words: &[&[u8]]) -> bool
     }
 }
 
-/// The operation of these words.
-pub(crate) fn op_of(words: &[&[u8]]) -> Result<Op, Cause>
+/// The operation of these words. In version 2 `link` is a join.
+pub(crate) fn op_in_line(joins: bool, words: &[&[u8]]) -> Result<Op, Cause>
+    ensures { result ≡ op_in_line joins (map (λ word. word.now) words.now) }
+{
+    match op_of(words) {
+        Ok(op) => Ok(op_in(&op, joins)),
+        Err(cause) => Err(cause),
+    }
+}
+
+// The operation of version 1 as this version means it.
+fn op_in(op: &Op, joins: bool) -> Op
+    ensures { result ≡ op_in op.now joins }
+{
+    match *op {
+        Op::Link { v, edge, target } => {
+            if joins {
+                Op::Join { v, edge, target }
+            } else {
+                Op::Link { v, edge, target }
+            }
+        }
+        _ => *op,
+    }
+}
+
+// The operation of these words in version 1.
+fn op_of(words: &[&[u8]]) -> Result<Op, Cause>
     ensures { result ≡ op_of (map (λ word. word.now) words.now) }
 {
     match words {

@@ -7,6 +7,8 @@ use weave_data::{Items, Name};
 /// The script so far, and the place of the next line. A transaction that has no end yet is not counted as a request.
 #[derive(Drop)]
 pub(crate) struct Reading {
+    /// In its version `link` is a join.
+    pub(crate) joins: bool,
     pub(crate) gates: u32,
     pub(crate) shards: u32,
     pub(crate) requests: Items<Request>,

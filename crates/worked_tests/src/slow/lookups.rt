@@ -68,7 +68,15 @@ pub fn commits_at(script: &Script, report: &Report, r: u32, v: Name) -> bool {
 
 pub fn names(script: &Script, r: u32, v: Name) -> bool {
     match ops_of(script, r) {
-        Some(ops) => ops.iter().any(|op| op.vertex() == v),
+        Some(ops) => ops.iter().any(|op| is_named(op, v)),
         None => false,
+    }
+}
+
+// Whether the operation is on the vertex, or makes an edge that needs it.
+fn is_named(op: &Op, vertex: Name) -> bool {
+    match *op {
+        Op::Join { v, target, .. } => v == vertex || target == vertex,
+        _ => op.vertex() == vertex,
     }
 }

@@ -1,5 +1,4 @@
-use Rattle.std.proofs.Common.{◌<◌, Some, None, sym, ap, subst, ◌∙◌, arith}
-use Rattle.version_parts.specs.Splits.{IsSplit}
+use Rattle.std.proofs.Common.{◌<◌, Some, sym, ap, ◌∙◌, arith}
 use Rattle.version_parts.proofs.Splitting.{last_passed, none_passed}
 use Rattle.version_parts.proofs.track.last_at.Goals as goal
 

@@ -1,4 +1,4 @@
-use Rattle.std.proofs.Common.{◌<◌, ◌≡◌, true, false, is_some, sym, ap, subst, ◌∙◌, arith}
+use Rattle.std.proofs.Common.{◌<◌, is_some, sym, ap, subst, ◌∙◌, arith}
 use Rattle.version_parts.specs.Splits.{IsSplit}
 use Rattle.version_parts.specs.Tracks.{shown_value}
 use Rattle.version_parts.proofs.Splitting.{nothing_old, shown_left, hidden_left}
