@@ -133,6 +133,7 @@ module _ (laws : StartLaws) (phase : ℕ) (split : Split) (parts : AreReadyParts
     script = script_is;
     goes_on = ends.goes_on;
     begins = ends.begins;
+    workers = ends.workers;
     pairs = ends.pairs;
     sessions = ran;
   }

@@ -32,6 +32,9 @@ use weaver_workers::{Pace, end_of_phase, start_of_phase};
 /// after what it read there, the shard of the vertex that it visits next was not ready for it. That the client tried
 /// meanwhile, no log shows. What is left is for whoever drives the core afterwards.
 ///
+/// Two requests that were begun in the phase have the same author exactly if they are of the same session. All that a
+/// drive begins has one author.
+///
 /// The one error is out of memory, and then the core is gone.
 pub fn run_phase<R: Threads + Wait + Sync, P: Pace>(
     rt: &R,

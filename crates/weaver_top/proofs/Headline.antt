@@ -17,6 +17,7 @@ use Rattle.weave_script.specs.CheckText.{IsCheckTextOf}
 use Rattle.weaver_top.specs.Acceptance.{IsAcceptedByCheck}
 use Rattle.weaver_top.specs.Answers.{TellsRun}
 use Rattle.weaver_top.specs.PhaseByPhase.{IsWholeRun}
+use Rattle.weaver_top.specs.RunLogs.{TellsByLogs}
 use Rattle.weaver_top.proofs.PhaseEnds.{all-replied}
 
 -- what the laws say of the report of a run
@@ -47,24 +48,37 @@ accepted follow input text script report is_text is_report right front ends shor
       line = refl;
     }
 
+-- what `run` writes is the report of the logs that it left
+pub told_by_logs : (input : List ℕ) (script : Script) (report : Report) (text : List ℕ) → IsTextOf input script → text ≡ report_text script report → report.answers ≡ []
+    → (logs : Account) → IsWholeRun script logs → IsReportOfAccount script logs report → TellsByLogs input text
+told_by_logs input script report text is_text printed no_steps logs whole by = record {
+  script = script;
+  input_is_its_text = is_text;
+  report = report;
+  no_steps = no_steps;
+  text_is_printed = printed;
+  logs = logs;
+  is_account = whole.is_account;
+  by_logs = by;
+  by_phases = whole.by_phases;
+  replied = all-replied script logs whole;
+  no_epoch = whole.epochs;
+}
+
+-- and so it is for these logs and this script
+pub told_of_logs : (input : List ℕ) (script : Script) (report : Report) (text : List ℕ) → IsTextOf input script → text ≡ report_text script report → report.answers ≡ []
+    → (logs : Account) → IsWholeRun script logs → IsReportOfAccount script logs report
+    → (told : TellsByLogs input text) × (told.script ≡ script) × (told.logs ≡ logs)
+unfolding told_by_logs
+told_of_logs input script report text is_text printed no_steps logs whole by =
+    (told_by_logs input script report text is_text printed no_steps logs whole by, refl, refl)
+
 -- all that is promised of what `run` writes
 pub run_told : (input : List ℕ) (script : Script) (report : Report) (text : List ℕ) → length input ≤ 4194304 → IsTextOf input script → text ≡ report_text script report → IsWellRun script report
     → (logs : Account) → IsWholeRun script logs → IsReportOfAccount script logs report → IsAcceptedByCheck input text → TellsRun input text
 run_told input script report text is_short is_text printed run logs whole by accept =
     record {
-      by_logs = record {
-        script = script;
-        input_is_its_text = is_text;
-        report = report;
-        no_steps = run.no_steps;
-        text_is_printed = printed;
-        logs = logs;
-        is_account = whole.is_account;
-        by_logs = by;
-        by_phases = whole.by_phases;
-        replied = all-replied script logs whole;
-        no_epoch = whole.epochs;
-      };
+      by_logs = told_by_logs input script report text is_text printed run.no_steps logs whole by;
       right_report = record {
         input_is_short = is_short;
         script = script;

@@ -6,6 +6,7 @@ pub mod Unanswered
 pub mod Onward
 pub mod PhaseEnds
 pub mod OnThreads
+pub mod ByWorkers
 pub mod Answering
 pub mod Headline
 pub mod Tracing

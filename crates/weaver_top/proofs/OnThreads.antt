@@ -18,10 +18,13 @@ use Rattle.weave_account.specs.IsAccount.{IsAccount}
 use Rattle.weaver_core.specs.Cores.{CoreView}
 use Rattle.weaver_workers.specs.Phases.{phase_end, phase_start}
 use Rattle.weaver_workers.specs.Workers.{HasPhase}
-use Rattle.weave_phase.specs.Pairs.{AddsOpenPairs, GainBelow}
+use Rattle.weave_phase.specs.Pairs.{AddsOpenPairs, AreBegunByOwnWorkers, GainBelow}
 use Rattle.weave_phase.specs.Ready.{IsAnsweredUpTo}
 use Rattle.weave_phase.specs.RunsPhase.{RunsPhase}
+use Rattle.weave_phase.specs.SessionRuns.{WasRunForSession}
+use Rattle.weave_phase.proofs.PhaseRuns.{runs-none}
 use Rattle.weave_drive.specs.Driving.{DrivesGates, is_driving_deed}
+use Rattle.weaver_top.specs.ByWorkers.{AreRunByWorkers, IsPhaseOfWorkers}
 use Rattle.weaver_top.specs.LowerLaws.{LawsForCommands}
 use Rattle.weaver_top.specs.PhaseByPhase.{EndsAt, IsRunUpTo, IsWholeRun, RunsBelow}
 use Rattle.weaver_top.proofs.Begun.{flight-begun, flight-unanswered}
@@ -125,6 +128,13 @@ module _ (laws : LawsForCommands) (script : Script) (limits : IsWithinLimits scr
     replied = λ r request less there. run.replied r request (omega (arith, less, no-later)) there;
   }
 
+  -- nothing runs a phase without requests
+  pub runs-no-request : (phase : ℕ) (core : CoreView) → core.script ≡ script → phase_end script phase ≤ phase_start script phase → IsRunUpTo script phase (phase_start script phase) core.state.account
+      → RunsPhase (phase_end script phase) core core
+  runs-no-request phase core is no-later run =
+      runs-none (phase_start script phase) (phase_end script phase) core no-later (none-flies phase (phase_start script phase) core.state.account run)
+      (subst (λ (s : Script). IsAnsweredUpTo s (phase_start script phase) core.state.account) (sym is) (answered phase (phase_start script phase) core.state.account run))
+
   -- What a phase leaves
 
   -- what a phase on threads leaves of a core is a part of a run below the bound
@@ -164,6 +174,34 @@ module _ (laws : LawsForCommands) (script : Script) (limits : IsWithinLimits scr
       (subst (λ (s : Script). EndsAt script (phase_end s phase) new.state.account last) is
       (subst (λ (s : Script). EndsAt s (phase_end old.script phase) new.state.account last) (runs.script ∙ is)
       (subst (λ n. EndsAt new.script n new.state.account last) end-is ends)))
+
+  -- Workers
+
+  -- what workers leave of a phase and what ends it are a phase of workers
+  pub of-workers : (phase end : ℕ) (old new : CoreView) (last : Account) → old.script ≡ script → IsAccount new.script new.state.account → IsRunUpTo script phase (phase_start script phase) old.state.account
+      → RunsPhase (phase_end old.script phase) old new → EndsAt new.script end new.state.account last → IsPhaseOfWorkers script phase old.state.account last
+  of-workers phase end old new last is account run runs ends = record {
+    opens = answered phase (phase_start script phase) old.state.account run;
+    left = new.state.account;
+    is_account = subst (λ (s : Script). IsAccount s new.state.account) (runs.script ∙ is) account;
+    begins_with = runs.goes_on;
+    own_workers = subst (λ (s : Script). AreBegunByOwnWorkers s old.state.account new.state.account) is runs.workers;
+    sessions = λ session. subst (λ (s : Script). WasRunForSession s (phase_end s phase) session old.state.account new.state.account) is (runs.sessions session);
+    goes_on = ends.runs.goes_on;
+  }
+
+-- one phase more was run by workers
+pub one-more : (script : Script) (phase : ℕ) (opening logs : Account) → AreRunByWorkers script phase opening → IsPhaseOfWorkers script phase opening logs → AreRunByWorkers script (phase + 1) logs
+one-more script phase opening logs before this =
+    subst (λ n. AreRunByWorkers script n logs) (let same : suc phase ≡ phase + 1 = omega arith in same) (opening, before, this)
+
+-- with the phase after the last `phase` line all were, also by the script of a core, if that is the script
+pub all-by-workers : (script first second : Script) → first ≡ script → second ≡ first → (phases : ℕ) → phases ≡ length first.phases → (account last : Account)
+    → AreRunByWorkers first phases account → IsPhaseOfWorkers second phases account last → AreRunByWorkers script (length script.phases + 1) last
+all-by-workers script first second same still phases count account last run this =
+    subst (λ (s : Script). AreRunByWorkers s (length s.phases + 1) last) same
+    (subst (λ n. AreRunByWorkers first (n + 1) last) count
+    (one-more first phases account last run (subst (λ (s : Script). IsPhaseOfWorkers s phases account last) still this)))
 
 -- with the phase after the last `phase` line it is a whole run
 pub whole-on-threads : (laws : LawsForCommands) (script first second : Script) → IsWithinLimits script → first ≡ script → second ≡ first → (phases : ℕ) → phases ≡ length first.phases → (account last : Account)

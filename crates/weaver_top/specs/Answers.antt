@@ -1,6 +1,7 @@
 -- What a command answers to an input, before it is written.
 use Rattle.std.specs.Prelude.{◌≡◌, ◌⊎◌, ℕ, Bool, true, false, IsTrue, List, [], Some, if◌then◌else◌}
 use Rattle.program_defs.specs.declared.script.Script.{Script}
+use Rattle.weave_account.specs.declared.account.Account.{Account}
 use Rattle.weave_io.specs.Told.{ToldBytes, Appends, AppendsPrefix}
 use Rattle.weave_script.specs.Limits.{IsShort}
 use Rattle.weave_script.specs.ScriptLines.{IsTextOf}
@@ -80,6 +81,11 @@ pub record IsAnswerTo (command : Command) (input : List ℕ) (answer : Answer) :
 -- the answer is right for each text of the script. No public contract cites this.
 pub record AnswersScript (command : Command) (script : Script) (answer : Answer) : Type 0 where
   pub to_each_text : (input : List ℕ) → IsShort input → IsTextOf input script → IsAnswerTo command input answer
+
+-- The answer's text is the report of these logs for each text of the script. No public contract cites this.
+abbrev pub TellsOfLogs : Script → Account → Answer → Type 0
+TellsOfLogs script logs answer = (input : List ℕ) → IsTextOf input script
+    → (told : TellsByLogs input answer.text.items) × (told.script ≡ script) × (told.logs ≡ logs)
 
 -- the answer's text was written, or the writing failed and some of it was written, from its start.
 -- No public contract cites this.

@@ -9,6 +9,7 @@ pub mod Loads
 pub mod LoadProgress
 pub mod LoadLaws
 pub mod RunLogs
+pub mod ByWorkers
 pub mod StepReports
 pub mod Answers
 pub mod CallEnds

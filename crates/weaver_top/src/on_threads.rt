@@ -3,6 +3,7 @@ ghost use Rattle.std.specs.Prelude.{◌≡◌, ◌≤◌, ◌<◌, ◌+◌, ◌^
 ghost use Rattle.step_rules.specs.CoreState.{start_state};
 ghost use Rattle.weave_script.specs.Scripts.{IsScript, RiseTo};
 ghost use Rattle.weaver_workers.specs.Phases.{phase_end, phase_start};
+ghost use Rattle.weaver_top.specs.ByWorkers.{AreRunByWorkers, IsPhaseOfWorkers};
 ghost use Rattle.weaver_top.specs.PhaseByPhase.{EndsAt, IsRunUpTo, IsWholeRun};
 
 use crate::lower_laws::the_crates_below_keep_their_laws;
@@ -28,6 +29,7 @@ pub(crate) fn run_on_threads<R: Threads + Wait + Sync, P: Pace>(
     requires { IsScript script }
     ensures script { IfOk result (λ core. core.script ≡ script) }
     ensures whole { IfOk result (λ core. IsWholeRun script core.state.account) }
+    ensures workers { IfOk result (λ core. AreRunByWorkers script (length script.phases + 1) core.state.account) }
 {
     the_crates_below_keep_their_laws();
     scripts_are_small();
@@ -64,6 +66,7 @@ fn end_phases<R: Threads + Wait + Sync, P: Pace>(
     ensures script { IfOk result (λ next. next.script ≡ core.script) }
     ensures run { IfOk result (λ next. IsRunUpTo core.script phases (phase_start core.script phases)
         next.state.account) }
+    ensures workers { IfOk result (λ next. AreRunByWorkers core.script phases next.state.account) }
 {
     the_crates_below_keep_their_laws();
     let mut core = core;
@@ -84,9 +87,11 @@ fn end_next<R: Threads + Wait + Sync, P: Pace>(
     requires there { phase < length core.script.phases }
     requires rise { RiseTo 0 (length core.script.requests) core.script.phases }
     requires run { IsRunUpTo core.script phase (phase_start core.script phase) core.state.account }
+    requires workers { AreRunByWorkers core.script phase core.state.account }
     ensures script { IfOk result (λ next. next.script ≡ core.script) }
     ensures run { IfOk result (λ next. IsRunUpTo core.script (phase + 1) (phase_start core.script (phase + 1))
         next.state.account) }
+    ensures workers { IfOk result (λ next. AreRunByWorkers core.script (phase + 1) next.state.account) }
 {
     the_crates_below_keep_their_laws();
     core.script();
@@ -108,6 +113,7 @@ fn run_and_end<R: Threads + Wait + Sync, P: Pace>(
     ensures script { IfOk result (λ next. next.script ≡ core.script) }
     ensures ends { IfOk result (λ next. EndsAt core.script (phase_end core.script phase) core.state.account
         next.state.account) }
+    ensures workers { IfOk result (λ next. IsPhaseOfWorkers core.script phase core.state.account next.state.account) }
 {
     the_crates_below_keep_their_laws();
     let from = start_of_phase(core.script(), phase);

@@ -3,7 +3,8 @@ ghost use Rattle.std.specs.Prelude.{◌≡◌, ◌≤◌, ℕ, List, length, IfO
 ghost use Rattle.step_rules.specs.CoreState.{start_state};
 ghost use Rattle.weave_script.specs.Scripts.{IsScript};
 ghost use Rattle.weave_script.specs.ScriptLines.{IsTextOf};
-ghost use Rattle.weaver_top.specs.Answers.{AnswersScript, IsAnswerTo};
+ghost use Rattle.weaver_top.specs.Answers.{AnswersScript, IsAnswerTo, TellsOfLogs};
+ghost use Rattle.weaver_top.specs.ByWorkers.{TellsByWorkers};
 ghost use Rattle.weaver_top.specs.PhaseByPhase.{IsWholeRun};
 ghost use Rattle.weave_script.specs.Limits.{IsShort};
 
@@ -69,7 +70,9 @@ pub(crate) fn report_on_threads<R: Threads + Wait + Sync, P: Pace>(
     pace: &P,
 ) -> Result<Answer, AllocError>
     requires { IsShort input.now }
-    ensures { IfOk result (IsAnswerTo Command.Run input.now) }
+    ensures right { IfOk result (IsAnswerTo Command.Run input.now) }
+    ensures workers { IfOk result (λ answer. answer.status ≡ Status.Done
+        → TellsByWorkers input.now answer.text.items) }
 {
     texts_are_read();
     texts_are_of_one_script();
@@ -88,7 +91,9 @@ fn answer_on_threads<R: Threads + Wait + Sync, P: Pace>(
     pace: &P,
 ) -> Result<Answer, AllocError>
     requires { IsScript script }
-    ensures { IfOk result (AnswersScript Command.Run script) }
+    ensures right { IfOk result (AnswersScript Command.Run script) }
+    ensures workers { IfOk result (λ answer. (input : List ℕ) → IsTextOf input script
+        → TellsByWorkers input answer.text.items) }
 {
     let core = run_on_threads(rt, alloc, script, pace)?;
     answer_of(alloc, &core)
@@ -98,7 +103,8 @@ fn answer_on_threads<R: Threads + Wait + Sync, P: Pace>(
 fn answer_of(alloc: Global, core: &Core) -> Result<Answer, AllocError>
     requires valid { IsScript core.now.script }
     requires whole { IsWholeRun core.now.script core.now.state.account }
-    ensures { IfOk result (AnswersScript Command.Run core.now.script) }
+    ensures right { IfOk result (AnswersScript Command.Run core.now.script) }
+    ensures of_logs { IfOk result (TellsOfLogs core.now.script core.now.state.account) }
 {
     account_is_right();
     phases_are_kept();

@@ -1,9 +1,10 @@
 //! The top call.
-ghost use Rattle.std.specs.Prelude.{◌≡◌, ◌⊎◌, ◌↔◌, ◌+◌, ℕ, [], map, string_bytes, IsTrue, None, IfSome};
+ghost use Rattle.std.specs.Prelude.{◌≡◌, ◌⊎◌, ◌↔◌, ◌+◌, ℕ, [], map, string_bytes, IsTrue, None, IfOk, IfSome};
 ghost use Rattle.weave_io.specs.Counts.{HasRisen};
 ghost use Rattle.weave_io.specs.Told.{IsReadWhole, KeepsWritten, Tells, TakesAtMost, Writes, WritesPrefix};
 ghost use Rattle.weaver_top.specs.Acceptance.{IsAcceptedByCheck};
 ghost use Rattle.weaver_top.specs.Answers.{TellsAnswer};
+ghost use Rattle.weaver_top.specs.ByWorkers.{TellsByWorkers};
 ghost use Rattle.weaver_top.specs.CallEnds.{IsCallEnd, IsPrepared};
 ghost use Rattle.weaver_top.specs.Commands.{AreWordsOf, command_of, reads_input};
 ghost use Rattle.weaver_top.specs.Headlines.{TellsRightReport, TellsTrace, TellsYes};
@@ -54,9 +55,12 @@ pub fn weave<R: Threads + Wait + Sync, S: Source, K: Sink, P: Pace>(
         → IsTrue (reads_input command) → (result ≡ Status.Done) ⊎ (result ≡ Status.NotRight)
         → Tells (S.left source.new) [] }
 
-    // What `run` does besides: its report is that of logs which are an account of the script, and `check` accepts it.
+    // What `run` does besides: its report is that of logs which are an account of the script, workers ran each phase by
+    // these logs, and `check` accepts it.
     ensures by_logs { AreWordsOf (map string_bytes words.now) Command.Run → result ≡ Status.Done
         → Writes TellsByLogs (S.left source.old) (K.written sink.old) (K.written sink.new) }
+    ensures by_workers { AreWordsOf (map string_bytes words.now) Command.Run → result ≡ Status.Done
+        → Writes TellsByWorkers (S.left source.old) (K.written sink.old) (K.written sink.new) }
     ensures accepted_by_check { AreWordsOf (map string_bytes words.now) Command.Run → result ≡ Status.Done
         → Writes IsAcceptedByCheck (S.left source.old) (K.written sink.old) (K.written sink.new) }
 
@@ -124,7 +128,7 @@ pub fn weave<R: Threads + Wait + Sync, S: Source, K: Sink, P: Pace>(
     weave_words(rt, alloc, words, source, sink, pace)
 }
 
-// What `weave` does. All that it promises follows from one fact on how the call ends.
+// What `weave` does. All that it promises follows from how the call ends, and from what workers did if it is `run`.
 fn weave_words<R: Threads + Wait + Sync, S: Source, K: Sink, P: Pace>(
     rt: &R,
     alloc: Global,
@@ -133,10 +137,12 @@ fn weave_words<R: Threads + Wait + Sync, S: Source, K: Sink, P: Pace>(
     sink: &mut K,
     pace: &P,
 ) -> Status
-    ensures { IsCallEnd (command_of (map string_bytes words.now)) result (S.left source.old) (S.left source.new)
+    ensures ends { IsCallEnd (command_of (map string_bytes words.now)) result (S.left source.old) (S.left source.new)
         (K.written sink.old) (K.written sink.new) (HasRisen (S.faults source.old) (S.faults source.new))
         (source.new ≡ source.old) (HasRisen (K.faults sink.old) (K.faults sink.new))
         (HasRisen (K.stalls sink.old) (K.stalls sink.new)) (K.stalls sink.new ≡ K.stalls sink.old) }
+    ensures workers { AreWordsOf (map string_bytes words.now) Command.Run → result ≡ Status.Done
+        → Writes TellsByWorkers (S.left source.old) (K.written sink.old) (K.written sink.new) }
 {
     let Some(Command::Run) = command_of(words) else {
         return execute_words(alloc, words, source, sink);
@@ -152,8 +158,10 @@ fn prepare_run<R: Threads + Wait + Sync, S: Source, P: Pace>(
     source: &mut S,
     pace: &P,
 ) -> Result<Answer, PrepareError>
-    ensures { IsPrepared Command.Run result (S.left source.old) (S.left source.new)
+    ensures prepared { IsPrepared Command.Run result (S.left source.old) (S.left source.new)
         (HasRisen (S.faults source.old) (S.faults source.new)) (source.new ≡ source.old) }
+    ensures workers { IfOk result (λ answer. answer.status ≡ Status.Done
+        → IfSome (S.left source.old) (λ input. TellsByWorkers input answer.text.items)) }
 {
     match read_all(alloc, source) {
         Ok(input) => match report_on_threads(rt, alloc, &input, pace) {

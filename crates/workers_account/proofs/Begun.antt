@@ -1,6 +1,6 @@
 -- What began at the gatekeepers of a phase's closed logs is what the sessions' logs say began, with the same stamps.
--- Used by ByLog, Ended, Follows, HeardOf, HowFar, OneHand, OpenPairs, Programs, ReadyClients, Visited and crates
--- sessions_account and weave_phase.
+-- Used by ByLog, Ended, Follows, HeardOf, HowFar, OneHand, OpenPairs, OwnWorkers, Programs, ReadyClients, Visited and
+-- crates sessions_account and weave_phase.
 use Rattle.std.proofs.Common.{◌≡◌, ◌≢◌, ℕ, ◌==◌, List, [], ◌∷◌, ◌++◌, length, map, get_or, Contains, IsTrue, Option, None, Some, ◌⊎◌, inl, inr, refl, sym, ap, subst, ◌∙◌, arith}
 use Rattle.std.specs.Prelude.{slice_get, IsSomeAnd}
 use Rattle.std.specs.List.{filter, find, range_with_len}

@@ -1,5 +1,5 @@
 -- A hand of a phase begins and judges what the script asks of its session, once and in turn.
--- Used by ByLog, ClosedAccount, HeardOf, OneHand, OpenPairs, Programs and Visited.
+-- Used by ByLog, ClosedAccount, HeardOf, OneHand, OpenPairs, OwnWorkers, Programs and Visited.
 use Rattle.std.proofs.Common.{◌≡◌, ◌≢◌, ℕ, ◌<◌, ◌≤◌, ◌==◌, Bool, List, [], ◌∷◌, ◌++◌, length, Contains, AllPairs, IsTrue, Option, Some, inl, inr, refl, sym, ap, subst, ◌∙◌, arith}
 use Rattle.std.specs.Prelude.{◌&&◌, IsSomeAnd}
 use Rattle.std.specs.Option.{ForSome}

@@ -5,6 +5,7 @@ pub mod StepsInStep
 pub mod GoneOn
 pub mod InStep
 pub mod OwnSince
+pub mod OwnWorkers
 pub mod OwnLogs
 pub mod BegunPlaces
 pub mod BegunHolds

@@ -1,5 +1,5 @@
 -- What a phase has added: begins of requests before its end, and pairs of requests that had no reply before.
--- Used by PhaseEnds.
+-- Used by OwnWorkers and PhaseEnds.
 use Rattle.std.proofs.Common.{◌≡◌, ◌≢◌, ℕ, ◌<◌, ◌==◌, Bool, List, [], ◌∷◌, ◌++◌, Contains, IsTrue, Option, None, Some, inl, inr, refl, sym, ap, subst, ◌∙◌, append_assoc, eq-eqb, arith}
 use Rattle.std.specs.Prelude.{slice_get}
 use Rattle.std.specs.List.{cons_option, filter, filter_map}
@@ -99,13 +99,15 @@ module _ (laws : PhaseLaws) (stay : StayLaws) (shared : Shared) (script : Script
             (subst (λ (g : ℕ → List GateEntry). Contains (g home) entry) (sym on.2.gates_are) there) epoch
       ]
 
-  -- an entry that a gatekeeper's log has gained is of a hand's part
-  record InAPart (home : ℕ) (entry : GateEntry) : Type 0 where
-    hand : Hand
-    h : Contains hands hand
-    there : Contains ((part-of laws shared script upto start was is hands run hand h).gates home) entry
+  -- an entry of a gatekeeper's log is of a hand's part
+  pub record InAPart (home : ℕ) (entry : GateEntry) : Type 0 where
+    pub hand : Hand
+    pub h : Contains hands hand
+    pub number_is : hand_number hand ≡ entry.author
+    pub there : Contains ((part-of laws shared script upto start was is hands run hand h).gates home) entry
 
-  gained-part : (home : ℕ) (entry : GateEntry) → Contains (gates-on laws shared script upto start was is hands run closed end home).0 entry → InAPart home entry
+  -- each entry that a gatekeeper's log has gained is
+  pub gained-part : (home : ℕ) (entry : GateEntry) → Contains (gates-on laws shared script upto start was is hands run closed end home).0 entry → InAPart home entry
   gained-part home entry there =
       let old = gate_log start home in
       let more = gates-on laws shared script upto start was is hands run closed end home in
@@ -121,6 +123,7 @@ module _ (laws : PhaseLaws) (stay : StayLaws) (shared : Shared) (script : Script
       record {
         hand = one.hand;
         h = one.there;
+        number_is = one.number_is;
         there = own-entry laws shared script upto start was is hands run one.hand part home (old ++ cut.before) entry by.rest
             (ap (λ (a : Account). gate_log a home) (sym one.seen_is) ∙ by.at) (sym one.number_is, by.own.1);
       }

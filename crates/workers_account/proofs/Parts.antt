@@ -1,7 +1,7 @@
 -- What each hand of a phase made at gatekeepers and the store since the phase's start; the closed logs of gatekeepers
 -- have nothing else.
 -- Used by `hands_of_a_phase_visit_their_own`, Begun, ByLog, ClosedAccount, Ended, Follows, HeardOf, HowFar, InFlight,
--- OneHand, OpenPairs, Own, PhaseEnds, Programs, SinceStart and Visited.
+-- OneHand, OpenPairs, Own, OwnWorkers, PhaseEnds, Programs, SinceStart and Visited.
 use Rattle.std.proofs.Common.{◌≡◌, ℕ, ◌<◌, ◌==◌, eq-eqb, List, [], ◌++◌, Contains, IsTrue, ◌⊎◌, inl, inr, refl, sym, ap, subst, ◌∙◌, arith}
 use Rattle.std.specs.Prelude.{slice_get}
 use Rattle.std.specs.List.{filter}

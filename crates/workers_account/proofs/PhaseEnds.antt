@@ -22,6 +22,7 @@ use Rattle.workers_account.proofs.ClosedAccount.{closed-account}
 use Rattle.workers_account.proofs.Ended.{goes}
 use Rattle.workers_account.proofs.InFlight.{none-in-flight}
 use Rattle.workers_account.proofs.OpenPairs.{gain-below, open-pairs}
+use Rattle.workers_account.proofs.OwnWorkers.{own-workers}
 use Rattle.workers_account.proofs.Parts.{session-part}
 
 module _ (laws : PhaseLaws) (stay : StayLaws) (shared : Shared) (script : Script) (upto : ℕ) (start : Account) (was is : List Client) (hands : List Hand)
@@ -61,5 +62,6 @@ module _ (laws : PhaseLaws) (stay : StayLaws) (shared : Shared) (script : Script
         requests = same_lists (map requests_in is) (map requests_in was) as-many each-alike ∙ run.at_start.requests;
         by_log = clients-by-log laws stay shared script upto start was is hands run closed end account;
         begins = gain-below laws stay shared script upto start was is hands run closed end account;
+        workers = own-workers laws stay shared script upto start was is hands run closed end account;
         pairs = open-pairs laws stay shared script upto start was is hands run closed end account;
       }

@@ -1,6 +1,6 @@
 -- What a session's log says of its requests: each is begun once, and their numbers rise.
--- Used by Begun, ByLog, Ended, Follows, HowFar, OneHand, Programs, ReadyClients and crates sessions_account and
--- weave_phase.
+-- Used by Begun, ByLog, Ended, Follows, HowFar, OneHand, OwnWorkers, Programs, ReadyClients and crates
+-- sessions_account and weave_phase.
 use Rattle.std.proofs.Common.{◌≡◌, ◌≢◌, ℕ, ◌<◌, ◌==◌, List, [], ◌∷◌, ◌++◌, map, take, drop, get_or, Contains, AllPairs, Option, None, Some, ◌⊎◌, inl, inr, refl, sym, ap, subst, ◌∙◌, arith}
 use Rattle.std.specs.Prelude.{slice_get}
 use Rattle.std.specs.List.{find}

@@ -1,6 +1,6 @@
 -- Who read what in a phase: each visit is of a program that had begun at the start, or of one that its hand began
 -- since.
--- Used by ByLog, HeardOf, HowFar, OneHand, OpenPairs, Programs and crate sessions_account.
+-- Used by ByLog, HeardOf, HowFar, OneHand, OpenPairs, OwnWorkers, Programs and crate sessions_account.
 use Rattle.std.proofs.Common.{◌≡◌, ◌≢◌, ℕ, ◌<◌, ◌==◌, false, List, ◌∷◌, ◌++◌, length, Contains, ◌⊎◌, inl, inr, sym, ap, subst, ◌∙◌, append_assoc, eq-eqb, arith}
 use Rattle.std.specs.List.{filter}
 use Rattle.std.proofs.lemmas.Bool.{eqb-true, ne_eqb}

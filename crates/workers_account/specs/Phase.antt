@@ -25,7 +25,7 @@ use Rattle.weaver_workers.specs.declared.ended.Ended.{Ended}
 use Rattle.weaver_workers.specs.ClientWork.{Goes, Stand, WorkerEndsAs}
 use Rattle.weaver_workers.specs.Keeping.{AreLocksOf, HasLanded, KeepsClient}
 use Rattle.weaver_workers.specs.Turning.{stand}
-use Rattle.workers_account.specs.Pairs.{AddsOpenPairs, GainBelow}
+use Rattle.workers_account.specs.Pairs.{AddsOpenPairs, AreBegunByOwnWorkers, GainBelow}
 
 -- The parts of a core at the start of a phase: their logs are an account of the script in which no transaction is in
 -- flight, and each client's values are those of its log. The locks are the script's, and began with these logs.
@@ -125,7 +125,7 @@ pub record IsClosedBy (shared : Shared) (script : Script) (start : Account) (is 
 
 -- What follows: the closed logs are an account that goes on from the start, in which no transaction is in flight. Each
 -- client's values are those of its log, and its requests are those of its session. What was begun comes before `upto`,
--- no epoch was raised, and pairs were added to requests without a reply alone.
+-- each session's by a worker of its own; no epoch was raised, and pairs were added to requests without a reply alone.
 pub record IsPhaseEnd (script : Script) (upto : ℕ) (start : Account) (is : List Client) (closed : Account) : Type 0
   where
     pub is_account : IsAccount script closed
@@ -134,4 +134,5 @@ pub record IsPhaseEnd (script : Script) (upto : ℕ) (start : Account) (is : Lis
     pub requests : map requests_in is ≡ map (requests_of_session script) (range_with_len 0 most_sessions)
     pub by_log : (client : Client) → Contains is client → IsClientByLog script closed client
     pub begins : GainBelow upto start closed
+    pub workers : AreBegunByOwnWorkers script start closed
     pub pairs : AddsOpenPairs script start closed

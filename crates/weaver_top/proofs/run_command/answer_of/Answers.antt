@@ -2,12 +2,12 @@ use Rattle.std.proofs.Common.{◌≡◌, refl, sym, ap, ◌∙◌, subst}
 use Rattle.program_defs.specs.declared.script.Script.{Script}
 use Rattle.weave_report.specs.ReportText.{report_text}
 use Rattle.weave_report.specs.TextOf.{IsReportTextOf}
-use Rattle.weaver_top.proofs.Headline.{IsWellRun, accepted, run_told}
+use Rattle.weaver_top.proofs.Headline.{IsWellRun, accepted, run_told, told_of_logs}
 use Rattle.weaver_top.proofs.PhaseEnds.{all-replied}
 use Rattle.weaver_top.proofs.run_command.answer_of.Goals as goal
 
-pub returns : goal.returns
-returns c = record {
+pub returns-clause-right : goal.returns-clause-right
+returns-clause-right c = record {
   to_each_text = λ input is_short is_text. record {
     tells =
         let script = c.args.core.now.script in
@@ -34,3 +34,11 @@ returns c = record {
     ends = refl;
   };
 }
+
+pub returns-clause-of_logs : goal.returns-clause-of_logs
+returns-clause-of_logs c = λ input is_text.
+    let script = c.args.core.now.script in
+    let report = c.in_ok-report.report in
+    told_of_logs input script report c.in_ok-text.text.items is_text
+    (c.in_ok-text.ensures.text ∙ ap (λ (s : Script). report_text s report) c.script.ensures.script) c.in_ok-report.ensures.answers
+    c.args.core.now.state.account c.requires.whole c.in_ok-report.ensures.report

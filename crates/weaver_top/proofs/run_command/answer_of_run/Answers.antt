@@ -15,4 +15,4 @@ answer_of-requires c =
     }
 
 pub returns : goal.returns
-returns c = subst (λ (s : Script). AnswersScript Run s c.in_ok-answer.answer) c.in_ok-run.ensures.script c.in_ok-answer.ensures
+returns c = subst (λ (s : Script). AnswersScript Run s c.in_ok-answer.answer) c.in_ok-run.ensures.script c.in_ok-answer.ensures.right
