@@ -1,5 +1,5 @@
 -- The hands that come with new locks are unused, and those who have them are players and workers.
--- Used by `new_locks`, `open` and Seated.
+-- Used by `new_locks`, `open`, `seat_of` and Seated.
 use Rattle.std.proofs.Common.{eqb, filter, ◌≡◌, ℕ, ◌<◌, List, [], length, map, get_or, sym, ap, ◌∙◌, subst, arith, Contains}
 use Rattle.std.proofs.lemmas.List.{get_or-map, length-map}
 use Rattle.weave_data.proofs.Members.{has_none}
@@ -59,7 +59,8 @@ module _ (shared : Shared) (number : ℕ) (hand : Hand) (is : IsUnusedHand share
     ended = nothing-there _;
   }
 
-  new-player : IsNumberedPlayer shared number (player_of hand)
+  -- its player is ready
+  pub new-player : IsNumberedPlayer shared number (player_of hand)
   new-player = record { is = record { worker = player-worker; step = tt }; number_is = is.number_is }
 
   -- its worker is ready

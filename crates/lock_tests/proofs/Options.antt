@@ -1,5 +1,5 @@
 -- Facts on what an option has.
--- Used by `begin`, `in_flight`, `start`, `transact`, Began, CarryingOn, Going, Opening and Seated.
+-- Used by `begin`, `start`, `transact`, Began, CarryingOn, Going, Opening and Seated.
 use Rattle.std.proofs.Common.{◌≡◌, subst}
 use Rattle.std.specs.Prelude.{Option, None, Some}
 use Rattle.std.specs.Option.{ForSome}

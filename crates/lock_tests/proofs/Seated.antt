@@ -1,9 +1,10 @@
 -- A new hand's seat is ready for the first phase, and a seat stays ready while its worker makes calls.
--- Used by `close`, `hands_in`, `nudge_all`, `seat_of` and `take_gates_turn`.
+-- Used by `close`, `hands_in`, `nudge_all`, `seat_of`, `seats_of` and `take_gates_turn`.
 use Rattle.std.proofs.Common.{◌≡◌, ℕ, ◌<◌, List, [], ◌∷◌, ◌++◌, AllPairs, Contains, map, append_assoc, refl, ap, ◌∙◌, sym, subst, arith}
 use Rattle.std.specs.Prelude.{Option, is_some}
+use Rattle.std.specs.List.{All}
 use Rattle.std.specs.Option.{ForSome}
-use Rattle.std.proofs.lemmas.List.Elements.{Contains-append_right}
+use Rattle.std.proofs.lemmas.List.Elements.{All-head, All-push, All-tail, Contains-append_right}
 use Rattle.weave_data.proofs.Members.{has_head, has_none}
 use Rattle.program_defs.specs.declared.script.Script.{Script}
 use Rattle.vector_stamp.specs.declared.clock.Stamp.{Stamp}
@@ -27,7 +28,7 @@ use Rattle.weaver_workers.specs.Phases.{phase_start}
 use Rattle.weaver_workers.specs.Workers.{IsIdleHand, IsReadyClient}
 use Rattle.weaver_workers.proofs.OnlyCarried.{landed-still}
 use Rattle.lock_tests.specs.declared.turns.seat.Seat.{Seat}
-use Rattle.lock_tests.specs.declared.turns.seat.Seat.TheVariants.{AtWork, InFlight}
+use Rattle.lock_tests.specs.declared.turns.seat.Seat.TheVariants.{AtWork, Playing}
 use Rattle.lock_tests.specs.OwnRequests.{OwnRequestLaws}
 use Rattle.lock_tests.specs.Turns.{hand_of_seat, IsNewClient, IsReadySeat}
 use Rattle.lock_tests.specs.UnusedHands.{IsUnusedHand}
@@ -94,9 +95,17 @@ pub seat-hand : (script : Script) (shared : Shared) (seat : Seat) → IsReadySea
 seat-hand script shared (AtWork (ClientWork hand client)) ready = ready.keeps.is_hand
 seat-hand script shared (AtWork (GateWork hand gate)) ready = ready.0.is_hand
 seat-hand script shared (AtWork (ShardWork hand shard)) ready = ready.0.is_hand
-seat-hand script shared (InFlight hand) ready = ready
+seat-hand script shared (Playing player) ready = ready.worker.hand
 
--- Closing
+-- Rows of seats and hands
+
+-- what is true of each of a list is true with one more of which it is true
+pub all-more : {A : Type 0} (P : A → Type 0) (xs new : List A) (x : A) → new ≡ xs ++ x ∷ [] → All P xs → P x → All P new
+all-more P xs new x more all one = subst (All P) (sym more) (All-push P xs x all one)
+
+-- and it is true of the next of what is left, and of the rest
+pub all-next : {A : Type 0} (P : A → Type 0) (left rest : List A) (x : A) → left ≡ x ∷ rest → All P left → P x × All P rest
+all-next P left rest x next all = (All-head P x rest (subst (All P) next all), All-tail P x rest (subst (All P) next all))
 
 -- with one more hand, the hands so far and those of the seats that are left are all of them
 pub hands-more : (done new : List Hand) (hand : Hand) (left rest : List Seat) (seat : Seat) (all : List Hand) → new ≡ done ++ hand ∷ []

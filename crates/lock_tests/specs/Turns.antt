@@ -8,14 +8,14 @@ use Rattle.weaver_core.specs.declared.client.Client.{Client}
 use Rattle.weaver_core.specs.Sessions.{log_of_client}
 use Rattle.weaver_locks.specs.declared.hand.Hand.{Hand}
 use Rattle.weaver_locks.specs.declared.shared.Shared.{Shared}
-use Rattle.weaver_locks.specs.Hands.{IsHand}
 use Rattle.weaver_workers.specs.declared.worker.Worker.{Worker}
 use Rattle.weaver_workers.specs.declared.worker.Worker.TheVariants.{ClientWork, GateWork, ShardWork}
 use Rattle.weaver_workers.specs.Keeping.{AreLocksOf}
 use Rattle.weaver_workers.specs.Workers.{HasPhase, IsReadyForPhase}
 use Rattle.lock_tests.specs.declared.turns.seat.Seat.{Seat}
-use Rattle.lock_tests.specs.declared.turns.seat.Seat.TheVariants.{AtWork, InFlight}
+use Rattle.lock_tests.specs.declared.turns.seat.Seat.TheVariants.{AtWork, Playing}
 use Rattle.lock_tests.specs.UnusedHands.{IsUnusedHand}
+use Rattle.lock_tests.specs.Workers.{IsPlayer}
 
 -- the locks are those of a script of two gatekeepers, which is within its limits and has a first phase
 pub record IsBench (script : Script) (shared : Shared) : Type 0 where
@@ -34,10 +34,10 @@ pub record IsNewClient (script : Script) (session : ℕ) (client : Client) : Typ
 abbrev pub IsHandOfNewLocks : Shared → Hand → Type 0
 IsHandOfNewLocks shared hand = (number : ℕ) × IsUnusedHand shared number hand
 
--- a worker may do its part of the first phase, and a hand in flight is one of these locks
+-- a worker may do its part of the first phase, and a player is ready for its next call
 abbrev pub IsReadySeat : Script → Shared → Seat → Type 0
 IsReadySeat script shared (AtWork worker) = IsReadyForPhase shared script 0 worker
-IsReadySeat script shared (InFlight hand) = IsHand shared hand
+IsReadySeat script shared (Playing player) = IsPlayer shared player
 
 -- the hand of a worker
 abbrev pub hand_of_work : Worker → Hand
@@ -48,4 +48,4 @@ hand_of_work (ShardWork hand shard) = hand
 -- the hand of a seat
 abbrev pub hand_of_seat : Seat → Hand
 hand_of_seat (AtWork worker) = hand_of_work worker
-hand_of_seat (InFlight hand) = hand
+hand_of_seat (Playing player) = player.worker.hand

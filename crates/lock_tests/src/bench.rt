@@ -13,7 +13,8 @@ use std::process::Abort;
 use std::sync::Wait;
 use weaver_locks::{Closed, Hand, Shared};
 
-fn new_player(hand: Hand) -> Player
+/// The player of a new hand.
+pub fn new_player(hand: Hand) -> Player
     ensures { result ≡ player_of hand }
 {
     let worker = Worker {

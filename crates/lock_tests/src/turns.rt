@@ -1,5 +1,5 @@
-//! What the workers of a phase do on one thread, turn by turn: how each client ends, and the logs of what is left when
-//! the locks are closed.
+//! What the workers of a phase do, turn by turn, one after another and side by side: how each client ends, and the logs
+//! of what is left when the locks are closed.
 
 #[cfg(test)]
 mod bench;
@@ -10,3 +10,5 @@ mod play;
 #[cfg(test)]
 mod rows;
 pub mod seat;
+#[cfg(test)]
+mod side_by_side;

@@ -12,8 +12,11 @@ use weaver_top::{Pace, Status, WorkKind};
 // How often a client that is held looks whether another has had a turn, at most.
 const LOOKS: u32 = 10_000;
 
-// Two sessions at two gatekeepers that both create one vertex.
-const BOTH_CREATE: &[u8] = b"weaver 1 2 1\ntx t1 0 0\ncreate v\nend\ntx t2 1 1\ncreate v\nend\n";
+// Two sessions that both create one vertex: at two gatekeepers, and at one.
+const BOTH_CREATE: [&[u8]; 2] = [
+    b"weaver 1 2 1\ntx t1 0 0\ncreate v\nend\ntx t2 1 1\ncreate v\nend\n",
+    b"weaver 1 1 1\ntx t1 0 0\ncreate v\nend\ntx t2 1 0\ncreate v\nend\n",
+];
 
 // Holds a client before its turn until another one has had a turn: the client of this session before its first turn, or
 // the first client that comes.
@@ -83,11 +86,12 @@ const TRIES: u32 = 20;
 fn run_held<R: Threads + Wait + Sync>(
     rt: &R,
     alloc: Global,
+    script: &[u8],
     session: Option<u32>,
 ) -> Result<Option<Vec<u8>>, AllocError> {
     for _ in 0..TRIES {
         let pace = Holding::new(session);
-        let (status, report) = call(rt, alloc, "run", BOTH_CREATE, &pace)?;
+        let (status, report) = call(rt, alloc, "run", script, &pace)?;
         if status == Status::Done && pace.was_released() {
             return Ok(Some(report));
         }
@@ -97,8 +101,10 @@ fn run_held<R: Threads + Wait + Sync>(
 
 #[test]
 fn clients_run_side_by_side(rt: HostRuntime) -> Result<(), Fail> {
-    let report = run_held(&rt, rt.alloc(), None)?;
-    assert!(rt; report.is_some());
+    for script in BOTH_CREATE {
+        let report = run_held(&rt, rt.alloc(), script, None)?;
+        assert!(rt; report.is_some());
+    }
     Ok(())
 }
 
@@ -112,16 +118,28 @@ fn has_line(report: &[u8], start: &[u8], end: &[u8]) -> bool {
     false
 }
 
+// Runs the script with the client of this session held: its request is refused, and the other one committed.
+fn other_is_first<R: Threads + Wait + Sync>(
+    rt: &R,
+    alloc: Global,
+    script: &[u8],
+    session: u32,
+    held: &[u8],
+    other: &[u8],
+) -> Result<bool, AllocError> {
+    let Some(report) = run_held(rt, alloc, script, Some(session))? else {
+        return Ok(false);
+    };
+    let refused = has_line(report.as_slice(), held, b" refused 1 exists at 1");
+    Ok(refused && has_line(report.as_slice(), other, b" committed 1"))
+}
+
 // A body that takes the requests in an order of its own gives the same replies whoever is held.
 #[test]
 fn who_comes_first_is_committed(rt: HostRuntime) -> Result<(), Fail> {
-    let sessions: [(u32, &[u8], &[u8]); 2] = [(0, b"tx t1 ", b"tx t2 "), (1, b"tx t2 ", b"tx t1 ")];
-    for (session, held, other) in sessions {
-        let Some(report) = run_held(&rt, rt.alloc(), Some(session))? else {
-            return Err(Fail::from("the held client never went on"));
-        };
-        assert!(rt; has_line(report.as_slice(), held, b" refused 1 exists at 1"));
-        assert!(rt; has_line(report.as_slice(), other, b" committed 1"));
+    for script in BOTH_CREATE {
+        assert!(rt; other_is_first(&rt, rt.alloc(), script, 0, b"tx t1 ", b"tx t2 ")?);
+        assert!(rt; other_is_first(&rt, rt.alloc(), script, 1, b"tx t2 ", b"tx t1 ")?);
     }
     Ok(())
 }
@@ -194,13 +212,14 @@ fn each_worker_takes_its_turns(rt: HostRuntime) -> Result<(), Fail> {
 }
 
 // A thousand requests of two sessions, at two gatekeepers that never wait for each other, and one shard; 200 a phase.
+// In the last phase one session alone has requests.
 fn large_phases(alloc: Global) -> Result<Vec<u8>, AllocError> {
     let mut text = Vec::from_slice(alloc, b"weaver 1 2 1\n")?;
     for number in 0..1_000u32 {
         if number % 200 == 0 {
             text.extend_from_slice(b"phase\n")?;
         }
-        let side = number % 2;
+        let side = if number < 800 { number % 2 } else { 0 };
         let lines = format!(in alloc; "tx t{number} {side} {side}\ncreate v{number}\nend\n")?;
         text.extend_from_slice(lines.as_str().as_bytes())?;
     }

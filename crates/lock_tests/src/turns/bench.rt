@@ -3,10 +3,11 @@ ghost use Rattle.std.specs.Prelude.{◌≡◌, ◌<◌, ◌≤◌, ℕ, All, len
 ghost use Rattle.weave_account.specs.Sessions.{requests_of_session};
 ghost use Rattle.weave_data.specs.Limits.{most_requests};
 ghost use Rattle.weaver_locks.specs.declared.hand.Hand.{Hand};
-ghost use Rattle.weaver_locks.specs.Hands.{hand_number, IsHand};
-ghost use Rattle.weaver_locks.specs.Locks.{gate_count, hands_of};
+ghost use Rattle.weaver_locks.specs.Hands.{hand_number};
+ghost use Rattle.weaver_locks.specs.Locks.{hands_of};
 ghost use Rattle.lock_tests.specs.Turns.{hand_of_seat, hand_of_work, IsBench, IsNewClient, IsHandOfNewLocks, IsReadySeat};
 
+use crate::bench::new_player;
 use crate::calls::{gate_of, shard_of};
 use crate::hands::calls::workers_keep_their_laws;
 use crate::machines::new_locks;
@@ -28,8 +29,8 @@ pub enum Post {
     Client(u32),
     Gate(u32),
     Shard(u32),
-    /// Gatekeeper and request: the hand begins it, and leaves it in flight.
-    Flight(u32, u32),
+    /// No worker: the hand makes calls of its own.
+    Player,
 }
 
 // The requests of a session, in script order.
@@ -61,28 +62,6 @@ fn new_client(rt: &impl Abort, alloc: Global, script: &Script, session: u32) -> 
     }
 }
 
-// The hand, which has begun a transaction.
-fn in_flight<R: Wait + Abort>(
-    rt: &R,
-    alloc: Global,
-    shared: &Shared,
-    mut hand: Hand,
-    gate: u32,
-    request: u32,
-) -> Hand
-    requires hand { IsHand shared.now hand }
-    requires gate { gate < gate_count shared.now }
-    ensures { IsHand shared.now result }
-{
-    if shared
-        .begin_tx(rt, alloc, &mut hand, gate, request, None)
-        .is_err()
-    {
-        panic!(rt; "it is busy");
-    }
-    hand
-}
-
 // The seat of a new hand.
 fn seat_of<R: Wait + Abort>(
     rt: &R,
@@ -111,10 +90,7 @@ fn seat_of<R: Wait + Abort>(
             let shard = shard_of(rt, shared, shard);
             Seat::AtWork(Worker::ShardWork { hand, shard })
         }
-        Post::Flight(gate, request) => {
-            let gate = gate_of(rt, gate);
-            Seat::InFlight(in_flight(rt, alloc, shared, hand, gate, request))
-        }
+        Post::Player => Seat::Playing(new_player(hand)),
     }
 }
 
@@ -174,7 +150,7 @@ fn hand_of(seat: Seat) -> Hand
 {
     match seat {
         Seat::AtWork(worker) => hand_of_work(worker),
-        Seat::InFlight(hand) => hand,
+        Seat::Playing(player) => player.worker.hand,
     }
 }
 

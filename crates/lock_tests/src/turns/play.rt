@@ -1,11 +1,15 @@
 //! The calls of the workers of a phase as values.
 ghost use Rattle.std.specs.Prelude.{◌≡◌};
+ghost use Rattle.weaver_locks.specs.Locks.{gate_count};
 ghost use Rattle.weaver_workers.specs.Workers.{IsIdleHand, IsReadyForPhase};
 ghost use Rattle.lock_tests.specs.Turns.{IsBench, IsReadySeat};
+ghost use Rattle.lock_tests.specs.Workers.{IsPlayer};
 
 use crate::calls::{gate_of, shard_of};
-use crate::turns::pace::CountedTurns;
+use crate::turns::pace::{CountedTurns, Hold};
 use crate::turns::seat::Seat;
+use crate::worker::Player;
+use crate::{play, values};
 use program_defs::Script;
 use std::alloc::Global;
 use std::process::Abort;
@@ -13,7 +17,7 @@ use std::sync::Wait;
 use weaver_locks::{Hand, Shared};
 use weaver_workers::{Brought, WorkKind, Worker, nudge, turn_gate, turn_shard};
 
-/// A call of a worker. The last three are made by the hand of a gatekeeper's or a shard's worker.
+/// A call of a hand. Turns and nudges are made by the hand of a gatekeeper's or a shard's worker.
 #[derive(Clone, Copy)]
 pub enum Call<'a> {
     /// It does its part of the phase. The pace is to be told this kind and index. The words say how it ends, and after
@@ -25,6 +29,12 @@ pub enum Call<'a> {
     TurnShard(u32),
     /// A nudge for a program of this home at this shard.
     Nudge(u32, u32),
+    /// A call of a hand that is no worker's, and what it answers.
+    Play(values::Call<'a>, &'a str),
+    /// Nothing, until this many workers are held.
+    Await(u64),
+    /// All workers that are held may go on.
+    Release,
 }
 
 /// The number of a hand, and its call.
@@ -144,7 +154,9 @@ fn carry<R: Wait + Abort>(
     ensures { IsIdleHand shared.now hand.new }
 {
     match call {
-        Call::Go(_, _, _) => panic!(rt; "it is a worker's"),
+        Call::Go(_, _, _) | Call::Play(_, _) | Call::Await(_) | Call::Release => {
+            panic!(rt; "it is not for a hand that only carries")
+        }
         Call::TurnGate(gate, sends) => {
             take_gates_turn(rt, alloc, shared, script, hand, *gate, *sends)
         }
@@ -172,6 +184,42 @@ fn carry_by<R: Wait + Abort>(
     }
 }
 
+// A call of a worker.
+fn work<R: Wait + Abort>(
+    rt: &R,
+    alloc: Global,
+    shared: &Shared,
+    script: &Script,
+    worker: &mut Worker,
+    call: &Call,
+    hold: &Hold,
+)
+    requires bench { IsBench script.now shared.now }
+    requires ready { IsReadyForPhase shared.now script.now 0 worker.old }
+    ensures { IsReadyForPhase shared.now script.now 0 worker.new }
+{
+    match call {
+        Call::Go(kind, index, expected) => {
+            let pace = CountedTurns::of(*kind, *index, hold);
+            go(rt, alloc, shared, script, worker, &pace, expected)
+        }
+        _ => carry_by(rt, alloc, shared, script, worker, call),
+    }
+}
+
+// A call of a hand that is no worker's.
+fn answer<R: Wait + Abort>(rt: &R, alloc: Global, shared: &Shared, player: &mut Player, call: &Call)
+    requires gates { gate_count shared.now ≡ 2 }
+    requires player { IsPlayer shared.now player.old }
+    ensures { IsPlayer shared.now player.new }
+{
+    let Call::Play(call, expected) = call else {
+        panic!(rt; "it is a worker's");
+    };
+    let said = play::play(rt, alloc, shared, player, call);
+    assert!(rt; said.as_slice() == expected.as_bytes(), "{expected}");
+}
+
 /// Makes a call.
 pub fn play<R: Wait + Abort>(
     rt: &R,
@@ -180,21 +228,35 @@ pub fn play<R: Wait + Abort>(
     script: &Script,
     seat: &mut Seat,
     call: &Call,
+    hold: &Hold,
 )
     requires bench { IsBench script.now shared.now }
     requires ready { IsReadySeat script.now shared.now seat.old }
     ensures { IsReadySeat script.now shared.now seat.new }
 {
-    let Seat::AtWork(worker) = seat else {
-        panic!(rt; "a hand in flight");
-    };
     match call {
-        Call::Go(kind, index, expected) => {
-            let pace = CountedTurns::of(*kind, *index);
-            go(rt, alloc, shared, script, worker, &pace, expected)
-        }
-        Call::TurnGate(_, _) | Call::TurnShard(_) | Call::Nudge(_, _) => {
-            carry_by(rt, alloc, shared, script, worker, call)
-        }
+        Call::Await(workers) => hold.wait_for(rt, *workers),
+        Call::Release => hold.release(),
+        _ => make(rt, alloc, shared, script, seat, call, hold),
+    }
+}
+
+// A call of the hand at the seat.
+fn make<R: Wait + Abort>(
+    rt: &R,
+    alloc: Global,
+    shared: &Shared,
+    script: &Script,
+    seat: &mut Seat,
+    call: &Call,
+    hold: &Hold,
+)
+    requires bench { IsBench script.now shared.now }
+    requires ready { IsReadySeat script.now shared.now seat.old }
+    ensures { IsReadySeat script.now shared.now seat.new }
+{
+    match seat {
+        Seat::AtWork(worker) => work(rt, alloc, shared, script, worker, call, hold),
+        Seat::Playing(player) => answer(rt, alloc, shared, player, call),
     }
 }

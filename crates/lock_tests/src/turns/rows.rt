@@ -5,13 +5,15 @@ ghost use Rattle.lock_tests.specs.Turns.{IsBench, IsReadySeat};
 use crate::hands::right_report::script_of;
 use crate::log_texts::text_of_logs;
 use crate::turns::bench::{Post, close, open};
+use crate::turns::pace::Hold;
 use crate::turns::play::{Call, Row, play};
 use crate::turns::seat::Seat;
+use crate::values;
 use program_defs::Script;
 use std::alloc::Global;
 use std::process::Abort;
 use std::sync::Wait;
-use weaver_locks::Shared;
+use weaver_locks::{Closed, Shared};
 use weaver_workers::WorkKind;
 
 // Makes a call of the hand with this number.
@@ -23,6 +25,7 @@ fn play_row<R: Wait + Abort>(
     seats: &mut Vec<Seat>,
     who: usize,
     call: &Call,
+    hold: &Hold,
 )
     requires bench { IsBench script.now shared.now }
     requires ready { All (IsReadySeat script.now shared.now) seats.old.items }
@@ -32,10 +35,11 @@ fn play_row<R: Wait + Abort>(
     if who >= seats.len() {
         panic!(rt; "no such hand");
     }
-    play(rt, alloc, shared, script, &mut seats[who], call);
+    play(rt, alloc, shared, script, &mut seats[who], call, hold);
 }
 
-fn play_rows<R: Wait + Abort>(
+/// Makes calls in turn, by the hands that the rows name.
+pub fn play_rows<R: Wait + Abort>(
     rt: &R,
     alloc: Global,
     shared: &Shared,
@@ -48,9 +52,19 @@ fn play_rows<R: Wait + Abort>(
     ensures ready { All (IsReadySeat script.now shared.now) seats.new.items }
     ensures count { vec_len seats.new ≡ vec_len seats.old }
 {
+    let hold = Hold::none();
     for (who, call) in rows {
-        play_row(rt, alloc, shared, script, seats, *who, call);
+        play_row(rt, alloc, shared, script, seats, *who, call, &hold);
     }
+}
+
+/// Whether the logs of the machines are these.
+pub fn check_logs(rt: &impl Abort, alloc: Global, closed: &Closed, logs: &str) {
+    let text = text_of_logs(alloc, closed).expect(rt, "memory");
+    assert!(rt;
+        text.as_slice() == logs.as_bytes(),
+        "other logs than {logs}"
+    );
 }
 
 // Makes the calls, and compares the logs.
@@ -66,11 +80,7 @@ fn check_table<R: Wait + Abort>(
     let (shared, mut seats) = open(rt, alloc, &script, posts);
     play_rows(rt, alloc, &shared, &script, &mut seats, rows);
     let closed = close(rt, alloc, shared, &script, seats);
-    let text = text_of_logs(alloc, &closed).expect(rt, "memory");
-    assert!(rt;
-        text.as_slice() == logs.as_bytes(),
-        "other logs than {logs}"
-    );
+    check_logs(rt, alloc, &closed, logs);
 }
 
 const THREE_UPDATES: &str = "weaver 1 2 2\n\
@@ -169,7 +179,7 @@ const WHOLE_PHASE: &str = "weaver 1 2 2\n\
     create v\n\
     create w\n\
     end\n\
-    prog p 5 1 show v\n";
+    prog p 5 1 show w\n";
 
 const WHOLE_PHASE_POSTS: [Post; 6] = [
     Post::Client(3),
@@ -182,7 +192,7 @@ const WHOLE_PHASE_POSTS: [Post; 6] = [
 
 // Each worker does its whole part after the others: eight turns of each gatekeeper and each shard, for two requests. A
 // gatekeeper hears the other once, since that one's clock stays the same, and sends to each shard in four turns, for
-// one program. Then the program finds its shard not ready, and is done after one nudge.
+// one program. Then the program finds the second shard not ready, and is done after one nudge of that shard.
 const WHOLE_PHASE_CALLS: [Row; 6] = [
     (0, Call::Go(WorkKind::Client, 3, "Done after 1")),
     (1, Call::Go(WorkKind::Gate, 0, "Done after 8")),
@@ -205,7 +215,7 @@ const WHOLE_PHASE_LOGS: &str = "gate\n\
     1 nop 0 5 0:0:8,0 low 0:8,0\n\
     1 nop 1 5 0:0:9,0 low 0:9,0\n\
     5 heard 0:9,9\n\
-    5 nop 0 6 0:0:10,9 low 0:10,9\n\
+    5 nop 1 6 0:0:10,9 low 0:10,9\n\
     gate\n\
     2 heard 0:9,0\n\
     2 nop 0 1 0:1:9,1 low 0:9,1\n\
@@ -217,7 +227,7 @@ const WHOLE_PHASE_LOGS: &str = "gate\n\
     2 nop 0 4 0:1:9,7 low 0:9,7\n\
     2 nop 1 4 0:1:9,8 low 0:9,8\n\
     5 program 1 0:1:9,9\n\
-    5 nop 0 5 0:1:9,10 low 0:9,9\n\
+    5 nop 1 5 0:1:9,10 low 0:9,9\n\
     5 finished 1\n\
     store\n\
     0 judged 0 0:0:1,0 create v create w; asked; committed 1 v 0 w 0\n\
@@ -241,11 +251,6 @@ const WHOLE_PHASE_LOGS: &str = "gate\n\
     3 applied 1 2\n\
     3 applied 1 3\n\
     3 applied 1 4\n\
-    5 arrived 0 6 [empty 0:0:10,9 low 0:10,9]\n\
-    5 arrived 1 5 [empty 0:1:9,10 low 0:9,9]\n\
-    5 applied 0 6\n\
-    5 applied 1 5\n\
-    5 visited 1 0:1:9,9 v 1 ordered\n\
     shard\n\
     4 arrived 0 2 [empty 0:0:3,0 low 0:3,0]\n\
     4 arrived 0 1 [0 0:0:1,0 low 0:1,0; w 0 create w]\n\
@@ -264,7 +269,12 @@ const WHOLE_PHASE_LOGS: &str = "gate\n\
     4 applied 1 1\n\
     4 applied 1 2\n\
     4 applied 1 3\n\
-    4 applied 1 4\n";
+    4 applied 1 4\n\
+    5 arrived 0 6 [empty 0:0:10,9 low 0:10,9]\n\
+    5 arrived 1 5 [empty 0:1:9,10 low 0:9,9]\n\
+    5 applied 0 6\n\
+    5 applied 1 5\n\
+    5 visited 1 0:1:9,9 w 1 ordered\n";
 
 #[test]
 fn each_worker_does_its_part(rt: HostRuntime) {
@@ -288,7 +298,7 @@ const ONE_IN_FLIGHT: &str = "weaver 1 2 1\n\
     end\n";
 
 const ONE_IN_FLIGHT_POSTS: [Post; 4] = [
-    Post::Flight(1, 2),
+    Post::Player,
     Post::Client(3),
     Post::Client(5),
     Post::Gate(1),
@@ -296,7 +306,8 @@ const ONE_IN_FLIGHT_POSTS: [Post; 4] = [
 
 // A transaction is in flight at the second gatekeeper throughout. A client gives up after 16 turns there. The
 // gatekeeper hears the other, but sends no empty message, so a program stays without one from it.
-const ONE_IN_FLIGHT_CALLS: [Row; 3] = [
+const ONE_IN_FLIGHT_CALLS: [Row; 4] = [
+    (0, Call::Play(values::Call::BeginTx(1, 2), "0:1:0,1")),
     (
         1,
         Call::Go(WorkKind::Client, 3, "Busy { gate: 1 } after 16"),

@@ -1,11 +1,11 @@
 //! A hand, and what it works for.
 
-use weaver_locks::Hand;
+use crate::worker::Player;
 use weaver_workers::Worker;
 
-/// A worker of the first phase, or a hand that has a transaction in flight.
+/// A worker of the first phase, or a hand that makes calls of its own.
 #[derive(Drop)]
 pub enum Seat {
     AtWork(Worker),
-    InFlight(Hand),
+    Playing(Player),
 }

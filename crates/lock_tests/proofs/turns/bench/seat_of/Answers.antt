@@ -1,4 +1,6 @@
-use Rattle.std.proofs.Common.{arith}
+use Rattle.std.proofs.Common.{arith, subst, sym}
+use Rattle.lock_tests.specs.Workers.{IsPlayer}
+use Rattle.lock_tests.proofs.Opening.{new-player}
 use Rattle.lock_tests.proofs.Seated.{client-new, idle-new}
 use Rattle.lock_tests.proofs.turns.bench.seat_of.Goals as goal
 
@@ -22,3 +24,8 @@ returns-in-Shard g c =
       idle-new c.args.shared.now new.0 c.args.hand new.1,
       omega (arith, c.shard_of-shard.ensures.below, c.requires.bench.locks.shards),
     )
+
+pub returns-in-Player : goal.returns-in-Player
+returns-in-Player g c =
+    let new = c.requires.new in
+    subst (IsPlayer c.args.shared.now) (sym c.new_player.ensures) (new-player c.args.shared.now new.0 c.args.hand new.1).is

@@ -1,9 +1,9 @@
-use Rattle.std.proofs.Common.{rules, ◌≡◌, ◌+◌, ◌∙◌, length, sym, ap, subst, arith}
+use Rattle.std.proofs.Common.{rules, ◌≡◌, ◌+◌, ◌++◌, ◌∷◌, [], ◌∙◌, length, sym, ap, subst, arith}
 use Rattle.std.specs.List.{All}
 use Rattle.std.specs.Vec.Iter.{into_iter_items, into_iter_len}
 use Rattle.std.proofs.lemmas.List.{length_push}
-use Rattle.std.proofs.lemmas.List.Elements.{All-head, All-push, All-tail}
 use Rattle.lock_tests.specs.Turns.{IsHandOfNewLocks, IsReadySeat}
+use Rattle.lock_tests.proofs.Seated.{all-more, all-next}
 use Rattle.lock_tests.proofs.turns.bench.seats_of.Goals as goal
 
 pub loop-hand-init : goal.loop-hand-init
@@ -22,8 +22,7 @@ loop-hand-init g c =
 
 pub seat_of-seat-requires-clause-new : goal.seat_of-seat-requires-clause-new
 seat_of-seat-requires-clause-new g c =
-    All-head (IsHandOfNewLocks c.args.shared.now) c.in-Some.hand _
-    (subst (All (IsHandOfNewLocks c.args.shared.now)) c.in-Some.ensures.steps.0 c.loop-hand.invariant.new)
+    (all-next (IsHandOfNewLocks c.args.shared.now) _ _ c.in-Some.hand c.in-Some.ensures.steps.0 c.loop-hand.invariant.new).0
 
 pub loop-hand-preserved : goal.loop-hand-preserved
 loop-hand-preserved g c =
@@ -33,12 +32,11 @@ loop-hand-preserved g c =
     let long = ap (λ l. length l) (sym steps.0) in
     let seats = c.loop-hand.seats.items in
     let seat = c.seat_of-seat.result in
-    let more = rw c.expect.ensures at c.push.ensures.items in
+    let more : c.push.new.self.items ≡ seats ++ seat ∷ [] = rw c.expect.ensures at c.push.ensures.items in
     let longer : length c.push.new.self.items ≡ length seats + 1 = ap (λ l. length l) more ∙ length_push seats seat in
     record {
-      ready = subst (All (IsReadySeat c.args.script.now c.args.shared.now)) (sym more)
-          (All-push (IsReadySeat c.args.script.now c.args.shared.now) seats seat was.ready c.seat_of-seat.ensures);
-      new = All-tail (IsHandOfNewLocks c.args.shared.now) c.in-Some.hand _ (subst (All (IsHandOfNewLocks c.args.shared.now)) steps.0 was.new);
+      ready = all-more (IsReadySeat c.args.script.now c.args.shared.now) seats c.push.new.self.items seat more was.ready c.seat_of-seat.ensures;
+      new = (all-next (IsHandOfNewLocks c.args.shared.now) _ _ c.in-Some.hand steps.0 was.new).1;
       long = omega (arith, was.long, some, long);
       count = omega (arith, was.count, some, longer);
     }
