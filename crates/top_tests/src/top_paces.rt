@@ -211,6 +211,18 @@ fn each_worker_takes_its_turns(rt: HostRuntime) -> Result<(), Fail> {
     Ok(())
 }
 
+// One session at one gatekeeper and one shard.
+const ONE_SESSION: &[u8] = b"weaver 1 1 1\ntx t1 0 0\ncreate v\nend\n";
+
+#[test]
+fn one_session_has_its_workers(rt: HostRuntime) -> Result<(), Fail> {
+    let pace = Counting::new();
+    let (status, _report) = call(&rt, rt.alloc(), "run", ONE_SESSION, &pace)?;
+    assert!(rt; status == Status::Done);
+    assert!(rt; pace.turns() == [4, 0, 4, 1, 9]);
+    Ok(())
+}
+
 // A thousand requests of two sessions, at two gatekeepers that never wait for each other, and one shard; 200 a phase.
 // In the last phase one session alone has requests.
 fn large_phases(alloc: Global) -> Result<Vec<u8>, AllocError> {
