@@ -1,3 +1,6 @@
+ghost use Rattle.std.specs.Prelude.{◌≡◌, false};
+ghost use Rattle.program_defs.specs.PlainAnswer.{is_price};
+
 use crate::graph_making::{chain, count, feed, star};
 use crate::names::{named, numbered};
 use graph_ops::Graph;
@@ -10,7 +13,9 @@ use std::process::Abort;
 use weave_data::Name;
 
 // A path that may take every edge.
-fn any_path(from: Name, to: Name, bound: u32) -> Program {
+fn any_path(from: Name, to: Name, bound: u32) -> Program
+    ensures { is_price result ≡ false }
+{
     Program::Path {
         from,
         to,
@@ -20,7 +25,9 @@ fn any_path(from: Name, to: Name, bound: u32) -> Program {
 }
 
 // How many vertices the plain answer lists.
-fn count_asked(rt: &impl Abort, alloc: Global, graph: &Graph, program: &Program) -> usize {
+fn count_asked(rt: &impl Abort, alloc: Global, graph: &Graph, program: &Program) -> usize
+    requires { is_price program.now ≡ false }
+{
     let answer = ask(alloc, graph, program).expect(rt, "memory");
     count(&answer)
 }
@@ -60,7 +67,9 @@ fn a_long_chain(rt: HostRuntime) {
 }
 
 // The answers of a program, asked and fed, list that many vertices. It is fed 1,001.
-fn lists(rt: &impl Abort, alloc: Global, graph: &Graph, program: &Program, listed: usize) {
+fn lists(rt: &impl Abort, alloc: Global, graph: &Graph, program: &Program, listed: usize)
+    requires { is_price program.now ≡ false }
+{
     assert!(rt; count_asked(rt, alloc, graph, program) == listed);
     assert!(rt; counts_fed(rt, alloc, graph, program) == (1_001, listed));
 }

@@ -15,7 +15,7 @@ use Rattle.program_defs.specs.declared.program.Program.{Program}
 use Rattle.program_defs.specs.declared.script.Request.{Request}
 use Rattle.program_defs.specs.declared.script.Script.{Script}
 use Rattle.program_defs.specs.declared.script.Step.{Step}
-use Rattle.program_defs.specs.declared.script.Step.TheVariants.{Begin, Judge, Send, Say, Hear, Nop, Deliver, Apply, Visit, Reply, Collect, Epoch}
+use Rattle.program_defs.specs.declared.script.Step.TheVariants.{Begin, Judge, Send, Say, Hear, Nop, Deliver, Apply, Visit, Reply, Collect, Epoch, Restart}
 use Rattle.program_defs.specs.declared.script.Work.{Work}
 use Rattle.program_defs.specs.declared.script.Work.TheVariants.{Change, Look}
 use Rattle.program_defs.specs.Visits.{next_visit}
@@ -150,6 +150,7 @@ module _ (laws : LawsForReadiness) (script : Script) (state : CoreState) (r : �
   step-leaves (Reply q) differ = replies q (request_at script q)
   step-leaves (Collect s) differ = shard-deed laws r account s (deeds.Collected (bound_of script.gates (shard_log account s))) refl
   step-leaves (Epoch g epoch) differ = λ shard. refl
+  step-leaves (Restart g epoch) differ = λ shard. refl
 
   -- whether it was done or not
   tried : (step : Step) → step ≢ Visit r → (b : Bool) → SameVisits r account (cond b (state_with script state step) state).account
@@ -196,3 +197,4 @@ module _ (laws : LawsForReadiness) (script : Script) (state : CoreState) (r : �
       all-leave (Reply q) range = others-leave (Reply q) range (λ e. cc)
       all-leave (Collect s) range = others-leave (Collect s) range (λ e. cc)
       all-leave (Epoch g epoch) range = others-leave (Epoch g epoch) range (λ e. cc)
+      all-leave (Restart g epoch) range = others-leave (Restart g epoch) range (λ e. cc)

@@ -22,10 +22,11 @@ use Rattle.graph_ops.specs.VertexOps.{state_after_ops, state_left}
 use Rattle.graph_ops.specs.declared.record.Edge.{Edge}
 use Rattle.graph_ops.specs.declared.op.Op.{Op}
 use Rattle.graph_ops.proofs.EachOp.{EdgesKeep, HasGood, edges-kept}
-use Rattle.program_defs.specs.declared.program.Filter.{Filter}
+use Rattle.program_defs.specs.declared.passing.Passing.{Passing}
+use Rattle.program_defs.specs.declared.passing.Passing.TheVariants.{Priced}
 use Rattle.program_defs.specs.declared.program.Program.{Program}
-use Rattle.program_defs.specs.declared.program.Program.TheVariants.{Show, Reach, Around, Path}
-use Rattle.program_defs.specs.Walks.{targets, passes_filter}
+use Rattle.program_defs.specs.declared.program.Program.TheVariants.{Show, Reach, Around, Path, Price}
+use Rattle.program_defs.specs.Walks.{passing_of, targets, passes_edge}
 use Rattle.program_defs.specs.Visits.{targets_of_all, not_among, as_set, levels_to, names_through, through_level, up_to, visits_to}
 use Rattle.weave_entries.specs.ShardReplay.{Update, state_of_updates}
 
@@ -39,6 +40,7 @@ start_of (Show v) = v
 start_of (Reach from to pass) = from
 start_of (Around from bound pass) = from
 start_of (Path from to bound pass) = from
+start_of (Price from to key) = from
 
 -- Sets of names, and the names up to one
 
@@ -130,25 +132,25 @@ module _ (names : List Name) where
 
   -- Visits
 
-  passing-in : (pass : Option Filter) (edges : List Edge) (w : Name) → All (λ (edge : Edge). In edge.target) edges → Contains (map (λ (edge : Edge). edge.target) (filter (passes_filter pass) edges)) w → In w
+  passing-in : (pass : Passing) (edges : List Edge) (w : Name) → All (λ (edge : Edge). In edge.target) edges → Contains (map (λ (edge : Edge). edge.target) (filter (passes_edge pass) edges)) w → In w
   passing-in pass edges w leads h =
-      let from = map_has (λ (edge : Edge). edge.target) (filter (passes_filter pass) edges) w h in
-      let there = (filter_has (passes_filter pass) edges from.0 from.1).0 in
+      let from = map_has (λ (edge : Edge). edge.target) (filter (passes_edge pass) edges) w h in
+      let there = (filter_has (passes_edge pass) edges from.0 from.1).0 in
       subst In from.2 (subst (λ (edge : Edge). In edge.target) there.2 (leads there.0 from.0 there.1))
 
-  target-in : (pass : Option Filter) (state : State) (w : Name) → LeadsIn state → Contains (targets pass state) w → In w
+  target-in : (pass : Passing) (state : State) (w : Name) → LeadsIn state → Contains (targets pass state) w → In w
   target-in pass None w leads h = absurd (has_none w h)
   target-in pass (Some now) w leads h = passing-in pass (values_of now.edges) w leads h
 
   module _ (graph : PlainGraph) (leads : (v : Name) → LeadsIn (graph v)) where
-    all-targets-in : (pass : Option Filter) (vs : List Name) (w : Name) → Contains (targets_of_all graph pass vs) w → In w
+    all-targets-in : (pass : Passing) (vs : List Name) (w : Name) → Contains (targets_of_all graph pass vs) w → In w
     all-targets-in pass [] w h = absurd (has_none w h)
     all-targets-in pass (v ∷ vs) w h = elim (Contains-append_cases (targets pass (graph v)) (targets_of_all graph pass vs) w h) [
       | inl here ↦ target-in pass (graph v) w (leads v) here
       | inr more ↦ all-targets-in pass vs w more
     ]
 
-    through-in : (pass : Option Filter) (start : Name) → In start → (n : ℕ) (w : Name) → Contains (through_level n graph pass start) w → In w
+    through-in : (pass : Passing) (start : Name) → In start → (n : ℕ) (w : Name) → Contains (through_level n graph pass start) w → In w
     through-in pass start here zero w h = subst In (only start w h) here
     through-in pass start here (suc n) w h =
         let levels = levels_to n graph pass start in
@@ -160,6 +162,8 @@ module _ (names : List Name) where
     -- each vertex that a program visits is its start, or one to which an edge leads
     pub visits-in : (program : Program) → In (start_of program) → (n : ℕ) (w : Name) → Contains (visits_to n graph program) w → In w
     visits-in (Show v) here n w h = subst In (only v w h) here
-    visits-in (Reach from to pass) here n w h = through-in pass from here n w (up_to-only to (through_level n graph pass from) w h)
-    visits-in (Around from bound pass) here n w h = through-in pass from here bound w h
-    visits-in (Path from to bound pass) here n w h = through-in pass from here bound w (up_to-only to (through_level bound graph pass from) w h)
+    visits-in (Reach from to pass) here n w h = through-in (passing_of pass) from here n w (up_to-only to (through_level n graph (passing_of pass) from) w h)
+    visits-in (Around from bound pass) here n w h = through-in (passing_of pass) from here bound w h
+    visits-in (Path from to bound pass) here n w h =
+        through-in (passing_of pass) from here bound w (up_to-only to (through_level bound graph (passing_of pass) from) w h)
+    visits-in (Price from to key) here n w h = through-in (Priced key) from here n w h

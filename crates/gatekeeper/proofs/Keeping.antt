@@ -1,5 +1,5 @@
 -- Fields that are what the replay of the log gives, after one more entry.
--- Used by `begin_program`, `begin_tx`, `epoch`, `finish`, `hear`, `new`, `nop` and `send`.
+-- Used by `begin_program`, `begin_tx`, `epoch`, `finish`, `hear`, `new`, `nop`, `send` and Returning.
 use Rattle.std.proofs.Common.{◌≡◌, ℕ, ◌<◌, ◌≤◌, List, [], ◌∷◌, ◌++◌, All, length, map, Contains, IsTrue, Option, None, inl, inr, refl, sym, ap, subst, ◌∙◌}
 use Rattle.std.specs.Map.{lookup}
 use Rattle.std.specs.Option.{option_map}

@@ -1,6 +1,6 @@
 -- If a begun program's stamp is met into its place, or its place is emptied when it ends, the table holds the running
 -- programs.
--- Used by `end`, `is_running`, `low_mark` and `start`.
+-- Used by `end`, `is_running`, `low_mark`, `start` and Returning.
 use Rattle.std.proofs.Common.{◌≡◌, ℕ, Bool, true, false, not, cond, ◌&&◌, List, [], ◌∷◌, ◌++◌, filter, fold, None, Some, is_some, inl, inr, refl, sym, ap, ◌∙◌}
 use Rattle.std.specs.Cmp.{nat_eq_equiv}
 use Rattle.std.specs.List.{list_any, AllByRecursion, IsDistinct}

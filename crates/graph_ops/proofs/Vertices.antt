@@ -1,5 +1,5 @@
 -- A transaction leaves at each vertex what its operations there leave, and passes exactly if those of each vertex do.
--- Used by `vertices_are_independent`, Naming, Needs and 7 crates above.
+-- Used by `vertices_are_independent`, Naming, Needs and 8 crates above.
 use Rattle.std.proofs.Common.{◌≡◌, ℕ, ◌+◌, Bool, true, false, ◌&&◌, cond, List, [], ◌∷◌, IsTrue, Ok, Err, is_ok, refl, sym, ap, subst, ◌∙◌}
 use Rattle.std.specs.Cmp.{eq_by_cmp_equiv}
 use Rattle.std.specs.Cmp.Lexicographic.{nat_list_cmp_total}

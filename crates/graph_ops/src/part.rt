@@ -4,7 +4,7 @@ use crate::op::Op;
 use std::alloc::{AllocError, Global};
 use weave_data::{Copied, Items, Name};
 
-/// The operations of a committed transaction on one vertex.
+/// The operations of a committed transaction on one vertex: none where it only named the vertex.
 #[derive(Drop)]
 pub struct Part {
     pub vertex: Name,

@@ -3,3 +3,4 @@ pub mod ThreeParts
 pub mod Covered
 pub mod LogSteps
 pub mod RowStamps
+pub mod LeftOpen

@@ -31,6 +31,8 @@ mod shard_row;
 #[cfg(test)]
 mod shard_tests;
 #[cfg(test)]
+mod stopping_tests;
+#[cfg(test)]
 mod store_calls;
 #[cfg(test)]
 mod store_judge_tests;

@@ -1,5 +1,5 @@
 -- The stamps of pairs are both stamps of each pair, and no others.
--- Used by `add`, `ends_are_of_pairs`, Adding and crate order_witness.
+-- Used by `add`, `ends_are_of_pairs` and Adding.
 use Rattle.std.proofs.Common.{◌≡◌, List, [], ◌∷◌, ◌++◌, Contains, ◌⊎◌, inl, inr, refl, ap, subst}
 use Rattle.std.proofs.lemmas.List.Elements.{Contains-append_cases}
 use Rattle.vector_stamp.specs.declared.clock.Stamp.{Stamp}

@@ -1,11 +1,11 @@
--- Which numbers a set of bits has, after one is set or two sets are joined.
--- Used by `bit`, `empty`, `join_words`, `set_bit` and Rows.
+-- Which numbers a set of bits has, after one is set.
+-- Used by `bit`, `empty` and `set_bit`.
 use Rattle.std.proofs.Common.{◌≡◌, ℕ, ◌*◌, ◌/◌, ◌%◌, ◌^◌, ◌<◌, Bool, true, false, ◌||◌, List, get_or, set, length, replicate, eqb, inl, inr, refl, sym, ap, ◌∙◌, arith, eq-eqb, w64}
-use Rattle.std.specs.Prelude.{bit_and, bit_or, max}
+use Rattle.std.specs.Prelude.{bit_and, bit_or}
 use Rattle.std.specs.Int.{bit_at}
-use Rattle.std.proofs.lemmas.Bool.{cases_eq, cases_lt, ne_eqb, or_right, or_from}
+use Rattle.std.proofs.lemmas.Bool.{cases_eq, cases_lt, ne_eqb, or_right}
 use Rattle.std.proofs.lemmas.List.{get_or-set_same, get_or-set_other, get_or-replicate, get_or_past, length-replicate}
-use Rattle.std.proofs.lemmas.Nat.Bits.{bit_at_or, bit_at-lt, bit_at-zero, shr_and_one, bit_at_set_same, bit_at_set_other}
+use Rattle.std.proofs.lemmas.Nat.Bits.{bit_at-zero, shr_and_one, bit_at_set_same, bit_at_set_other}
 use Rattle.order_witness.specs.Bits.{has_bit}
 
 -- the test that the code makes
@@ -17,21 +17,6 @@ tested words word n is = ap (λ x. eqb x 1) (shr_and_one word (n % 64)) ∙ ap (
 pub past : (words : List ℕ) (n : ℕ) → get_or words (n / 64) 0 ≡ 0 → has_bit words n ≡ false
 unfolding has_bit
 past words n none = ap (λ x. eqb (bit_at x (n % 64)) 1) none ∙ ap (λ x. eqb x 1) (bit_at-zero (n % 64))
-
--- the larger of two bits is 1 if one is
-or_test : (a b : ℕ) → a < 2 → b < 2 → eqb (max a b) 1 ≡ (eqb a 1 || eqb b 1)
-or_test a b la lb =
-    elim (cases_eq a 1) [
-      | inl one ↦ elim (cases_eq b 1) [ inl both ↦ rw (one, both) refl | inr other ↦ let none : b ≡ 0 = omega arith in rw (one, none) refl ]
-      | inr other ↦ let none : a ≡ 0 = omega arith in elim (cases_eq b 1) [ inl one ↦ rw (none, one) refl | inr more ↦ let neither : b ≡ 0 = omega arith in rw (none, neither) refl ]
-    ]
-
--- if a number's word is the or of those of two sets, the set has the number exactly if one of the two has it
-pub of_or : (new old other : List ℕ) (n : ℕ) → get_or new (n / 64) 0 ≡ bit_or (get_or old (n / 64) 0) (get_or other (n / 64) 0) → has_bit new n ≡ (has_bit old n || has_bit other n)
-unfolding has_bit
-of_or new old other n is =
-    ap (λ x. eqb (bit_at x (n % 64)) 1) is ∙ ap (λ x. eqb x 1) (bit_at_or (get_or old (n / 64) 0) (get_or other (n / 64) 0) (n % 64))
-    ∙ or_test _ _ (bit_at-lt _ _) (bit_at-lt _ _)
 
 -- in a list of zeroes nothing is set
 pub of_zeroes : (count n : ℕ) → has_bit (replicate count 0) n ≡ false
@@ -72,15 +57,4 @@ of_set words number n within =
                 ∙ ap (λ x. eqb (bit_at (get_or words x 0) (n % 64)) 1) (sym here)
                 ∙ sym (ap (λ b. eqb (bit_at (get_or words (n / 64) 0) (n % 64)) 1 || b) (ne_eqb n number (λ e. other (ap (λ x. x % 64) e))) ∙ other_false _)
           ]
-    ]
-
--- if each word is joined, each number is
-pub of_joined : (new old other : List ℕ) → length new ≡ length old → length old ≡ length other
-    → ((k : ℕ) → k < length old → get_or new k 0 ≡ bit_or (get_or old k 0) (get_or other k 0)) → (n : ℕ) → has_bit new n ≡ (has_bit old n || has_bit other n)
-of_joined new old other same room each n =
-    elim (cases_lt (n / 64) (length old)) [
-      | inl within ↦ of_or new old other n (each (n / 64) within)
-      | inr beyond ↦
-          past new n (get_or_past new (n / 64) 0 (omega arith))
-          ∙ sym (or_from _ _ (past old n (get_or_past old (n / 64) 0 beyond)) (past other n (get_or_past other (n / 64) 0 (omega arith))))
     ]

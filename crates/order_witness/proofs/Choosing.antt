@@ -7,7 +7,7 @@ use Rattle.std.proofs.lemmas.List.{take_more}
 use Rattle.report_rules.specs.declared.report.Report.{Report}
 use Rattle.report_rules.specs.Lookups.{is_in}
 use Rattle.weave_data.proofs.Lists.{all-append, all-map}
-use Rattle.order_witness.specs.Closure.{Test}
+use Rattle.order_witness.specs.Preceding.{Test}
 use Rattle.order_witness.specs.Choices.{IsBest, is_better, is_free, home_at}
 
 is_in-append : (r : ℕ) (xs ys : List ℕ) → IsTrue (is_in r xs) → IsTrue (is_in r (xs ++ ys))

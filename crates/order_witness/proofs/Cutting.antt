@@ -12,7 +12,7 @@ use Rattle.order_witness.specs.declared.heads.Run.{Run}
 use Rattle.order_witness.specs.Begun.{is_request_before}
 use Rattle.order_witness.specs.ByNumber.{list_at}
 use Rattle.order_witness.specs.Heads.{item, is_done, no_run, run_at, AreRising, IsReached, AreCut, IsFirstLeft, IsAdvanced, seen_by_request, AreSeenDone, AreWaiting}
-use Rattle.order_witness.proofs.Placing.{IsStrict, before_trans}
+use Rattle.order_witness.proofs.Strict.{IsStrict, before_trans}
 
 -- One run more
 

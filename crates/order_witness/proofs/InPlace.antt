@@ -1,7 +1,8 @@
 -- If replies have their places, stamps are apart and sessions take turns, each reply is in place.
--- Used by `are_at_places`, `are_surely_in_place` and TurnSteps.
-use Rattle.std.proofs.Common.{◌≡◌, ℕ, ◌<◌, Bool, true, not, ◌&&◌, IsTrue, List, length, take, get_or, Option, Some, None, eqb, ltb, ◌⊎◌, inl, inr, refl, sym, ap, ◌∙◌, subst, arith}
+-- Used by `are_at_places`, `are_surely_in_place`, Topping and TurnSteps.
+use Rattle.std.proofs.Common.{◌≡◌, ℕ, zero, suc, ◌<◌, Bool, true, not, ◌&&◌, IsTrue, List, [], ◌∷◌, ◌++◌, append-nil, length, take, get_or, Option, Some, None, eqb, ltb, ◌⊎◌, inl, inr, refl, sym, ap, ◌∙◌, subst, arith}
 use Rattle.std.specs.Prelude.{slice_get}
+use Rattle.std.specs.List.{AllByRecursion}
 use Rattle.std.specs.Option.{option_and_then}
 use Rattle.std.proofs.lemmas.Bool.{and_parts, and_from, cases_Bool, eqb-true, or_left, or_right, not_from_false}
 use Rattle.std.proofs.lemmas.Option.{slice_get_within}
@@ -12,13 +13,31 @@ use Rattle.program_defs.specs.declared.script.Request.{Request}
 use Rattle.report_rules.specs.declared.report.Reply.{Reply}
 use Rattle.report_rules.specs.Lookups.{is_none_or, are_both, request_at, same_session}
 use Rattle.report_rules.specs.RightReport.{is_home_of, is_reply_in_place, stands_after, are_apart_where_begun, are_begun_in_turn}
-use Rattle.weave_data.specs.Facts.{AllHold, facts_in_turn}
-use Rattle.weave_data.proofs.Lists.{list_all-from}
+use Rattle.weave_data.specs.Facts.{AllHold, facts_after, facts_in_turn}
+use Rattle.weave_data.proofs.Lists.{append-step, list_all-from}
 use Rattle.order_witness.specs.Begun.{stamp_in}
 use Rattle.order_witness.specs.Rising.{AreStampsApart, DoSessionsTakeTurns, AreAtPlaces, is_at_place}
 use Rattle.order_witness.proofs.Numbered.{the_item}
 use Rattle.order_witness.proofs.Replying.{length_front}
-use Rattle.order_witness.proofs.InTurn.{all_in_turn, all_front}
+
+-- Facts, place by place
+
+module _ {A : Type 0} (F : List A → A → Type 0) where
+  facts_from : (before xs : List A) → ((i : ℕ) (x : A) → slice_get xs i ≡ Some x → F (before ++ take i xs) x) → AllHold (facts_after before F xs)
+  facts_from before [] each = tt
+  facts_from before (x ∷ xs) each =
+      (subst (λ b. F b x) (append-nil before) (each 0 x refl), facts_from (before ++ x ∷ []) xs (λ i y at. subst (λ b. F b y) (append-step before x (take i xs)) (each (suc i) y at)))
+
+  -- if the fact about each element and those before it holds, the facts hold in turn
+  pub all_in_turn : (xs : List A) → ((i : ℕ) (x : A) → slice_get xs i ≡ Some x → F (take i xs) x) → AllHold (facts_in_turn F xs)
+  all_in_turn xs each = facts_from [] xs each
+
+module _ {A : Type 0} (P : A → Type 0) where
+  -- what holds of each element before a place holds of the list up to that place
+  pub all_front : (i : ℕ) (xs : List A) → ((k : ℕ) (x : A) → k < i → slice_get xs k ≡ Some x → P x) → AllByRecursion P (take i xs)
+  all_front zero xs each = tt
+  all_front (suc i) [] each = tt
+  all_front (suc i) (x ∷ xs) each = (each 0 x (omega arith) refl, all_front i xs (λ k y below at. each (suc k) y (omega (arith, below)) at))
 
 -- if the replies before place i are at their places and the one there is, all up to it are
 pub place_more : (script : Script) (replies : List Reply) (i : ℕ) (item : Reply) → item ≡ get_or replies i item → AreAtPlaces script replies i → IsTrue (is_at_place script i item) → (k : ℕ) (reply : Reply) → (k < i) ⊎ (k ≡ i) → slice_get replies k ≡ Some reply → IsTrue (is_at_place script k reply)

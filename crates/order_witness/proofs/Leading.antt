@@ -1,5 +1,5 @@
 -- The heads of the runs: which requests can be next, and what stays so while requests are taken.
--- Used by `next`, Covering and Taking.
+-- Used by `mark_ends`, `next`, `row_of`, Acyclic, Listed, TakenTurns and Taking.
 use Rattle.std.proofs.Common.{◌≡◌, ℕ, zero, suc, ◌<◌, ◌≤◌, Bool, true, false, not, cond, ◌&&◌, IsTrue, Contains, List, [], ◌∷◌, length, Option, Some, None, eqb, ltb, ◌⊎◌, inl, inr, refl, sym, ap, ◌∙◌, subst, arith}
 use Rattle.std.specs.Prelude.{nat_eq, slice_get, slice_set}
 use Rattle.std.specs.List.{list_any, filter, cons_option}
@@ -24,7 +24,7 @@ use Rattle.order_witness.specs.ByNumber.{list_at}
 use Rattle.order_witness.specs.Choices.{IsBest, requests_begun, is_free, home_at}
 use Rattle.order_witness.specs.Heads.{item, is_done, requests_left, run_at, heads_of, seen_by_request, is_ready, AreWaiting}
 use Rattle.order_witness.proofs.BegunLaws.{AreClosed, both_there, there_both, joined_given, given_joined, trans}
-use Rattle.order_witness.proofs.Placing.{IsStrict, before_trans}
+use Rattle.order_witness.proofs.Strict.{IsStrict, before_trans}
 use Rattle.order_witness.proofs.Printing.{IsBegun, all_at, all_from, any_in, kept_in, all_begun}
 use Rattle.order_witness.proofs.Replying.{differ, is_numbered, reply_of}
 use Rattle.order_witness.proofs.Testing.{way}

@@ -1,9 +1,7 @@
 pub mod BitLemmas
-pub mod ClosureSteps
-pub mod Rows
 pub mod Named
-pub mod Bases
 pub mod Counts
+pub mod Strict
 pub mod BegunLaws
 pub mod Loops
 pub mod Testing
@@ -16,9 +14,8 @@ pub mod Marking
 pub mod RefusalTests
 pub mod Replying
 pub mod Choosing
+pub mod OneHome
 pub mod Printing
-pub mod Placing
-pub mod InTurn
 pub mod RisingSteps
 pub mod Cutting
 pub mod Leading
@@ -26,6 +23,12 @@ pub mod Taking
 pub mod InPlace
 pub mod Seeing
 pub mod TurnSteps
-pub mod BegunCoherent
 pub mod Visiting
-pub mod Covering
+pub mod Walking
+pub mod Topping
+pub mod Ways
+pub mod Listed
+pub mod Rowing
+pub mod TakenTurns
+pub mod Acyclic
+pub mod Nearest

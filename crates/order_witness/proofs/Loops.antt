@@ -1,5 +1,5 @@
 -- A loop over the places of a clause: so far each fact holds, and the first that doesn't ends it.
--- Used by `first_fault`, `first_out_of_place` and `is_kept_by`.
+-- Used by `first_fault` and `first_out_of_place`.
 use Rattle.std.proofs.Common.{◌≡◌, ℕ, zero, suc, ◌+◌, ◌<◌, List, [], ◌∷◌, ◌++◌, length, take, get_or, refl, sym, ap, subst, arith}
 use Rattle.weave_data.specs.Facts.{Facts, AllHold, BreaksFirstAt, facts_after, facts_in_turn, facts_of_each}
 use Rattle.weave_data.proofs.FactsLaws.{holds_step, breaks_at, hold-append}

@@ -1,6 +1,6 @@
 -- A table with a list for each number, as `empty_lists`, `commits_by_number` and `refusals_by_number` fill it in loops.
--- Used by `begun_by_stamps`, `commits_by_number`, `do_numbers_take_turns`, `empty_lists`, `first_fault`, `marks_of`,
--- `pairs_by_later`, `refusals_by_number`, `the_only` and InPlace.
+-- Used by `after_commits`, `begun_by_stamps`, `commits_by_number`, `empty_lists`, `first_fault`,
+-- `keep_before_commits`, `link_between`, `marks_of`, `pairs_by_later`, `refusals_by_number`, `the_only` and InPlace.
 use Rattle.std.proofs.Common.{◌≡◌, ℕ, suc, ◌+◌, ◌<◌, ◌≤◌, cond, List, [], ◌∷◌, ◌++◌, length, take, get_or, map, Option, Some, None, eqb, inl, inr, refl, sym, ap, ◌∙◌, subst, arith, Contains}
 use Rattle.std.specs.Prelude.{slice_get}
 use Rattle.std.specs.List.{filter, cons_option}

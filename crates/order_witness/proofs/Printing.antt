@@ -1,5 +1,5 @@
 -- The requests taken in turn are the printed order.
--- Used by `take_all`, Leading and Taking.
+-- Used by `take_all`, Leading, Listed, TakenTurns, Taking and Topping.
 use Rattle.std.proofs.Common.{◌≡◌, ℕ, suc, ◌<◌, ◌≤◌, Bool, true, false, not, cond, IsTrue, List, [], ◌∷◌, ◌++◌, length, Option, Some, None, eqb, ◌⊎◌, inl, inr, refl, sym, ap, ◌∙◌, subst, arith}
 use Rattle.std.specs.Prelude.{nat_eq, slice_get}
 use Rattle.std.specs.List.{list_any, filter, cons_option, AllByRecursion}
@@ -16,11 +16,11 @@ use Rattle.report_rules.specs.RightReport.{replies_clause}
 use Rattle.report_rules.specs.PrintedOrder.{IsFree, IsOfLesserHome, IsNext, without_request, TakesAll}
 use Rattle.report_rules.specs.Lookups.{is_in, AreBoth, stamp_at, given_pairs, RequestPrecedes}
 use Rattle.report_rules.proofs.Precedence.{IsDecided}
-use Rattle.order_witness.specs.Closure.{Test, IsTransitive}
+use Rattle.order_witness.specs.Preceding.{Test, IsTransitive}
 use Rattle.order_witness.specs.Begun.{request_precedes}
 use Rattle.order_witness.specs.Choices.{IsBest, requests_begun, is_free, home_in, home_at}
 use Rattle.order_witness.proofs.BegunLaws.{AreClosed, trans}
-use Rattle.order_witness.proofs.BegunCoherent.{one_home}
+use Rattle.order_witness.proofs.OneHome.{one_home}
 use Rattle.order_witness.proofs.Testing.{way, tested}
 use Rattle.order_witness.proofs.Replying.{is_numbered}
 

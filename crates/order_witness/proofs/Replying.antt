@@ -1,6 +1,6 @@
 -- What the clause on replies gives: reply i is of request i, and begun requests have stamps apart.
--- Used by `first_fault`, `judged_precedence`, BegunCoherent, InPlace, InTurn, Leading, Printing, Taking, TurnSteps and
--- Visiting.
+-- Used by `chain_between`, `first_fault`, `order_of`, Acyclic, InPlace, Leading, OneHome, Printing, TakenTurns,
+-- Taking, TurnSteps and Visiting.
 use Rattle.std.proofs.Common.{◌≡◌, ℕ, zero, suc, ◌<◌, false, ◌||◌, ◌&&◌, IsTrue, List, [], ◌∷◌, ◌++◌, length, take, Option, Some, None, eqb, ltb, inl, inr, refl, sym, ap, ◌∙◌, subst, arith, append-nil}
 use Rattle.std.specs.Prelude.{slice_get}
 use Rattle.std.specs.List.{list_all}

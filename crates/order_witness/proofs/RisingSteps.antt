@@ -1,6 +1,6 @@
 -- What tests of neighbours say of all, if they are transitive.
 -- Used by `are_stamps_apart`, `begun_by_stamps`, `do_sessions_take_turns`, `places_by_stamps`, `requests_by_session`,
--- `sessions_rise`, `stamps_rise` and BegunCoherent.
+-- `sessions_rise`, `stamps_rise` and Ways.
 use Rattle.std.proofs.Common.{◌≡◌, ◌≢◌, ℕ, zero, suc, ◌+◌, ◌-◌, ◌<◌, Bool, not, ◌||◌, ◌&&◌, ◌==◌, IsTrue, AllPairs, Contains, List, [], ◌∷◌, ◌++◌, length, map, get_or, Option, Some, None, eqb, ltb, ◌⊎◌, inl, inr, refl, sym, ◌∙◌, subst, arith}
 use Rattle.std.specs.Prelude.{slice_get, slice_index, nat_lt}
 use Rattle.std.specs.List.Sorted.{IsPermutation}
@@ -20,7 +20,7 @@ use Rattle.weave_data.proofs.Members.{has_head}
 use Rattle.weave_data.proofs.Ordered.{pairs_cases}
 use Rattle.order_witness.specs.Begun.{stamp_in}
 use Rattle.order_witness.specs.Rising.{stamp_entry, session_entry, comes_before, request_comes_before, session_comes_before, AreInTurnTo, AreStampsApart, DoSessionsTakeTurns}
-use Rattle.order_witness.proofs.Placing.{IsStrict}
+use Rattle.order_witness.proofs.Strict.{IsStrict}
 
 -- Neighbours, and all
 

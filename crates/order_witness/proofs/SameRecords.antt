@@ -1,7 +1,7 @@
 -- Answers that compare equal are equal.
--- Used by `replay_program`, `same_in_turn`, `same_pairs` and Replays.
+-- Used by `judge_answer`, `same_in_turn`, `same_pairs` and Replays.
 use Rattle.std.proofs.Common.{◌≡◌, ℕ, Bool, true, false, ◌&&◌, IsTrue, List, [], ◌∷◌, Option, Some, None, length, eqb, refl, sym, ap, subst, ◌∙◌, arith}
-use Rattle.std.specs.Prelude.{MatchBool}
+use Rattle.std.specs.Prelude.{MatchBool, ◌↔◌}
 use Rattle.std.specs.Cmp.{eq_by_cmp_equiv}
 use Rattle.std.specs.Cmp.Lexicographic.{pointwise, nat_list_cmp_total}
 use Rattle.std.specs.List.{list_all, zip}
@@ -14,10 +14,11 @@ use Rattle.graph_ops.specs.declared.record.Edge.{Edge}
 use Rattle.graph_ops.specs.declared.tx.Got.{Got}
 use Rattle.graph_ops.specs.contracts.record.RecordPartialEq.TheImpl as record_eq
 use Rattle.graph_ops.specs.PlainGraph.{PlainGraph}
-use Rattle.program_defs.specs.PlainAnswer.{IsPlainAnswer}
+use Rattle.program_defs.specs.PlainAnswer.{IsPlainAnswer, is_price}
 use Rattle.program_defs.specs.declared.program.Program.{Program}
+use Rattle.program_defs.specs.declared.program.Program.TheVariants.{Show, Reach, Around, Path, Price}
 use Rattle.program_defs.specs.declared.program.Answer.{Answer}
-use Rattle.program_defs.specs.declared.program.Answer.TheVariants.{Shown, Reached, Found, Walk}
+use Rattle.program_defs.specs.declared.program.Answer.TheVariants.{Shown, Reached, Found, Walk, Priced}
 use Rattle.order_witness.specs.Answers.{same_names, same_edge, same_record, same_got, same_truth, same_outcome}
 
 -- a test whether two values are equal
@@ -149,34 +150,66 @@ outcome_one (Shown a) (Shown b) h = ap Shown ((options_tell same_record records_
 outcome_one (Shown a) (Reached b) h = cc
 outcome_one (Shown a) (Found b) h = cc
 outcome_one (Shown a) (Walk b) h = cc
+outcome_one (Shown a) (Priced walk total bounds) h = cc
 outcome_one (Reached a) (Shown b) h = cc
 outcome_one (Reached a) (Reached b) h = ap Reached (truth_one a b h)
 outcome_one (Reached a) (Found b) h = cc
 outcome_one (Reached a) (Walk b) h = cc
+outcome_one (Reached a) (Priced walk total bounds) h = cc
 outcome_one (Found a) (Shown b) h = cc
 outcome_one (Found a) (Reached b) h = cc
 outcome_one (Found a) (Found b) h = ap Found ((lists_tell same_name names_tell).one a b h)
 outcome_one (Found a) (Walk b) h = cc
+outcome_one (Found a) (Priced walk total bounds) h = cc
 outcome_one (Walk a) (Shown b) h = cc
 outcome_one (Walk a) (Reached b) h = cc
 outcome_one (Walk a) (Found b) h = cc
 outcome_one (Walk a) (Walk b) h = ap Walk (walks_tell.one a b h)
+outcome_one (Walk a) (Priced walk total bounds) h = cc
+outcome_one (Priced walk total bounds) (Shown b) h = cc
+outcome_one (Priced walk total bounds) (Reached b) h = cc
+outcome_one (Priced walk total bounds) (Found b) h = cc
+outcome_one (Priced walk total bounds) (Walk b) h = cc
+outcome_one (Priced walk total bounds) (Priced other price more) h = cc
 
-outcome_itself : (a : Answer) → IsTrue (same_outcome a a)
-outcome_itself (Shown a) = (options_tell same_record records_tell).itself a
-outcome_itself (Reached a) = truth_itself a
-outcome_itself (Found a) = (lists_tell same_name names_tell).itself a
-outcome_itself (Walk a) = walks_tell.itself a
+-- an answer that is compared: one to a program other than `price`
+IsCompared : Answer → Type 0
+IsCompared (Shown a) = Unit {0}
+IsCompared (Reached a) = Unit {0}
+IsCompared (Found a) = Unit {0}
+IsCompared (Walk a) = Unit {0}
+IsCompared (Priced walk total bounds) = ⊥
 
--- the test of sameness of the answers of programs passes exactly if they are equal
-pub outcomes_tell : Tells same_outcome
-outcomes_tell = record { one = outcome_one; itself = outcome_itself }
+outcome_itself : (a : Answer) → IsCompared a → IsTrue (same_outcome a a)
+unfolding IsCompared
+outcome_itself (Shown a) c = (options_tell same_record records_tell).itself a
+outcome_itself (Reached a) c = truth_itself a
+outcome_itself (Found a) c = (lists_tell same_name names_tell).itself a
+outcome_itself (Walk a) c = walks_tell.itself a
+outcome_itself (Priced walk total bounds) c = absurd c
+
+is_compared : (graph : PlainGraph) (program : Program) (a : Answer) → is_price program ≡ false → IsPlainAnswer graph program a → IsCompared a
+unfolding IsCompared
+is_compared graph program (Shown a) other is = tt
+is_compared graph program (Reached a) other is = tt
+is_compared graph program (Found a) other is = tt
+is_compared graph program (Walk a) other is = tt
+is_compared graph (Show v) (Priced walk total bounds) other is = is
+is_compared graph (Reach from to pass) (Priced walk total bounds) other is = is
+is_compared graph (Around from bound pass) (Priced walk total bounds) other is = is
+is_compared graph (Path from to bound pass) (Priced walk total bounds) other is = is
+is_compared graph (Price from to key) (Priced walk total bounds) other is = cc
+
+-- a test that passes exactly if something is so says whether it is
+pub said_by_test : (b : Bool) (P : Type 0) → IsTrue b ↔ P → MatchBool b P (¬ P)
+said_by_test true P h = h.0 refl
+said_by_test false P h = λ is. let e = h.1 is in cc
 
 -- since a program has one plain answer at most, the comparison says whether the reply has it
 pub answered : ((graph : PlainGraph) (program : Program) (a b : Answer) → IsPlainAnswer graph program a → IsPlainAnswer graph program b → a ≡ b)
-    → (graph : PlainGraph) (program : Program) (found said : Answer) → IsPlainAnswer graph program found → MatchBool (same_outcome found said) (IsPlainAnswer graph program said) (¬ IsPlainAnswer graph program said)
-answered one graph program found said is = by_test (same_outcome found said) refl
+    → (graph : PlainGraph) (program : Program) (found said : Answer) → is_price program ≡ false → IsPlainAnswer graph program found → MatchBool (same_outcome found said) (IsPlainAnswer graph program said) (¬ IsPlainAnswer graph program said)
+answered one graph program found said other is = by_test (same_outcome found said) refl
   where
     by_test : (b : Bool) → same_outcome found said ≡ b → MatchBool b (IsPlainAnswer graph program said) (¬ IsPlainAnswer graph program said)
     by_test true e = subst (IsPlainAnswer graph program) (outcome_one found said e) is
-    by_test false e = λ too. both_ways _ e (subst (λ (a : Answer). IsTrue (same_outcome found a)) (one graph program found said is too) (outcome_itself found))
+    by_test false e = λ too. both_ways _ e (subst (λ (a : Answer). IsTrue (same_outcome found a)) (one graph program found said is too) (outcome_itself found (is_compared graph program found other is)))

@@ -1,6 +1,6 @@
 -- The begun requests are taken one after another: at first none is done, each turn one more, and in the end all are,
 -- or not all if a request precedes itself.
--- Used by `take_all` and `taken_in_turn`.
+-- Used by `listed`, `take_all`, `taken_in_turn`, Nearest, TakenTurns and Ways.
 use Rattle.std.proofs.Common.{◌≡◌, ℕ, zero, suc, ◌<◌, Bool, true, false, not, cond, IsTrue, Contains, List, [], ◌∷◌, length, map, replicate, Option, Some, None, inl, inr, refl, sym, ap, ◌∙◌, arith}
 use Rattle.std.specs.Prelude.{is_some, slice_get, slice_set}
 use Rattle.std.specs.List.{list_all, filter, AllByRecursion}
@@ -15,7 +15,7 @@ use Rattle.report_rules.specs.declared.report.Reply.{Reply}
 use Rattle.weave_data.specs.Facts.{AllHold}
 use Rattle.weave_data.proofs.Members.{has_none, has_read}
 use Rattle.report_rules.specs.RightReport.{replies_clause}
-use Rattle.report_rules.specs.PrintedOrder.{IsNext, IsPrintedOrder, TakesAll, begun_requests, without_request}
+use Rattle.report_rules.specs.PrintedOrder.{IsNext, TakesAll, begun_requests, without_request}
 use Rattle.report_rules.specs.Lookups.{is_in, is_some_and, is_committed_or_finished, may_be_listed, stamp_at, given_pairs, RequestPrecedes}
 use Rattle.report_rules.proofs.Precedence.{IsDecided}
 use Rattle.order_witness.specs.declared.heads.Run.{Run}
@@ -23,10 +23,11 @@ use Rattle.order_witness.specs.Begun.{request_precedes, stamp_in, NonePrecedesIt
 use Rattle.order_witness.specs.ByNumber.{list_at}
 use Rattle.order_witness.specs.Choices.{IsBest, requests_begun}
 use Rattle.order_witness.specs.Heads.{item, is_done, requests_left, AreRising, IsReached, listed_in, seen_by_request, AreEarlierEnds, AreWaiting}
+use Rattle.order_witness.specs.Rows.{AreAllTurns}
 use Rattle.order_witness.proofs.BegunLaws.{AreClosed, both_there}
 use Rattle.order_witness.proofs.Leading.{begun_there, left_there, left_begun, left_without}
 use Rattle.order_witness.proofs.Printing.{AreTaken, IsBegun, all_at, all_from, any_in, all_begun, all_taken, is_next, none_left, taken_itself}
-use Rattle.order_witness.proofs.Replying.{is_numbered, reply_of}
+use Rattle.order_witness.proofs.Replying.{reply_of}
 use Rattle.order_witness.proofs.Testing.{tested}
 
 -- Tests of all
@@ -43,7 +44,7 @@ done_all [] f = refl
 done_all (x ∷ xs) f = and_from x (list_all (λ is. is) xs) (f 0) (done_all xs (λ r. f (suc r)))
 
 -- the place of a member
-place_of : (xs : List ℕ) (r : ℕ) → Contains xs r → (k : ℕ) × (k < length xs) × (item xs k ≡ r)
+pub place_of : (xs : List ℕ) (r : ℕ) → Contains xs r → (k : ℕ) × (k < length xs) × (item xs k ≡ r)
 place_of [] r h = absurd (has_none r h)
 place_of (x ∷ xs) r h =
     elim (has_read x xs r h) [
@@ -115,6 +116,16 @@ module _ (report : Report) (done : List Bool) (done_is : done ≡ map never repo
     closed = λ r left s at is_done_r left_is. absurd (both_ways _ (not_done r s at) is_done_r);
   }
 
+-- The order
+
+-- what is put at the end of the order
+pub listed_one : (report : Report) (r : ℕ) → ((reply : Reply) → slice_get report.replies r ≡ Some reply → reply.request ≡ r) → listed_in (slice_get report.replies r) ≡ filter (may_be_listed report) (r ∷ [])
+listed_one report r own = of_option (slice_get report.replies r) own
+  where
+    of_option : (o : Option Reply) → ((reply : Reply) → o ≡ Some reply → reply.request ≡ r) → listed_in o ≡ cond (is_some_and (λ (reply : Reply). is_committed_or_finished reply.state) o) (r ∷ []) []
+    of_option None own = refl
+    of_option (Some reply) own = ap (λ n. cond (is_committed_or_finished reply.state) (n ∷ []) []) (own reply refl)
+
 -- One turn
 
 module _ (script : Script) (report : Report) (holds : AllHold (replies_clause script report)) (decided : IsDecided) (all_closed : AreClosed) where
@@ -173,23 +184,14 @@ module _ (script : Script) (report : Report) (holds : AllHold (replies_clause sc
           ];
     }
 
-    -- what is put at the end of the order
-    pub listed_then : listed_in (slice_get report.replies best) ≡ filter (may_be_listed report) (best ∷ [])
-    listed_then =
-        let reply = reply_of script report holds best best_begun.0 best_begun.1 in
-        ap listed_in reply.1 ∙ ap (λ n. cond (is_committed_or_finished reply.0.state) (n ∷ []) []) (is_numbered script report holds best reply.0 reply.1)
-        ∙ ap (λ (o : Option Reply). cond (is_some_and (λ (r : Reply). is_committed_or_finished r.state) o) (best ∷ []) []) (sym reply.1)
-
   -- The end
 
-  -- once all are done, those taken that may be listed are the printed order, and no request precedes itself
-  pub in_the_end : (done : List Bool) (taken order : List ℕ) → AreTaken report (begun_requests report) taken (requests_left report done) → order ≡ filter (may_be_listed report) taken → ((r : ℕ) → is_done done r ≡ true) → IsPrintedOrder report order × NonePrecedesItself report
-  in_the_end done taken order in_turn listed all =
+  -- once all are done, the requests taken are all the begun ones, and no request precedes itself
+  pub in_the_end : (done : List Bool) (taken : List ℕ) → AreTaken report (begun_requests report) taken (requests_left report done) → ((r : ℕ) → is_done done r ≡ true) → AreAllTurns report taken
+  in_the_end done taken in_turn all =
       let none : requests_left report done ≡ [] = filter_none (requests_begun report.replies) in
-      let takes : TakesAll report (begun_requests report) taken = all_taken report (begun_requests report) taken (requests_left report done) in_turn none in (
-        record { taken = taken; in_turn = takes; listed = listed },
-        λ r h. taken_itself report taken (begun_requests report) takes r (begun_of r h) h,
-      )
+      let takes : TakesAll report (begun_requests report) taken = all_taken report (begun_requests report) taken (requests_left report done) in_turn none in
+      (takes, λ r h. taken_itself report taken (begun_requests report) takes r (begun_of r h) h)
     where
       filter_none : (xs : List ℕ) → filter (λ r. not (is_done done r)) xs ≡ []
       filter_none xs = none_passes (λ r. not (is_done done r)) (λ r. ap not (all r)) xs

@@ -1,11 +1,10 @@
 -- What the code tests, and what the clauses say.
--- Used by `commit`, `first_fault`, `first_out_of_place`, `is_refused`, `replay`, Covering, Leading, Printing,
--- Replying, Taking and Visiting.
-use Rattle.std.proofs.Common.{◌≡◌, ℕ, zero, suc, ◌<◌, Bool, true, false, get_or, length, ap, arith, not, ◌||◌, ◌&&◌, IsTrue, List, [], ◌∷◌, Option, Some, None, refl, sym, ◌∙◌, subst}
-use Rattle.std.specs.Prelude.{slice_get, nat_lt}
-use Rattle.std.specs.List.{list_all, AllByRecursion}
-use Rattle.std.proofs.lemmas.Bool.{and_parts, and_from, both_ways, not-true, not_from_false, false_from_ne_true}
-use Rattle.weave_data.proofs.Lists.{each_from}
+-- Used by `commit`, `first_fault`, `first_out_of_place`, `is_refused`, `replay`, Acyclic, Leading, Printing, Replying,
+-- TakenTurns, Taking, Visiting and Ways.
+use Rattle.std.proofs.Common.{◌≡◌, ℕ, zero, suc, ◌<◌, Bool, true, false, get_or, length, ap, arith, not, ◌&&◌, IsTrue, List, [], ◌∷◌, Option, Some, None, refl, sym, ◌∙◌, subst}
+use Rattle.std.specs.Prelude.{slice_get}
+use Rattle.std.specs.List.{list_all}
+use Rattle.std.proofs.lemmas.Bool.{and_parts, and_from}
 use Rattle.vector_stamp.specs.declared.clock.Stamp.{Stamp}
 use Rattle.vector_stamp.specs.Order.{stamp_before, unordered}
 use Rattle.vector_stamp.specs.Precedence.{GivenPair, Precedes, precedes}
@@ -22,34 +21,30 @@ use Rattle.report_rules.specs.declared.report.ReplyState.TheVariants.{Unbegun, B
 use Rattle.program_defs.specs.Visits.{IsVisited}
 use Rattle.report_rules.specs.Replay.{graph_at_place}
 use Rattle.report_rules.specs.Lookups.{are_both, AreBoth, request_at, reply_at, stamp_at, same_session, request_names_vertex, given_pairs, RequestPrecedes}
-use Rattle.report_rules.specs.RightReport.{IsListedInOrder, IsConflictInPlace, conflicts_clause, IsPairInPlace, MayBeLaterAt, is_committed_and_names}
+use Rattle.report_rules.specs.RightReport.{IsConflictInPlace, conflicts_clause, IsPairInPlace, MayBeLaterAt, is_committed_and_names}
 use Rattle.report_rules.proofs.Precedence.{IsDecided}
 use Rattle.weave_data.specs.Facts.{AllHold, facts_of_each}
-use Rattle.order_witness.specs.Closure.{Test}
-use Rattle.order_witness.specs.Begun.{request_precedes, is_request_before, is_listed_in_order, is_conflict_in_place}
+use Rattle.order_witness.specs.Preceding.{Test}
+use Rattle.order_witness.specs.Begun.{request_precedes, is_request_before, is_conflict_in_place}
 use Rattle.order_witness.specs.Judgement.{has_numbered_operations, is_numbered_work}
 use Rattle.order_witness.specs.Refusals.{Marks}
 use Rattle.order_witness.specs.Visited.{IsMarkedPair, MarksVisit, is_pair_in_place, may_be_later}
 
 -- Precedence
 
-way_of : IsDecided → (pairs : List GivenPair) (a b : Option Stamp) → IsTrue (are_both (precedes pairs) a b) → AreBoth (Precedes pairs) a b
+-- if both stamps are there and the test of precedence holds of them, the first precedes the second
+pub way_of : IsDecided → (pairs : List GivenPair) (a b : Option Stamp) → IsTrue (are_both (precedes pairs) a b) → AreBoth (Precedes pairs) a b
 way_of decided pairs None b h = cc
 way_of decided pairs (Some x) None h = cc
 way_of decided pairs (Some x) (Some y) h = (decided pairs x y).1 h
 
-test_of : IsDecided → (pairs : List GivenPair) (a b : Option Stamp) → AreBoth (Precedes pairs) a b → IsTrue (are_both (precedes pairs) a b)
+-- and if the first precedes the second, the test holds
+pub test_of : IsDecided → (pairs : List GivenPair) (a b : Option Stamp) → AreBoth (Precedes pairs) a b → IsTrue (are_both (precedes pairs) a b)
 test_of decided pairs None b h = absurd h
 test_of decided pairs (Some x) None h = absurd h
 test_of decided pairs (Some x) (Some y) h = (decided pairs x y).0 h
 
 -- Lists
-
-module _ {A : Type 0} (test : A → Bool) (P : A → Type 0) where
-  -- if each value of which the fact holds passes the test, a list all of which have it passes throughout
-  pub each_to : ((x : A) → P x → IsTrue (test x)) → (xs : List A) → AllByRecursion P xs → IsTrue (list_all test xs)
-  each_to f [] h = refl
-  each_to f (x ∷ xs) h = and_from _ _ (f x h.0) (each_to f xs h.1)
 
 module _ {A : Type 0} (test : A → Bool) where
   -- of a list that passes throughout, the element at each place passes
@@ -69,31 +64,6 @@ module _ (decided : IsDecided) (script : Script) (report : Report) (precedence :
   -- and what precedes passes the test
   pub tested : (a b : ℕ) → RequestPrecedes report a b → IsTrue (precedence a b)
   tested a b h = same a b ∙ test_of decided (given_pairs report) (stamp_at report a) (stamp_at report b) h
-
-  no_way : (a b : ℕ) → IsTrue (not (precedence a b)) → ¬ RequestPrecedes report a b
-  no_way a b h leads = both_ways _ (not-true _ h) (tested a b leads)
-
-  not_tested : (a b : ℕ) → ¬ RequestPrecedes report a b → IsTrue (not (precedence a b))
-  not_tested a b none = not_from_false _ (false_from_ne_true _ (λ h. none (way a b h)))
-
-  -- Order
-
-  sessions : List ℕ → ℕ → Bool
-  sessions before r = list_all (λ earlier. not (same_session script earlier r) || nat_lt earlier r) before
-
-  -- a request that passes the test of the order is listed in order
-  pub listed_fact : (before : List ℕ) (r : ℕ) → IsTrue (is_listed_in_order script precedence before r) → IsListedInOrder script report before r
-  listed_fact before r h =
-      let parts = and_parts (not (precedence r r) && list_all (λ earlier. not (precedence r earlier)) before) _ h in
-      let first = and_parts (not (precedence r r)) (list_all (λ earlier. not (precedence r earlier)) before) parts.0 in
-      ((no_way r r first.0, each_from (λ earlier. not (precedence r earlier)) (λ earlier. ¬ RequestPrecedes report r earlier) (λ earlier. no_way r earlier) before first.1), parts.1)
-
-  -- and one that is listed in order passes the test
-  pub listed_test : (before : List ℕ) (r : ℕ) → IsListedInOrder script report before r → IsTrue (is_listed_in_order script precedence before r)
-  listed_test before r h =
-      and_from _ _
-      (and_from _ _ (not_tested r r h.0.0) (each_to (λ earlier. not (precedence r earlier)) (λ earlier. ¬ RequestPrecedes report r earlier) (λ earlier. not_tested r earlier) before h.0.1))
-      h.1
 
   -- Conflicts
 

@@ -32,7 +32,7 @@ abbrev pub same_truth : Bool → Bool → Bool
 same_truth true b = b
 same_truth false b = not b
 
--- the same answer of a program
+-- the same answer of a program other than `price`
 abbrev pub same_outcome : Answer → Answer → Bool
 same_outcome (Shown a) (Shown b) = option_eq same_record a b
 same_outcome (Reached a) (Reached b) = same_truth a b

@@ -1,6 +1,6 @@
 -- Precedence between the begun requests of a report, as a test.
-use Rattle.std.specs.Prelude.{◌≡◌, ℕ, Bool, true, ◌&&◌, ◌||◌, not, nat_lt, ◌==◌, List, Option, Some, is_some, slice_get}
-use Rattle.std.specs.List.{list_any, list_all, filter_map}
+use Rattle.std.specs.Prelude.{◌≡◌, ℕ, Bool, true, ◌&&◌, not, ◌==◌, List, Option, Some, is_some, slice_get}
+use Rattle.std.specs.List.{list_any, filter_map}
 use Rattle.std.specs.Option.{option_and_then}
 use Rattle.vector_stamp.specs.declared.clock.Stamp.{Stamp}
 use Rattle.vector_stamp.specs.Order.{stamp_before}
@@ -12,7 +12,7 @@ use Rattle.report_rules.specs.declared.report.ReplyState.{ReplyState}
 use Rattle.report_rules.specs.declared.report.ReplyState.TheVariants.{Conflict}
 use Rattle.program_defs.specs.declared.script.Script.{Script}
 use Rattle.report_rules.specs.RightReport.{is_committed_and_names}
-use Rattle.report_rules.specs.Lookups.{is_some_and, are_both, committed_number, same_session, request_names_vertex, stamp_at, given_pairs, RequestPrecedes}
+use Rattle.report_rules.specs.Lookups.{are_both, committed_number, same_session, request_names_vertex, stamp_at, given_pairs, RequestPrecedes}
 
 -- one request precedes another, both begun
 abbrev pub request_precedes : Report → ℕ → ℕ → Bool
@@ -29,20 +29,6 @@ NonePrecedesItself report = (r : ℕ) → ¬ RequestPrecedes report r r
 -- the stamp of a reply of the list
 abbrev pub stamp_in : List Reply → ℕ → Option Stamp
 stamp_in replies r = option_and_then (λ (reply : Reply). reply.stamp) (slice_get replies r)
-
--- the stamp is before that of the reply. No public contract cites this.
-abbrev pub is_before_reply : Stamp → Reply → Bool
-is_before_reply stamp reply = is_some_and (stamp_before stamp) reply.stamp
-
--- the stamp is before that of reply r of the list. No public contract cites this.
-abbrev pub is_before_in : List Reply → Stamp → ℕ → Bool
-is_before_in replies stamp r = is_some_and (is_before_reply stamp) (slice_get replies r)
-
--- the stamp of reply a of the first list is before that of reply b of the second. No public contract cites this.
-abbrev pub stamps_lead : List Reply → List Reply → ℕ → ℕ → Bool
-stamps_lead replies others a b =
-    is_some_and (λ (reply : Reply). is_some_and (λ stamp. is_before_in others stamp b) reply.stamp)
-    (slice_get replies a)
 
 -- the pair joins these two, and both its ends are begun
 abbrev pub is_pair_between : List Reply → ℕ → ℕ → Pair → Bool
@@ -61,13 +47,6 @@ numbers_in replies = filter_map (λ (reply : Reply). committed_number reply.stat
 -- one request's stamp is before the other's, both begun
 abbrev pub is_request_before : Report → ℕ → ℕ → Bool
 is_request_before report a b = are_both stamp_before (stamp_at report a) (stamp_at report b)
-
--- by this precedence, a listed request precedes neither itself nor one listed before it, and the listed requests of its
--- session before it are earlier ones. No public contract cites this.
-abbrev pub is_listed_in_order : Script → (ℕ → ℕ → Bool) → List ℕ → ℕ → Bool
-is_listed_in_order script precedence before r =
-    not (precedence r r) && list_all (λ earlier. not (precedence r earlier)) before
-    && list_all (λ earlier. not (same_session script earlier r) || nat_lt earlier r) before
 
 -- by this precedence, the newer request of a conflict is a committed transaction of another session, both name the
 -- vertex, and the aborted one precedes it. No public contract cites this.

@@ -1,5 +1,4 @@
 pub mod Bits
-pub mod Closure
 pub mod Begun
 pub mod Judgement
 pub mod Answers
@@ -7,11 +6,14 @@ pub mod Replay
 pub mod Refusals
 pub mod Choices
 pub mod Heads
-pub mod Places
 pub mod ByNumber
 pub mod Rising
 pub mod Seen
 pub mod Turns
-pub mod PairPrecedence
-pub mod Latest
 pub mod Visited
+pub mod Preceding
+pub mod Marks
+pub mod Tops
+pub mod Rows
+pub mod Chains
+pub mod Spreading

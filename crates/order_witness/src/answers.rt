@@ -33,7 +33,7 @@ fn same_answer(answer: &Got, other: &Got) -> bool
     answer.op == other.op && answer.state == other.state
 }
 
-/// Whether a program's answers are the same.
+/// Whether a program's answers are the same. Those to `price` aren't compared: the answer is `false`.
 pub fn same_outcome(answer: &Answer, other: &Answer) -> bool
     ensures { result ≡ same_outcome answer.now other.now }
 {
@@ -42,6 +42,7 @@ pub fn same_outcome(answer: &Answer, other: &Answer) -> bool
         Answer::Reached(reached) => is_reached(*reached, other),
         Answer::Found(vertices) => is_found(vertices.as_slice(), other),
         Answer::Walk(walk) => is_walk(walk, other),
+        Answer::Priced { .. } => false,
     }
 }
 

@@ -30,15 +30,6 @@ impl Row {
         })
     }
 
-    /// The same set.
-    pub fn copied(&self, alloc: Global) -> Result<Row, AllocError>
-        ensures { IfOk result (λ row. row ≡ self.now) }
-    {
-        Ok(Row {
-            words: self.words.to_vec(alloc)?,
-        })
-    }
-
     /// Whether it has the number.
     pub fn has(&self, number: usize) -> bool
         ensures { result ≡ has_bit self.now number }
@@ -53,15 +44,6 @@ impl Row {
         ensures after { (n : ℕ) → has_bit self.new n ≡ (has_bit self.old n || n == number) }
     {
         set_bit(self.words.as_mut_slice(), number);
-    }
-
-    /// Puts in all that the other set has.
-    pub fn join(&mut self, other: &Row)
-        requires { length self.old ≡ length other.now }
-        ensures room { length self.new ≡ length self.old }
-        ensures after { (n : ℕ) → has_bit self.new n ≡ (has_bit self.old n || has_bit other.now n) }
-    {
-        join_words(self.words.as_mut_slice(), other.words.as_slice());
     }
 }
 
@@ -86,14 +68,4 @@ fn set_bit(words: &mut [u64], number: usize)
     ensures after { (n : ℕ) → has_bit words.new n ≡ (has_bit words.old n || n == number) }
 {
     words[number / 64] |= 1 << (number % 64);
-}
-
-fn join_words(words: &mut [u64], others: &[u64])
-    requires { length words.old ≡ length others.now }
-    ensures room { length words.new ≡ length words.old }
-    ensures after { (n : ℕ) → has_bit words.new n ≡ (has_bit words.old n || has_bit others.now n) }
-{
-    for k in 0..words.len() {
-        words[k] |= others[k];
-    }
 }

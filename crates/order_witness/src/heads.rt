@@ -16,8 +16,7 @@ ghost use Rattle.order_witness.specs.Choices.{IsBest, home_at, is_better, is_fre
 ghost use Rattle.order_witness.specs.Heads as heads;
 
 use crate::by_number::ByNumber;
-use crate::lookups::{is_request_before, stamp_of};
-use crate::precedence::is_begun;
+use crate::lookups::{is_begun, is_request_before, stamp_of};
 use program_defs::Script;
 use report_rules::{Pair, Reply, Report};
 use std::alloc::{AllocError, Global};
@@ -36,7 +35,8 @@ pub fn earlier_ends(
     replies: &[Reply],
     pairs: &[Pair],
 ) -> Result<ByNumber, AllocError>
-    ensures { IfOk result (heads.AreEndsOf replies.now pairs.now) }
+    ensures size { IfOk result (λ ends. length ends ≡ length replies.now) }
+    ensures ends { IfOk result (heads.AreEndsOf replies.now pairs.now) }
 {
     let mut ends = ByNumber::new(alloc, replies.len())?;
     for pair in pairs {
@@ -131,7 +131,8 @@ fn first_left(requests: &[usize], done: &[bool], from: usize, end: usize) -> usi
     end
 }
 
-fn item(requests: &[usize], place: usize) -> usize
+/// The number at a place, 0 past the end.
+pub fn item(requests: &[usize], place: usize) -> usize
     ensures { result ≡ heads.item requests.now place }
 {
     match requests.get(place) {

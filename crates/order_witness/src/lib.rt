@@ -5,42 +5,43 @@
 //! conditions hold. The transactions of the script have fewer than 2^32 operations, which `has_numbered_operations`
 //! says; each finished program is asked once.
 //!
-//! A clause that speaks of each two requests is first judged by a sort or one walk, which takes time by the report's
-//! length and a logarithm. If that doesn't show that the clause holds, order and conflicts are judged by the graph of
-//! the report's pairs: for order it is asked at most eight times for each listed request. Each two requests are
-//! compared only if a clause is still open. Precedence is then closed over all begun requests, with a bit for each two
-//! of them: so a report whose pairs form a cycle is judged as any other.
+//! A clause that speaks of each two requests is judged by a sort and a few walks, which take time by the report's
+//! length and a logarithm, whether the report is right or wrong. Replies and refusals are compared with their
+//! neighbours, and with all others only at the first place where that doesn't show that the clause holds. For order one
+//! walk marks what precedes the requests listed so far, with cycles or without. For conflicts there is no cycle, by the
+//! clauses before, so what precedes each request is counted along an order of turns.
 //!
-//! The printed order needs no closure: of each gatekeeper's begun requests, in the order of their stamps, only the
-//! first one left can be next. It is free if no other such stamp is before its own and the earlier ends of its pairs
-//! had their turns.
+//! The printed order needs no precedence of two given requests: of each gatekeeper's begun requests, in the order of
+//! their stamps, only the first one left can be next. It is free if no other such stamp is before its own and the
+//! earlier ends of its pairs had their turns.
 #![tactic(auto)]
 
 mod answers;
 mod bits;
 mod by_number;
+mod by_session;
+mod chain;
 mod conflicts;
 mod heads;
 mod judge;
-mod latest;
 mod listing;
 mod lookups;
 mod numbers;
 mod order;
-mod pair_precedence;
 mod pairs;
-mod places;
-mod precedence;
 mod printed_order;
 mod refusal_marks;
 mod refusals;
-mod relation;
 mod replay;
 mod replies;
 mod rising;
+mod rows;
+mod tops;
 mod trial;
 mod turns;
+mod walk;
 
+pub use chain::{Link, chain_between, link_between};
 pub use judge::{Judged, has_numbered_operations, judge_report};
 pub use printed_order::{has_order, order_of};
 pub use report_rules::Clause;

@@ -1,9 +1,9 @@
 //! What a script and a report say of a request.
-ghost use Rattle.std.specs.Prelude.{◌≡◌, option_copied, length};
+ghost use Rattle.std.specs.Prelude.{◌≡◌, option_copied, length, is_some};
 ghost use Rattle.std.specs.List.{list_any};
 ghost use Rattle.graph_ops.specs.Mentions.{is_among, named_by_op};
 ghost use Rattle.graph_ops.specs.declared.op.Op.{Op};
-ghost use Rattle.order_witness.specs.Begun.{is_request_before, numbers_in};
+ghost use Rattle.order_witness.specs.Begun.{is_request_before, numbers_in, stamp_in};
 ghost use Rattle.report_rules.specs.Lookups as lookups;
 
 use graph_ops::Op;
@@ -50,6 +50,16 @@ pub fn stamp_of(report: &Report, place: usize) -> Option<Stamp>
     match report.replies.as_slice().get(place) {
         Some(reply) => reply.stamp,
         None => None,
+    }
+}
+
+/// Whether the request is begun.
+pub fn is_begun(replies: &[Reply], request: u32) -> bool
+    ensures { result ≡ is_some (stamp_in replies.now request) }
+{
+    match replies.get(request as usize) {
+        Some(reply) => reply.stamp.is_some(),
+        None => false,
     }
 }
 

@@ -1,12 +1,14 @@
 //! The printed order.
-ghost use Rattle.std.specs.Prelude.{◌≡◌, ◌++◌, ◌↔◌, IsTrue, IfOk, OnOk, MatchOption, Some, length, replicate};
-ghost use Rattle.std.specs.List.{list_all};
+ghost use Rattle.std.specs.Prelude.{◌≡◌, ◌++◌, ◌↔◌, ℕ, IsTrue, IfOk, OnOk, MatchOption, Some, length, replicate};
+ghost use Rattle.std.specs.List.{filter, list_all};
 ghost use Rattle.weave_data.specs.Facts.{AllHold};
 ghost use Rattle.report_rules.specs.RightReport.{replies_clause};
 ghost use Rattle.report_rules.specs.PrintedOrder.{IsPrintedOrder, begun_requests};
 ghost use Rattle.report_rules.specs.Lookups as lookups;
 ghost use Rattle.order_witness.specs.Begun.{NonePrecedesItself};
+ghost use Rattle.report_rules.specs.declared.report.Reply.{Reply};
 ghost use Rattle.order_witness.specs.Heads.{AreWaiting, requests_left, listed_in};
+ghost use Rattle.order_witness.specs.Rows.{AreAllTurns};
 
 use crate::by_number::ByNumber;
 use crate::heads::{Run, earlier_ends, never_begun, next, runs_of};
@@ -26,8 +28,8 @@ pub fn has_order(alloc: Global, script: &Script, report: &Report) -> Result<bool
     if let Some(_) = replies::first_fault(alloc, script, report)? {
         return Ok(false);
     }
-    let order = taken_in_turn(alloc, script, report)?;
-    Ok(order.is_some())
+    let turns = taken_in_turn(alloc, script, report)?;
+    Ok(turns.is_some())
 }
 
 /// The printed order: again and again, among the remaining begun requests that no remaining one precedes, the one of
@@ -42,20 +44,33 @@ pub fn order_of(alloc: Global, script: &Script, report: &Report) -> Result<Vec<u
     ensures { IfOk result (λ order. IsPrintedOrder report.now order.items) }
 {
     match taken_in_turn(alloc, script, report)? {
-        Some(order) => Ok(order),
+        Some(turns) => listed(alloc, report, turns.as_slice()),
         None => Ok(Vec::new(alloc)),
     }
 }
 
-// The printed order, if no request precedes itself: the requests are taken in turn until none is next.
-fn taken_in_turn(
+// Those of the requests taken in turn that the order may list.
+fn listed(alloc: Global, report: &Report, turns: &[usize]) -> Result<Vec<u32>, AllocError>
+    requires { (r : ℕ) (reply : Reply) → lookups.reply_at report.now r ≡ Some reply → reply.request ≡ r }
+    ensures { IfOk result (λ order. order.items ≡ filter (lookups.may_be_listed report.now) turns.now) }
+{
+    let mut order = Vec::new(alloc);
+    for turn in turns {
+        add(report, &mut order, *turn)?;
+    }
+    Ok(order)
+}
+
+/// The begun requests in turn, each after all that precede it; none if a request precedes itself. The clause on replies
+/// must hold.
+pub fn taken_in_turn(
     alloc: Global,
     script: &Script,
     report: &Report,
-) -> Result<Option<Vec<u32>>, AllocError>
+) -> Result<Option<Vec<usize>>, AllocError>
     requires { AllHold (replies_clause script.now report.now) }
-    ensures { IfOk result (λ order. MatchOption order (¬ NonePrecedesItself report.now)
-        (λ order. IsPrintedOrder report.now order.items × NonePrecedesItself report.now)) }
+    ensures { IfOk result (λ turns. MatchOption turns (¬ NonePrecedesItself report.now)
+        (λ turns. AreAllTurns report.now turns.items)) }
 {
     let replies = report.replies.as_slice();
     let befores = earlier_ends(alloc, replies, report.pairs.as_slice())?;
@@ -63,7 +78,7 @@ fn taken_in_turn(
     let mut runs = runs_of(alloc, report, line.as_slice())?;
     let mut seen = none_seen(alloc, replies.len())?;
     let mut done = never_begun(alloc, replies)?;
-    let order = take_all(
+    let turns = take_all(
         alloc,
         script,
         report,
@@ -73,7 +88,7 @@ fn taken_in_turn(
         seen.as_mut_slice(),
         done.as_mut_slice(),
     )?;
-    Ok(order)
+    Ok(turns)
 }
 
 // Takes the next request again and again; none if some are left.
@@ -86,24 +101,24 @@ fn take_all(
     runs: &mut [Run],
     seen: &mut [usize],
     done: &mut [bool],
-) -> Result<Option<Vec<u32>>, AllocError>
+) -> Result<Option<Vec<usize>>, AllocError>
     requires replies { AllHold (replies_clause script.now report.now) }
     requires waiting { AreWaiting report.now line.now befores.now runs.old seen.old done.old }
     requires size { length done.old ≡ length report.now.replies }
     requires start { requests_left report.now done.old ≡ begun_requests report.now }
-    ensures { IfOk result (λ order. MatchOption order (¬ NonePrecedesItself report.now)
-        (λ order. IsPrintedOrder report.now order.items × NonePrecedesItself report.now)) }
+    ensures { IfOk result (λ turns. MatchOption turns (¬ NonePrecedesItself report.now)
+        (λ turns. AreAllTurns report.now turns.items)) }
 {
     precedence_is_decided();
-    let mut order = Vec::new(alloc);
+    let mut turns = Vec::new(alloc);
     while let Some(request) = next(alloc, script, report, line, befores, runs, seen, done)? {
-        add(report, &mut order, request)?;
+        turns.push(request)?;
         done[request] = true;
     }
     if !are_done(done) {
         return Ok(None);
     }
-    Ok(Some(order))
+    Ok(Some(turns))
 }
 
 fn none_seen(alloc: Global, count: usize) -> Result<Vec<usize>, AllocError>

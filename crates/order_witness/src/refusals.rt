@@ -4,7 +4,7 @@ ghost use Rattle.std.specs.Prelude.{◌≡◌, ◌||◌, ℕ, not, false, Some, 
 ghost use Rattle.std.specs.List.{list_all};
 ghost use Rattle.report_rules.specs.declared.report.Reply.{Reply};
 ghost use Rattle.weave_data.specs.Facts.{AllHold};
-ghost use Rattle.order_witness.specs.Turns.{AreAllKept, AreNumbersKept};
+ghost use Rattle.order_witness.specs.Turns.{AreKeptAtMarks, AreNumbersKept};
 ghost use Rattle.report_rules.specs.RightReport as right;
 ghost use Rattle.report_rules.specs.Lookups as lookups;
 ghost use Rattle.order_witness.specs.Judgement.{IsFirstFault, has_numbered_operations};
@@ -12,15 +12,15 @@ ghost use Rattle.order_witness.specs.Refusals.{AreMarked, is_refusal_in_place, r
 
 use crate::lookups::{commits, number_of, same_session};
 use crate::refusal_marks::marks_of;
-use crate::turns::do_numbers_take_turns;
+use crate::turns::marks_of_turns;
 use program_defs::Script;
 use report_rules::{Reply, ReplyState, Report};
 use std::alloc::{AllocError, Global};
 
 /// The first reply line that breaks the clause, from 1. The clause on replies must hold.
 ///
-/// One walk shows that commit numbers and refusals are in turn in each session. Each refusal is compared with all
-/// replies only if it doesn't.
+/// A walk over the replies and one back mark the refusals of which the commit numbers of their sessions keep clear. A
+/// refusal is compared with all replies only if it isn't marked.
 pub fn first_fault(
     alloc: Global,
     script: &Script,
@@ -31,26 +31,27 @@ pub fn first_fault(
     ensures { IfOk result (IsFirstFault (right.refusals_clause script.now report.now)) }
 {
     let marks = marks_of(alloc, script, report)?;
-    let replies = report.replies.as_slice();
-    let in_turn = do_numbers_take_turns(alloc, script, replies)?;
+    let turns = marks_of_turns(alloc, script, report.replies.as_slice())?;
     let found = marks.as_slice();
-    Ok(first_out_of_place(script, report, found, in_turn))
+    let kept = turns.as_slice();
+    Ok(first_out_of_place(script, report, found, kept))
 }
 
 fn first_out_of_place(
     script: &Script,
     report: &Report,
     marks: &[bool],
-    in_turn: bool,
+    kept: &[bool],
 ) -> Option<u64>
     requires marked { AreMarked script.now report.now marks.now }
-    requires kept { IsTrue in_turn → AreAllKept script.now report.now.replies }
+    requires kept { AreKeptAtMarks script.now report.now.replies kept.now }
     ensures { IsFirstFault (right.refusals_clause script.now report.now) result }
 {
     let count = commits(report);
     for (place, reply) in report.replies.as_slice().iter().enumerate() {
         let mark = mark_at(marks, place);
-        let holds = is_in_place(script, report, reply, mark, in_turn, count);
+        let is_kept = mark_at(kept, place);
+        let holds = is_in_place(script, report, reply, mark, is_kept, count);
         if !holds {
             return Some(place as u64 + 1);
         }
@@ -72,17 +73,17 @@ fn is_in_place(
     report: &Report,
     reply: &Reply,
     mark: bool,
-    in_turn: bool,
+    is_kept: bool,
     count: usize,
 ) -> bool
-    requires kept { IsTrue in_turn → (at : ℕ) → refused_after reply.now.state ≡ Some at
+    requires kept { IsTrue is_kept → (at : ℕ) → refused_after reply.now.state ≡ Some at
         → AreNumbersKept script.now report.now.replies reply.now.request at }
     requires count { count ≡ lookups.commits report.now }
     ensures { result ≡ is_refusal_in_place script.now report.now reply.now.request reply.now.state mark }
 {
     match &reply.state {
         ReplyState::Refused { at, .. } => {
-            stands_among_commits(script, report, reply.request, *at, in_turn, count) && mark
+            stands_among_commits(script, report, reply.request, *at, is_kept, count) && mark
         }
         _ => true,
     }
@@ -93,22 +94,22 @@ fn stands_among_commits(
     report: &Report,
     r: u32,
     at: u64,
-    in_turn: bool,
+    is_kept: bool,
     count: usize,
 ) -> bool
-    requires kept { IsTrue in_turn → AreNumbersKept script.now report.now.replies r at }
+    requires kept { IsTrue is_kept → AreNumbersKept script.now report.now.replies r at }
     requires count { count ≡ lookups.commits report.now }
     ensures { result ≡ right.stands_among_commits script.now report.now r at }
 {
-    at <= count as u64 && are_numbers_kept(script, report.replies.as_slice(), r, at, in_turn)
+    at <= count as u64 && are_numbers_kept(script, report.replies.as_slice(), r, at, is_kept)
 }
 
-fn are_numbers_kept(script: &Script, replies: &[Reply], r: u32, at: u64, in_turn: bool) -> bool
-    requires { IsTrue in_turn → AreNumbersKept script.now replies.now r at }
+fn are_numbers_kept(script: &Script, replies: &[Reply], r: u32, at: u64, is_kept: bool) -> bool
+    requires { IsTrue is_kept → AreNumbersKept script.now replies.now r at }
     ensures { result ≡ list_all (λ (other : Reply). not (lookups.same_session script.now other.request r)
         || right.keeps_number at r other) replies.now }
 {
-    if in_turn {
+    if is_kept {
         return true;
     }
     keeps_numbers(script, replies, r, at)

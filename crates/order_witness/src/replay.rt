@@ -5,7 +5,10 @@ ghost use Rattle.graph_ops.specs.Graphs.{plain_of};
 ghost use Rattle.graph_ops.specs.PlainGraph.{graph_left, transaction};
 ghost use Rattle.weave_data.specs.Facts.{AllHold};
 ghost use Rattle.program_defs.specs.declared.script.Work.{Work};
+ghost use Rattle.program_defs.specs.PlainAnswer.{IsPlainAnswer};
 ghost use Rattle.program_defs.specs.Searching.{has_name};
+ghost use Rattle.program_defs.specs.Visits.{IsVisited};
+ghost use Rattle.weave_data.specs.declared.name.Name.{Name};
 ghost use Rattle.report_rules.specs.declared.report.Pair.{Pair};
 ghost use Rattle.report_rules.specs.RightReport as right;
 ghost use Rattle.report_rules.specs.Replay.{AnswerMatchesReply, MatchesReply, OutcomeMatchesReply, graph_after, graph_after_work};
@@ -20,9 +23,16 @@ use crate::by_number::ByNumber;
 use crate::lookups::{reply_at, request_at};
 use graph_ops::{Got, Graph, Op, TxFault};
 use program_defs::laws::plain_answer_is_one;
-use program_defs::{Program, Script, Visits, Work, ask_with_visits};
+use program_defs::{Answer, Program, Script, Visits, Work, ask_with_visits, proves, visits_of};
 use report_rules::{Pair, ReplyState, Report};
 use std::alloc::{AllocError, Global};
+
+// Whether an answer holds, and what its program visits.
+#[derive(Drop)]
+struct Judged {
+    holds: bool,
+    visits: Visits,
+}
 
 /// The first place in the order whose outcome isn't what its reply says, from 1. If there is none, the marks say of
 /// each pair whose later request is a finished program whether that one visits the pair's vertex at its place. Each
@@ -143,15 +153,42 @@ fn replay_program(
     ensures marked { OnOk result (AreMarkedBy pairs.now (plain_of graph.now)
         (Work.Look program.now) state.now places.now marks.new.items) }
 {
-    plain_answer_is_one();
     match state {
         ReplyState::Finished(answer) => {
-            let asked = ask_with_visits(alloc, graph, program)?;
-            mark_all(pairs, places, &asked.visits, marks);
-            Ok(same_outcome(&asked.answer, answer))
+            let judged = judge_answer(alloc, graph, program, answer)?;
+            mark_all(pairs, places, &judged.visits, marks);
+            Ok(judged.holds)
         }
         _ => Ok(false),
     }
+}
+
+// Whether this is what the program answers, and what it visits. An answer to `price` is tested by itself; any other one
+// is compared with the answer to the program.
+fn judge_answer(
+    alloc: Global,
+    graph: &Graph,
+    program: &Program,
+    answer: &Answer,
+) -> Result<Judged, AllocError>
+    ensures holds { IfOk result (λ judged. MatchBool judged.holds
+        (IsPlainAnswer (plain_of graph.now) program.now answer.now)
+        (¬ IsPlainAnswer (plain_of graph.now) program.now answer.now)) }
+    ensures visits { IfOk result (λ judged. (v : Name)
+        → IsTrue (has_name judged.visits v) ↔ IsVisited (plain_of graph.now) program.now v) }
+{
+    if program.is_price() {
+        let visits = visits_of(alloc, graph, program)?;
+        let holds = proves(alloc, graph, program, answer)?;
+        return Ok(Judged { holds, visits });
+    }
+    plain_answer_is_one();
+    let asked = ask_with_visits(alloc, graph, program)?;
+    let holds = same_outcome(&asked.answer, answer);
+    Ok(Judged {
+        holds,
+        visits: asked.visits,
+    })
 }
 
 // Marks each pair at these places with whether its vertex is visited.

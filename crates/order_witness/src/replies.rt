@@ -1,6 +1,6 @@
 //! The clause on replies: reply i is of request i, with a stamp of its gatekeeper, apart from the others' and after
 //! those of its session.
-ghost use Rattle.std.specs.Prelude.{◌≡◌, ◌==◌, ◌&&◌, nat_lt, IsTrue, IfOk, length};
+ghost use Rattle.std.specs.Prelude.{◌≡◌, ◌==◌, ◌&&◌, nat_lt, IsTrue, IfOk, length, take};
 ghost use Rattle.std.specs.List.{list_all};
 ghost use Rattle.report_rules.specs.declared.report.Reply.{Reply};
 ghost use Rattle.weave_data.specs.Facts.{AllHold, facts_in_turn};
@@ -18,7 +18,9 @@ use vector_stamp::Stamp;
 
 /// The first reply line that breaks the clause, from 1; one more than the last if lines are missing.
 ///
-/// A sort by stamps, and one by sessions, find that there is none. Each two replies are compared only if they do not.
+/// A sort by stamps, and one by sessions, find that there is none: then only neighbours are compared. If they do not,
+/// a bisection finds the longest front of the replies for which they do, and the next reply is compared with each
+/// before it.
 pub fn first_fault(
     alloc: Global,
     script: &Script,
@@ -48,7 +50,28 @@ fn fault_in_place(
     if surely {
         return Ok(None);
     }
-    Ok(first_out_of_place(script, replies))
+    let from = surely_in_place(alloc, script, replies)?;
+    Ok(first_out_of_place(script, replies, from))
+}
+
+// A number of first replies that are in place, by bisection: the longest front that neighbours show to be so.
+fn surely_in_place(alloc: Global, script: &Script, replies: &[Reply]) -> Result<usize, AllocError>
+    ensures { IfOk result (λ count. AllHold (facts_in_turn
+        (λ before (reply : Reply). IsTrue (right.is_reply_in_place script.now before reply))
+        (take count replies.now))) }
+{
+    let mut count = 0;
+    let mut most = replies.len();
+    while count < most {
+        let middle = most - (most - count) / 2;
+        let surely = are_surely_in_place(alloc, script, &replies[..middle])?;
+        if surely {
+            count = middle;
+        } else {
+            most = middle - 1;
+        }
+    }
+    Ok(count)
 }
 
 // Whether each reply is in place. It is never wrong when it says so.
@@ -93,12 +116,15 @@ fn is_at_place(script: &Script, place: usize, reply: &Reply) -> bool
         && is_at_home(script, reply)
 }
 
-fn first_out_of_place(script: &Script, replies: &[Reply]) -> Option<u64>
+// The first place from one on, if all before that are in place.
+fn first_out_of_place(script: &Script, replies: &[Reply], from: usize) -> Option<u64>
+    requires { AllHold (facts_in_turn
+        (λ before (reply : Reply). IsTrue (right.is_reply_in_place script.now before reply)) (take from replies.now)) }
     ensures { IsFirstFault (facts_in_turn
         (λ before (reply : Reply). IsTrue (right.is_reply_in_place script.now before reply)) replies.now) result }
 {
-    for (place, reply) in replies.iter().enumerate() {
-        let holds = is_in_place(script, &replies[..place], reply);
+    for place in from..replies.len() {
+        let holds = is_in_place(script, &replies[..place], &replies[place]);
         if !holds {
             return Some(place as u64 + 1);
         }

@@ -7,10 +7,11 @@ use Rattle.program_defs.specs.declared.program.Program.{Program}
 use Rattle.program_defs.specs.declared.program.Program.TheVariants.{Path}
 use Rattle.program_defs.specs.Searching.{next_of}
 use Rattle.program_defs.specs.LeastWalks.{WalkState, HasWalked}
+use Rattle.program_defs.specs.Walks.{filter_in}
 
 -- which program it is
 abbrev pub path_asked : Name → ℕ → WalkState → Program
-path_asked to bound walk = Path walk.search.aim.from to bound walk.search.aim.pass
+path_asked to bound walk = Path walk.search.aim.from to bound (filter_in walk.search.aim.pass)
 
 -- its search has read these states, the newest first
 abbrev pub HasPathed : Name → ℕ → WalkState → List (Name × State) → Type 0

@@ -5,6 +5,7 @@ ghost use Rattle.path_program.specs.AnyPrograms.{any_of, HasRead, next_read, rea
 use crate::path::PathProgram;
 use graph_ops::Record;
 use node_program::{NodeProgram, ShowProgram};
+use priced_path::PricedProgram;
 use program_defs::{Answer, Program};
 use reach_program::ReachProgram;
 use std::alloc::{AllocError, Global};
@@ -17,6 +18,7 @@ pub enum AnyProgram {
     /// `reach` and `around`.
     Reach(ReachProgram),
     Path(PathProgram),
+    Price(PricedProgram),
 }
 
 impl AnyProgram {
@@ -44,6 +46,10 @@ impl AnyProgram {
                 let walk = PathProgram::new(alloc, from, to, bound, pass)?;
                 Ok(AnyProgram::Path(walk))
             }
+            Program::Price { from, to, key } => {
+                let walk = PricedProgram::new(alloc, from, to, key)?;
+                Ok(AnyProgram::Price(walk))
+            }
         }
     }
 }
@@ -62,6 +68,7 @@ impl NodeProgram for AnyProgram {
             AnyProgram::Show(walk) => walk.next_vertex(),
             AnyProgram::Reach(walk) => walk.next_vertex(),
             AnyProgram::Path(walk) => walk.next_vertex(),
+            AnyProgram::Price(walk) => walk.next_vertex(),
         }
     }
 
@@ -70,6 +77,7 @@ impl NodeProgram for AnyProgram {
             AnyProgram::Show(walk) => walk.ready(),
             AnyProgram::Reach(walk) => walk.ready(),
             AnyProgram::Path(walk) => walk.ready(),
+            AnyProgram::Price(walk) => walk.ready(),
         }
     }
 
@@ -78,6 +86,7 @@ impl NodeProgram for AnyProgram {
             AnyProgram::Show(walk) => walk.see(state),
             AnyProgram::Reach(walk) => walk.see(state),
             AnyProgram::Path(walk) => walk.see(state),
+            AnyProgram::Price(walk) => walk.see(state),
         }
     }
 
@@ -86,6 +95,7 @@ impl NodeProgram for AnyProgram {
             AnyProgram::Show(walk) => walk.outcome(alloc),
             AnyProgram::Reach(walk) => walk.outcome(alloc),
             AnyProgram::Path(walk) => walk.outcome(alloc),
+            AnyProgram::Price(walk) => walk.outcome(alloc),
         }
     }
 }

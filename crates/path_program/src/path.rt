@@ -6,7 +6,7 @@ ghost use Rattle.path_program.specs.Path.{path_asked, HasPathed, path_reads_left
 use graph_ops::{MOST_EDGES, Record};
 use node_program::NodeProgram;
 use program_defs::laws::path_searches_are_right;
-use program_defs::{Aim, Answer, Filter, PathSearch};
+use program_defs::{Aim, Answer, Filter, Passing, PathSearch};
 use std::alloc::{AllocError, Global};
 use weave_data::Name;
 
@@ -35,7 +35,7 @@ impl PathProgram {
             from,
             target: Some(to),
             bound: Some(bound),
-            pass,
+            pass: Passing::of(pass),
         };
         let search = PathSearch::new(alloc, aim)?;
         Ok(PathProgram {

@@ -11,6 +11,7 @@ use Rattle.graph_ops.specs.Mentions.{is_among}
 use Rattle.graph_ops.specs.Operations.{State}
 use Rattle.graph_ops.specs.PlainGraph.{PlainGraph}
 use Rattle.graph_ops.proofs.Vertices.{same_name-refl}
+use Rattle.program_defs.specs.declared.passing.Passing.{Passing}
 use Rattle.program_defs.specs.declared.program.Filter.{Filter}
 use Rattle.program_defs.specs.declared.program.Program.{Program}
 use Rattle.program_defs.specs.declared.program.Program.TheVariants.{Reach, Around}
@@ -19,7 +20,7 @@ use Rattle.program_defs.specs.Agreement.{Agree, AgreeOnVisits}
 use Rattle.program_defs.specs.PlainAnswer.{IsPlainAnswer}
 use Rattle.program_defs.specs.Searching.{SearchState, IsGoing, HasSearched, SameReached, AllRead, next_of, levels_read}
 use Rattle.program_defs.specs.Visits.{as_set, through_level, visits_to, graph_read, next_visit, first_of}
-use Rattle.program_defs.specs.Walks.{is_walk, is_walk_within}
+use Rattle.program_defs.specs.Walks.{passing_of, is_walk, is_walk_within}
 use Rattle.program_defs.proofs.Closed.{end_present}
 use Rattle.program_defs.proofs.Cutting.{cut, cut-free}
 use Rattle.program_defs.proofs.Levels.{levels-are-distances}
@@ -83,14 +84,14 @@ agree-on-visits program reads graph all agree v visited = agree v (all v ((visit
 
 -- Answers
 
-walk-to : (graph : PlainGraph) (pass : Option Filter) (from v : Name) (n : ℕ) → IsTrue (is_some (graph v)) → IsTrue (is_among (through_level n graph pass from) v) → (walk : List Name) × IsTrue (is_walk_within n graph pass from v walk)
+walk-to : (graph : PlainGraph) (pass : Passing) (from v : Name) (n : ℕ) → IsTrue (is_some (graph v)) → IsTrue (is_among (through_level n graph pass from) v) → (walk : List Name) × IsTrue (is_walk_within n graph pass from v walk)
 walk-to graph pass from v n there k = (levels-are-distances graph pass from n v there).0 k
 
 -- on the graph of what was read, `reach` answers whether the target is among the vertices that the search found there
 pub reach-answer : (from to : Name) (pass : Option Filter) (state : SearchState) (reads : List (Name × State)) → HasSearched (Reach from to pass) state reads → IsPlainAnswer (graph_read reads) (Reach from to pass) (Reached (is_among state.present to))
 reach-answer from to pass state reads h = (
-  λ k. (let w = walk-to (graph_read reads) pass from to (length reads) (sym (h.found.present to) ∙ k) (up-to-only to (through_level (length reads) (graph_read reads) pass from) to (h.found.visited to (read-there reads to (sym (h.found.present to) ∙ k)))) in (w.0, (and_parts (is_walk (graph_read reads) pass from to w.0) _ w.1).0)),
-  λ w. h.found.present to ∙ end_present (graph_read reads) pass from to w.0 w.1,
+  λ k. (let w = walk-to (graph_read reads) (passing_of pass) from to (length reads) (sym (h.found.present to) ∙ k) (up-to-only to (through_level (length reads) (graph_read reads) (passing_of pass) from) to (h.found.visited to (read-there reads to (sym (h.found.present to) ∙ k)))) in (w.0, (and_parts (is_walk (graph_read reads) (passing_of pass) from to w.0) _ w.1).0)),
+  λ w. h.found.present to ∙ end_present (graph_read reads) (passing_of pass) from to w.0 w.1,
 )
 
 -- and `around` answers the set of the vertices that the search found there
@@ -99,8 +100,8 @@ pub around-answer : (from : Name) (bound : ℕ) (pass : Option Filter) (state : 
 around-answer from bound pass state reads h = (
   set-rising (as_set state.present) (as_set-set state.present),
   λ v. (
-    λ k. (let in_list = as_set-only state.present v k in walk-to (graph_read reads) pass from v bound (sym (h.found.present v) ∙ in_list) (h.found.visited v (read-there reads v (sym (h.found.present v) ∙ in_list)))),
-    λ w. as_set-has state.present v (h.found.present v ∙ end_present (graph_read reads) pass from v w.0 (and_parts (is_walk (graph_read reads) pass from v w.0) _ w.1).0),
+    λ k. (let in_list = as_set-only state.present v k in walk-to (graph_read reads) (passing_of pass) from v bound (sym (h.found.present v) ∙ in_list) (h.found.visited v (read-there reads v (sym (h.found.present v) ∙ in_list)))),
+    λ w. as_set-has state.present v (h.found.present v ∙ end_present (graph_read reads) (passing_of pass) from v w.0 (and_parts (is_walk (graph_read reads) (passing_of pass) from v w.0) _ w.1).0),
   ),
 )
 

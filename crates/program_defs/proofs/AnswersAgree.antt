@@ -1,6 +1,6 @@
 -- The plain answer depends on the states at the vertices visited alone.
 -- Used by `only_visits_matter`, Asking and Feeding.
-use Rattle.std.proofs.Common.{◌&&◌, ◌≡◌, ℕ, ◌+◌, ◌-◌, ◌≤◌, ◌<◌, false, List, [], ◌∷◌, ◌++◌, IsTrue, sym, ap, subst, ◌∙◌, Option, Some, None, ◌⊎◌, inl, inr, arith}
+use Rattle.std.proofs.Common.{◌&&◌, ◌≡◌, ℕ, suc, ◌+◌, ◌-◌, ◌≤◌, ◌<◌, false, List, [], ◌∷◌, ◌++◌, IsTrue, sym, ap, subst, ◌∙◌, Some, None, ◌⊎◌, inl, inr, arith}
 use Rattle.std.specs.Prelude.{is_some}
 use Rattle.std.proofs.lemmas.Bool.{cases_lt, both_ways, or_cases, or_left, or_right, and_parts, and_from, leb-true, le-leb, false_from_ne_true}
 use Rattle.weave_data.specs.Names.{same_name, one_name}
@@ -8,25 +8,28 @@ use Rattle.weave_data.specs.declared.name.Name.{Name}
 use Rattle.graph_ops.specs.Mentions.{is_among}
 use Rattle.graph_ops.specs.PlainGraph.{PlainGraph}
 use Rattle.graph_ops.proofs.Vertices.{same_name-refl}
-use Rattle.program_defs.specs.declared.program.Filter.{Filter}
+use Rattle.program_defs.specs.declared.passing.Passing.{Passing}
+use Rattle.program_defs.specs.declared.passing.Passing.TheVariants.{Priced as ByPrice}
 use Rattle.program_defs.specs.declared.program.Program.{Program}
-use Rattle.program_defs.specs.declared.program.Program.TheVariants.{Show, Reach, Around, Path}
+use Rattle.program_defs.specs.declared.program.Program.TheVariants.{Show, Reach, Around, Path, Price}
 use Rattle.program_defs.specs.declared.program.Answer.{Answer}
-use Rattle.program_defs.specs.declared.program.Answer.TheVariants.{Shown, Reached, Found, Walk}
+use Rattle.program_defs.specs.declared.program.Answer.TheVariants.{Shown, Reached, Found, Walk, Priced}
 use Rattle.program_defs.specs.PlainAnswer.{IsPlainAnswer}
-use Rattle.program_defs.specs.Visits.{through_level, up_to, visits_to}
-use Rattle.program_defs.specs.Walks.{targets, is_walk, walk_length, is_walk_within, IsLeastWalk}
+use Rattle.program_defs.specs.Visits.{through_level, up_to, visits_to, IsVisited}
+use Rattle.program_defs.specs.Walks.{passing_of, targets, is_walk, walk_length, is_walk_within, IsLeastWalk}
 use Rattle.program_defs.proofs.Closed.{first_step, one_vertex, end_present}
 use Rattle.program_defs.proofs.Members.{among-left}
-use Rattle.program_defs.proofs.Levels.{levels-are-distances}
-use Rattle.program_defs.specs.Agreement.{Agree, AgreeOnVisits}
+use Rattle.program_defs.proofs.Levels.{targets-through, levels-are-distances}
+use Rattle.program_defs.specs.Agreement.{Agree, AgreeOnVisits, HoldsTargets}
 use Rattle.program_defs.proofs.OneList.{not-there, goes-on}
+use Rattle.program_defs.proofs.PricedAgree.{answers-alike}
+use Rattle.program_defs.proofs.PricedTargets.{targets-are-edges}
 use Rattle.program_defs.proofs.VisitsAgree.{target-there, up-to-only, same-levels, visits-same, agree-back}
 
 -- Walks
 
 -- a walk in the first graph is one in the second, if these agree on its vertices
-walk-same : (g h : PlainGraph) (pass : Option Filter) (walk : List Name) (from to : Name) → Agree g h walk → IsTrue (is_walk g pass from to walk) → IsTrue (is_walk h pass from to walk)
+walk-same : (g h : PlainGraph) (pass : Passing) (walk : List Name) (from to : Name) → Agree g h walk → IsTrue (is_walk g pass from to walk) → IsTrue (is_walk h pass from to walk)
 walk-same g h pass [] from to a w = w
 walk-same g h pass (v ∷ []) from to a w = subst (λ s. IsTrue (same_name from v && is_some s && same_name v to)) (a v (or_left _ _ (same_name-refl v))) w
 walk-same g h pass (v ∷ u ∷ rest) from to a w =
@@ -35,12 +38,12 @@ walk-same g h pass (v ∷ u ∷ rest) from to a w =
     (walk-same g h pass (u ∷ rest) u to (λ x k. a x (or_right (same_name v x) _ k)) all.1)
 
 -- a vertex on a walk is its end, or the end of a shorter one
-pub record IsOnTheWay (g : PlainGraph) (pass : Option Filter) (from v : Name) (n : ℕ) : Type 0 where
+pub record IsOnTheWay (g : PlainGraph) (pass : Passing) (from v : Name) (n : ℕ) : Type 0 where
   pub walk : List Name
   pub is : IsTrue (is_walk g pass from v walk)
   pub shorter : walk_length walk < n
 
-on-the-way : (g : PlainGraph) (pass : Option Filter) (walk : List Name) (from to v : Name) → IsTrue (is_walk g pass from to walk) → IsTrue (is_among walk v) → (v ≡ to) ⊎ IsOnTheWay g pass from v (walk_length walk)
+on-the-way : (g : PlainGraph) (pass : Passing) (walk : List Name) (from to v : Name) → IsTrue (is_walk g pass from to walk) → IsTrue (is_among walk v) → (v ≡ to) ⊎ IsOnTheWay g pass from v (walk_length walk)
 on-the-way g pass [] from to v w k = cc
 on-the-way g pass (x ∷ []) from to v w k =
     let one = one_vertex g pass from to x w in
@@ -76,10 +79,10 @@ on-the-way g pass (x ∷ y ∷ rest) from to v w k =
 -- Levels
 
 -- more levels begin with these
-longer-levels : (g : PlainGraph) (pass : Option Filter) (from : Name) (n m : ℕ) → n ≤ m → (more : List Name) × (through_level m g pass from ≡ through_level n g pass from ++ more)
+longer-levels : (g : PlainGraph) (pass : Passing) (from : Name) (n m : ℕ) → n ≤ m → (more : List Name) × (through_level m g pass from ≡ through_level n g pass from ++ more)
 longer-levels g pass from n m le = let rest = goes-on g pass from (m - n) n in let e : m - n + n ≡ m = omega (arith, le) in (rest.0, ap (λ k. through_level k g pass from) (sym e) ∙ rest.1)
 
-module _ (g : PlainGraph) (pass : Option Filter) (from : Name) where
+module _ (g : PlainGraph) (pass : Passing) (from : Name) where
   -- a walk's end is in the levels that it reaches
   reaches : (to : Name) (walk : List Name) (n : ℕ) → IsTrue (is_walk g pass from to walk) → walk_length walk ≤ n → IsTrue (is_among (through_level n g pass from) to)
   reaches to walk n w le = (levels-are-distances g pass from n to (end_present g pass from to walk w)).1 (walk, and_from _ _ w (le-leb (walk_length walk) n le))
@@ -93,7 +96,7 @@ module _ (g : PlainGraph) (pass : Option Filter) (from : Name) where
 
 -- Walks to a target, if the graphs agree on what is visited up to it
 
-module _ (g h : PlainGraph) (pass : Option Filter) (from to : Name) where
+module _ (g h : PlainGraph) (pass : Passing) (from to : Name) where
   -- there is a walk of at most that many edges in the other graph too
   pub walk-over : (n : ℕ) → up_to to (through_level n g pass from) ≡ up_to to (through_level n h pass from) → Agree g h (up_to to (through_level n g pass from)) → (walk : List Name) → IsTrue (is_walk g pass from to walk) → walk_length walk ≤ n → (other : List Name) × IsTrue (is_walk h pass from to other) × (walk_length other ≤ n)
   walk-over n same a walk w le =
@@ -136,7 +139,7 @@ module _ (g h : PlainGraph) (pass : Option Filter) (from to : Name) where
 
 -- Answers
 
-least-same : (g h : PlainGraph) (pass : Option Filter) (from to : Name) (bound : ℕ) → Agree g h (up_to to (through_level bound g pass from)) → Agree h g (up_to to (through_level bound h pass from)) → (walk : List Name) → IsLeastWalk bound g pass from to walk → IsLeastWalk bound h pass from to walk
+least-same : (g h : PlainGraph) (pass : Passing) (from to : Name) (bound : ℕ) → Agree g h (up_to to (through_level bound g pass from)) → Agree h g (up_to to (through_level bound h pass from)) → (walk : List Name) → IsLeastWalk bound g pass from to walk → IsLeastWalk bound h pass from to walk
 least-same g h pass from to bound a b walk least =
     let parts = and_parts (is_walk g pass from to walk) _ least.walks in
     let le = leb-true (walk_length walk) bound parts.1 in
@@ -148,12 +151,20 @@ least-same g h pass from to bound a b walk least =
       first = λ other o same. least.first other (least-over h g pass from to bound b other o (omega (arith, same, le)) (λ third t. let k = shortest third t in omega (arith, same, k))) same;
     }
 
+-- the vertices that `price` visits have the start, and with a vertex each target of its passing edges
+visited-holds : (g : PlainGraph) (from to key : Name) → HoldsTargets g key from (IsVisited g (Price from to key))
+visited-holds g from to key =
+    record {
+      start = (0, or_left _ _ (same_name-refl from));
+      onward = λ u v price k edge. (suc k.0, targets-through g (ByPrice key) from k.0 u v k.1 ((targets-are-edges key (g u) v).1 (price, edge)));
+    }
+
 -- if each agrees with the other on what its own program visits, through each level
 same-at : (g h : PlainGraph) (program : Program) → ((n : ℕ) → Agree g h (visits_to n g program)) → ((n : ℕ) → Agree h g (visits_to n h program)) → (answer : Answer) → IsPlainAnswer g program answer → IsPlainAnswer h program answer
 same-at g h (Show v) a b (Shown state) is = is ∙ a 0 v (or_left _ _ (same_name-refl v))
 same-at g h (Reach from to pass) a b (Reached reached) is = (
-  λ yes'. let w = is.0 yes' in let other = walk-over g h pass from to (walk_length w.0) (visits-same g h (Reach from to pass) (walk_length w.0) (a (walk_length w.0))) (a (walk_length w.0)) w.0 w.1 (omega arith) in (other.0, other.1),
-  λ w. is.1 (let other = walk-over h g pass from to (walk_length w.0) (visits-same h g (Reach from to pass) (walk_length w.0) (b (walk_length w.0))) (b (walk_length w.0)) w.0 w.1 (omega arith) in (other.0, other.1)),
+  λ yes'. let w = is.0 yes' in let other = walk-over g h (passing_of pass) from to (walk_length w.0) (visits-same g h (Reach from to pass) (walk_length w.0) (a (walk_length w.0))) (a (walk_length w.0)) w.0 w.1 (omega arith) in (other.0, other.1),
+  λ w. is.1 (let other = walk-over h g (passing_of pass) from to (walk_length w.0) (visits-same h g (Reach from to pass) (walk_length w.0) (b (walk_length w.0))) (b (walk_length w.0)) w.0 w.1 (omega arith) in (other.0, other.1)),
 )
 same-at g h (Around from bound pass) a b (Found vertices) is =
     let same = visits-same g h (Around from bound pass) 0 (a 0) in (
@@ -164,19 +175,21 @@ same-at g h (Around from bound pass) a b (Found vertices) is =
       ),
     )
   where
-    ends : (x y : PlainGraph) → through_level bound x pass from ≡ through_level bound y pass from → Agree x y (through_level bound x pass from) → (v : Name) (walk : List Name) → IsTrue (is_walk_within bound x pass from v walk) → (other : List Name) × IsTrue (is_walk_within bound y pass from v other)
+    ends : (x y : PlainGraph) → through_level bound x (passing_of pass) from ≡ through_level bound y (passing_of pass) from → Agree x y (through_level bound x (passing_of pass) from) → (v : Name) (walk : List Name) → IsTrue (is_walk_within bound x (passing_of pass) from v walk) → (other : List Name) × IsTrue (is_walk_within bound y (passing_of pass) from v other)
     ends x y same agree v walk w =
-        let parts = and_parts (is_walk x pass from v walk) _ w in
-        let there = reaches x pass from v walk bound parts.0 (leb-true (walk_length walk) bound parts.1) in
-        let present : IsTrue (is_some (y v)) = subst (λ s. IsTrue (is_some s)) (agree v there) (end_present x pass from v walk parts.0) in
-        let other = reached-by y pass from v bound present (subst (λ xs. IsTrue (is_among xs v)) same there) in
+        let parts = and_parts (is_walk x (passing_of pass) from v walk) _ w in
+        let there = reaches x (passing_of pass) from v walk bound parts.0 (leb-true (walk_length walk) bound parts.1) in
+        let present : IsTrue (is_some (y v)) = subst (λ s. IsTrue (is_some s)) (agree v there) (end_present x (passing_of pass) from v walk parts.0) in
+        let other = reached-by y (passing_of pass) from v bound present (subst (λ xs. IsTrue (is_among xs v)) same there) in
         (other.0, and_from _ _ other.1 (le-leb (walk_length other.0) bound other.2))
-same-at g h (Path from to bound pass) a b (Walk (Some walk)) is = least-same g h pass from to bound (a 0) (b 0) walk is
+same-at g h (Path from to bound pass) a b (Walk (Some walk)) is = least-same g h (passing_of pass) from to bound (a 0) (b 0) walk is
 same-at g h (Path from to bound pass) a b (Walk None) is =
     λ walk w.
-    let parts = and_parts (is_walk h pass from to walk) _ w in
-    let other = walk-over h g pass from to bound (visits-same h g (Path from to bound pass) 0 (b 0)) (b 0) walk parts.0 (leb-true (walk_length walk) bound parts.1) in
+    let parts = and_parts (is_walk h (passing_of pass) from to walk) _ w in
+    let other = walk-over h g (passing_of pass) from to bound (visits-same h g (Path from to bound pass) 0 (b 0)) (b 0) walk parts.0 (leb-true (walk_length walk) bound parts.1) in
     is other.0 (and_from _ _ other.1 (le-leb (walk_length other.0) bound other.2))
+same-at g h (Price from to key) a b (Priced walk total bounds) is =
+    answers-alike key from (IsVisited g (Price from to key)) g h (visited-holds g from to key) (λ v k. a k.0 v k.1) to walk total bounds is
 same-at g h (Show v) a b (Reached reached) is = absurd is
 same-at g h (Show v) a b (Found vertices) is = absurd is
 same-at g h (Show v) a b (Walk walk) is = absurd is
@@ -189,6 +202,14 @@ same-at g h (Around from bound pass) a b (Walk walk) is = absurd is
 same-at g h (Path from to bound pass) a b (Shown state) is = absurd is
 same-at g h (Path from to bound pass) a b (Reached reached) is = absurd is
 same-at g h (Path from to bound pass) a b (Found vertices) is = absurd is
+same-at g h (Show v) a b (Priced walk total bounds) is = absurd is
+same-at g h (Reach from to pass) a b (Priced walk total bounds) is = absurd is
+same-at g h (Around from bound pass) a b (Priced walk total bounds) is = absurd is
+same-at g h (Path from to bound pass) a b (Priced walk total bounds) is = absurd is
+same-at g h (Price from to key) a b (Shown state) is = absurd is
+same-at g h (Price from to key) a b (Reached reached) is = absurd is
+same-at g h (Price from to key) a b (Found vertices) is = absurd is
+same-at g h (Price from to key) a b (Walk walk) is = absurd is
 
 -- graphs that agree on the visits of a program have the same plain answers of it
 pub answer-same : (g h : PlainGraph) (program : Program) → AgreeOnVisits g h program → (answer : Answer) → IsPlainAnswer g program answer → IsPlainAnswer h program answer

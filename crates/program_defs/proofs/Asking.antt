@@ -1,5 +1,5 @@
 -- A search that has read all that it asks for of a graph answers as the graph does.
--- Used by `ask_with_visits`, `searched` and `walked`.
+-- Used by `ask_with_visits`, `searched`, `visits_of` and `walked`.
 use Rattle.std.proofs.Common.{◌≡◌, Bool, true, false, ◌||◌, List, ◌∷◌, IsTrue, length, refl, sym, ap, subst, ◌∙◌, None}
 use Rattle.std.specs.Prelude.{if◌then◌else◌, ◌↔◌}
 use Rattle.std.specs.Map.{keys_of}

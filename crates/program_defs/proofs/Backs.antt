@@ -1,6 +1,6 @@
 -- The list over parents, from its end to its start.
 -- Used by `lead_back`.
-use Rattle.std.proofs.Common.{append-nil, append_assoc, ◌≡◌, ℕ, zero, suc, ◌+◌, ◌<◌, ◌≤◌, true, false, List, [], ◌∷◌, ◌++◌, reverse, IsTrue, refl, sym, ap, subst, ◌∙◌, Option, arith}
+use Rattle.std.proofs.Common.{append-nil, append_assoc, ◌≡◌, ℕ, zero, suc, ◌+◌, ◌<◌, ◌≤◌, true, false, List, [], ◌∷◌, ◌++◌, reverse, IsTrue, refl, sym, ap, subst, ◌∙◌, arith}
 use Rattle.std.proofs.lemmas.List.{reverse-append}
 use Rattle.std.proofs.lemmas.Bool.{both_ways, or_left}
 use Rattle.weave_data.specs.Names.{same_name, one_name}
@@ -8,12 +8,12 @@ use Rattle.weave_data.specs.declared.name.Name.{Name}
 use Rattle.graph_ops.specs.Mentions.{is_among}
 use Rattle.graph_ops.specs.PlainGraph.{PlainGraph}
 use Rattle.graph_ops.proofs.Vertices.{same_name-refl}
-use Rattle.program_defs.specs.declared.program.Filter.{Filter}
+use Rattle.program_defs.specs.declared.passing.Passing.{Passing}
 use Rattle.program_defs.specs.Ranks.{IsRankedAt, trace}
 use Rattle.program_defs.specs.Visits.{levels_to, through_level}
 use Rattle.program_defs.proofs.Leads.{no-nearer, start-only}
 
-module _ (graph : PlainGraph) (pass : Option Filter) (from : Name) (parent : Name → Name) (rank : Name → ℕ) (d : ℕ) (to : Name) where
+module _ (graph : PlainGraph) (pass : Passing) (from : Name) (parent : Name → Name) (rank : Name → ℕ) (d : ℕ) (to : Name) where
   -- the names so far are those of the list after this vertex, the last one first, over that many edges
   pub record IsOnTheWayBack (v : Name) (back : List Name) (count : ℕ) : Type 0 where
     pub level : ℕ

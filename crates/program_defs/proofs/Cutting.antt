@@ -6,11 +6,12 @@ use Rattle.graph_ops.specs.Mentions.{is_among}
 use Rattle.graph_ops.specs.Operations.{State}
 use Rattle.graph_ops.specs.PlainGraph.{PlainGraph}
 use Rattle.program_defs.specs.declared.program.Program.{Program}
-use Rattle.program_defs.specs.declared.program.Program.TheVariants.{Show, Reach, Around, Path}
+use Rattle.program_defs.specs.declared.program.Program.TheVariants.{Show, Reach, Around, Path, Price}
 use Rattle.program_defs.specs.declared.aim.Aim.{Aim}
+use Rattle.program_defs.specs.declared.passing.Passing.TheVariants.{Priced}
 use Rattle.program_defs.specs.Searching.{aim_of, IsLeft, IsTargetNotIn}
 use Rattle.program_defs.specs.Visits.{through_level, up_to, visits_to, graph_read}
-use Rattle.program_defs.specs.Walks.{is_value}
+use Rattle.program_defs.specs.Walks.{passing_of, is_value}
 use Rattle.program_defs.proofs.NextVisit.{visits-of-reads}
 use Rattle.program_defs.proofs.OneList.{not-there, first-there, goes-on, visits-whole}
 use Rattle.program_defs.proofs.Sets.{head-in}
@@ -51,44 +52,54 @@ pub record IsCutAt (reads : List (Name × State)) (program : Program) (aim : Aim
 pub cut-at : (reads : List (Name × State)) (program : Program) (aim : Aim) (n : ℕ) (left : Option ℕ) → aim_of program ≡ Some aim → IsLeft aim.bound n left → IsCutAt reads program aim n
 cut-at reads (Show v) aim n left e l = cc
 cut-at reads (Reach from to pass) aim n left e l =
-    let is : record { from = from; target = Some to; bound = None; pass = pass } ≡ aim = cc in
+    let is : record { from = from; target = Some to; bound = None; pass = passing_of pass } ≡ aim = cc in
     subst (λ a. IsCutAt reads (Reach from to pass) a n) is (record {
       last = n + length reads;
       later = omega arith;
       is = sym (visits-whole (graph_read reads) (Reach from to pass) (length reads) n (visits-of-reads reads (Reach from to pass)).whole);
     })
 cut-at reads (Around from bound pass) aim n left e l =
-    let is : record { from = from; target = None; bound = Some bound; pass = pass } ≡ aim = cc in
+    let is : record { from = from; target = None; bound = Some bound; pass = passing_of pass } ≡ aim = cc in
     subst (λ a. IsCutAt reads (Around from bound pass) a n) is (record { last = bound; later = within bound left (subst (λ a. IsLeft a.bound n left) (sym is) l); is = refl })
   where
     within : (bound : ℕ) (left : Option ℕ) → IsLeft (Some bound) n left → n ≤ bound
     within bound None l = absurd l
     within bound (Some k) l = omega (arith, l)
 cut-at reads (Path from to bound pass) aim n left e l =
-    let is : record { from = from; target = Some to; bound = Some bound; pass = pass } ≡ aim = cc in
+    let is : record { from = from; target = Some to; bound = Some bound; pass = passing_of pass } ≡ aim = cc in
     subst (λ a. IsCutAt reads (Path from to bound pass) a n) is (record { last = bound; later = within bound left (subst (λ a. IsLeft a.bound n left) (sym is) l); is = refl })
   where
     within : (bound : ℕ) (left : Option ℕ) → IsLeft (Some bound) n left → n ≤ bound
     within bound None l = absurd l
     within bound (Some k) l = omega (arith, l)
+cut-at reads (Price from to key) aim n left e l =
+    let is : record { from = from; target = None; bound = None; pass = Priced key } ≡ aim = cc in
+    subst (λ a. IsCutAt reads (Price from to key) a n) is (record {
+      last = n + length reads;
+      later = omega arith;
+      is = sym (visits-whole (graph_read reads) (Price from to key) (length reads) n (visits-of-reads reads (Price from to key)).whole);
+    })
 
 -- and no later one if the bound is reached
 pub cut-at-bound : (reads : List (Name × State)) (program : Program) (aim : Aim) (n : ℕ) → aim_of program ≡ Some aim → IsLeft aim.bound n (Some 0)
     → visits_to (length reads) (graph_read reads) program ≡ cut aim.target (through_level n (graph_read reads) aim.pass aim.from)
 cut-at-bound reads (Show v) aim n e l = cc
 cut-at-bound reads (Reach from to pass) aim n e l =
-    let is : record { from = from; target = Some to; bound = None; pass = pass } ≡ aim = cc in
+    let is : record { from = from; target = Some to; bound = None; pass = passing_of pass } ≡ aim = cc in
     absurd (subst (λ a. IsLeft a.bound n (Some 0)) (sym is) l)
 cut-at-bound reads (Around from bound pass) aim n e l =
-    let is : record { from = from; target = None; bound = Some bound; pass = pass } ≡ aim = cc in
+    let is : record { from = from; target = None; bound = Some bound; pass = passing_of pass } ≡ aim = cc in
     let here : 0 + n ≡ bound = subst (λ a. IsLeft a.bound n (Some 0)) (sym is) l in
     let same : bound ≡ n = omega (arith, here) in
-    subst (λ a. visits_to (length reads) (graph_read reads) (Around from bound pass) ≡ cut a.target (through_level n (graph_read reads) a.pass a.from)) is (ap (λ m. through_level m (graph_read reads) pass from) same)
+    subst (λ a. visits_to (length reads) (graph_read reads) (Around from bound pass) ≡ cut a.target (through_level n (graph_read reads) a.pass a.from)) is (ap (λ m. through_level m (graph_read reads) (passing_of pass) from) same)
 cut-at-bound reads (Path from to bound pass) aim n e l =
-    let is : record { from = from; target = Some to; bound = Some bound; pass = pass } ≡ aim = cc in
+    let is : record { from = from; target = Some to; bound = Some bound; pass = passing_of pass } ≡ aim = cc in
     let here : 0 + n ≡ bound = subst (λ a. IsLeft a.bound n (Some 0)) (sym is) l in
     let same : bound ≡ n = omega (arith, here) in
-    subst (λ a. visits_to (length reads) (graph_read reads) (Path from to bound pass) ≡ cut a.target (through_level n (graph_read reads) a.pass a.from)) is (ap (λ m. up_to to (through_level m (graph_read reads) pass from)) same)
+    subst (λ a. visits_to (length reads) (graph_read reads) (Path from to bound pass) ≡ cut a.target (through_level n (graph_read reads) a.pass a.from)) is (ap (λ m. up_to to (through_level m (graph_read reads) (passing_of pass) from)) same)
+cut-at-bound reads (Price from to key) aim n e l =
+    let is : record { from = from; target = None; bound = None; pass = Priced key } ≡ aim = cc in
+    absurd (subst (λ a. IsLeft a.bound n (Some 0)) (sym is) l)
 
 -- the levels to a later one begin with those to this one
 pub begins : (graph : PlainGraph) (aim : Aim) (n last : ℕ) → n ≤ last → (more : List Name) × (through_level last graph aim.pass aim.from ≡ through_level n graph aim.pass aim.from ++ more)

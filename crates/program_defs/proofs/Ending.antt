@@ -13,7 +13,7 @@ use Rattle.graph_ops.specs.Operations.{State}
 use Rattle.graph_ops.specs.declared.record.Record.{Record}
 use Rattle.graph_ops.proofs.Vertices.{same_name-refl}
 use Rattle.program_defs.specs.declared.aim.Aim.{Aim}
-use Rattle.program_defs.specs.declared.program.Filter.{Filter}
+use Rattle.program_defs.specs.declared.passing.Passing.{Passing}
 use Rattle.program_defs.specs.declared.program.Program.{Program}
 use Rattle.program_defs.specs.Agreement.{Agree}
 use Rattle.program_defs.specs.Asking.{AreRead, count_unread, names_asked}
@@ -46,7 +46,7 @@ find-passes p (x ∷ xs) v e = at (p x) refl e (find-passes p xs v)
     at false is f rest = rest f
 
 -- the targets of a record in a map are among those of all
-targets-among : (pass : Option Filter) (entries : List (Name × Record)) (u : Name) (v : Name) → IsTrue (is_among (targets pass (map.find name_cmp u entries)) v) → IsTrue (is_among (flat_map (λ (e : Name × Record). targets pass (Some e.1)) entries) v)
+targets-among : (pass : Passing) (entries : List (Name × Record)) (u : Name) (v : Name) → IsTrue (is_among (targets pass (map.find name_cmp u entries)) v) → IsTrue (is_among (flat_map (λ (e : Name × Record). targets pass (Some e.1)) entries) v)
 targets-among pass [] u v k = cc
 targets-among pass (e ∷ entries) u v k = at (same_name u e.0) k (targets-among pass entries u v)
   where

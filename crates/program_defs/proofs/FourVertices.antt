@@ -13,6 +13,7 @@ use Rattle.graph_ops.specs.PlainGraph.{PlainGraph, empty_graph, transaction, gra
 use Rattle.graph_ops.specs.declared.op.Op.{Op}
 use Rattle.graph_ops.specs.declared.op.Op.TheVariants.{Create, Delete, Link, Tag}
 use Rattle.program_defs.specs.declared.program.Program.TheVariants.{Show, Reach, Around, Path}
+use Rattle.program_defs.specs.declared.passing.Passing.TheVariants.{Every}
 use Rattle.program_defs.specs.declared.program.Answer.TheVariants.{Found, Shown, Reached, Walk}
 use Rattle.program_defs.specs.Walks.{targets, is_walk, walk_length, is_walk_within}
 use Rattle.program_defs.specs.PlainAnswer.{IsPlainAnswer}
@@ -129,19 +130,19 @@ filtered_visits = refl
 -- Answers
 
 -- a, b, d is a walk from a to d of at most two edges
-pub walk_abd : IsTrue (is_walk_within 2 graph None a d (a ∷ b ∷ d ∷ []))
+pub walk_abd : IsTrue (is_walk_within 2 graph Every a d (a ∷ b ∷ d ∷ []))
 walk_abd = refl
 
 -- it is no walk of at most one edge
-pub walk_too_long : is_walk_within 1 graph None a d (a ∷ b ∷ d ∷ []) ≡ false
+pub walk_too_long : is_walk_within 1 graph Every a d (a ∷ b ∷ d ∷ []) ≡ false
 walk_too_long = refl
 
 -- without the vertex b it is no walk
-pub walk_abd_gone : is_walk without_b None a d (a ∷ b ∷ d ∷ []) ≡ false
+pub walk_abd_gone : is_walk without_b Every a d (a ∷ b ∷ d ∷ []) ≡ false
 walk_abd_gone = refl
 
 -- without the vertex b, a, c, d is a walk from a to d of at most two edges
-pub walk_acd : IsTrue (is_walk_within 2 without_b None a d (a ∷ c ∷ d ∷ []))
+pub walk_acd : IsTrue (is_walk_within 2 without_b Every a d (a ∷ c ∷ d ∷ []))
 walk_acd = refl
 
 -- `reach` from a to d answers yes
@@ -156,21 +157,21 @@ shown_absent = refl
 pub shown : IsPlainAnswer graph (Show d) (Shown (Some (record { props = []; edges = [] })))
 shown = refl
 
-no_walk : (walk : List Name) → ¬ IsTrue (is_walk without_both None a d walk)
-no_walk walk h = let inside = stays_inside without_both None (a ∷ b ∷ c ∷ []) refl walk a d refl h in cc
+no_walk : (walk : List Name) → ¬ IsTrue (is_walk without_both Every a d walk)
+no_walk walk h = let inside = stays_inside without_both Every (a ∷ b ∷ c ∷ []) refl walk a d refl h in cc
 
 -- without the vertices b and c, `reach` from a to d answers no
 pub not_reached : IsPlainAnswer without_both (Reach a d None) (Reached false)
 not_reached = (λ h. cc, λ h. absurd (no_walk h.0 h.1))
 
-walk_to : (v : Name) → IsTrue (is_among (a ∷ b ∷ c ∷ []) v) → (walk : List Name) × IsTrue (is_walk_within 1 graph None a v walk)
+walk_to : (v : Name) → IsTrue (is_among (a ∷ b ∷ c ∷ []) v) → (walk : List Name) × IsTrue (is_walk_within 1 graph Every a v walk)
 walk_to v h =
     elim (or_cases (same_name a v) _ h) [
-      | inl same ↦ (a ∷ [], subst (λ w. IsTrue (is_walk_within 1 graph None a w (a ∷ []))) (one_name a v same) refl)
+      | inl same ↦ (a ∷ [], subst (λ w. IsTrue (is_walk_within 1 graph Every a w (a ∷ []))) (one_name a v same) refl)
       | inr more ↦ elim (or_cases (same_name b v) _ more) [
-        | inl same ↦ (a ∷ b ∷ [], subst (λ w. IsTrue (is_walk_within 1 graph None a w (a ∷ b ∷ []))) (one_name b v same) refl)
+        | inl same ↦ (a ∷ b ∷ [], subst (λ w. IsTrue (is_walk_within 1 graph Every a w (a ∷ b ∷ []))) (one_name b v same) refl)
         | inr last ↦ elim (or_cases (same_name c v) _ last) [
-          | inl same ↦ (a ∷ c ∷ [], subst (λ w. IsTrue (is_walk_within 1 graph None a w (a ∷ c ∷ []))) (one_name c v same) refl)
+          | inl same ↦ (a ∷ c ∷ [], subst (λ w. IsTrue (is_walk_within 1 graph Every a w (a ∷ c ∷ []))) (one_name c v same) refl)
           | inr none ↦ cc
         ]
       ]
@@ -178,21 +179,21 @@ walk_to v h =
 
 -- `around` a within one edge finds a, b and c
 pub found : IsPlainAnswer graph (Around a 1 None) (Found (a ∷ b ∷ c ∷ []))
-found = (refl, λ v. (walk_to v, λ h. around_visits graph None a v 1 h.0 h.1))
+found = (refl, λ v. (walk_to v, λ h. around_visits graph Every a v 1 h.0 h.1))
 
 -- The least walk from a to d goes through b: one through c comes later, and none is shorter
 
 different : (v w : Name) → same_name v w ≡ false → ¬ (v ≡ w)
 different v w differ same = both_ways _ differ (subst (λ y. IsTrue (same_name v y)) same ((eq_by_cmp_equiv nat_list_cmp_total).refl v))
 
-two_edges : (walk : List Name) → IsTrue (is_walk graph None a d walk) → 2 ≤ walk_length walk
+two_edges : (walk : List Name) → IsTrue (is_walk graph Every a d walk) → 2 ≤ walk_length walk
 two_edges [] h = cc
-two_edges (v ∷ []) h = let one = one_vertex graph None a d v h in absurd (different a d refl (one.start ∙ one.end))
+two_edges (v ∷ []) h = let one = one_vertex graph Every a d v h in absurd (different a d refl (one.start ∙ one.end))
 two_edges (v ∷ w ∷ []) h =
-    let step = first_step graph None a d v w [] h in
-    let one = one_vertex graph None w d w step.onward in
-    let edge : IsTrue (is_among (targets None (graph a)) d) =
-    subst (λ y. IsTrue (is_among (targets None (graph a)) y)) one.end (subst (λ y. IsTrue (is_among (targets None (graph y)) w)) (sym step.start) step.edge) in
+    let step = first_step graph Every a d v w [] h in
+    let one = one_vertex graph Every w d w step.onward in
+    let edge : IsTrue (is_among (targets Every (graph a)) d) =
+    subst (λ y. IsTrue (is_among (targets Every (graph a)) y)) one.end (subst (λ y. IsTrue (is_among (targets Every (graph y)) w)) (sym step.start) step.edge) in
     cc
 two_edges (v ∷ w ∷ u ∷ rest) h = omega arith
 
@@ -209,15 +210,15 @@ through w h =
     at : (y : Name) → IsTrue (is_le (slice_cmp name_cmp (a ∷ b ∷ d ∷ []) (a ∷ y ∷ d ∷ []))) → y ≡ w → IsTrue (is_le (slice_cmp name_cmp (a ∷ b ∷ d ∷ []) (a ∷ w ∷ d ∷ [])))
     at y le is = subst (λ z. IsTrue (is_le (slice_cmp name_cmp (a ∷ b ∷ d ∷ []) (a ∷ z ∷ d ∷ [])))) is le
 
-first_of_two : (walk : List Name) → IsTrue (is_walk graph None a d walk) → walk_length walk ≡ 2 → IsTrue (is_le (slice_cmp name_cmp (a ∷ b ∷ d ∷ []) walk))
+first_of_two : (walk : List Name) → IsTrue (is_walk graph Every a d walk) → walk_length walk ≡ 2 → IsTrue (is_le (slice_cmp name_cmp (a ∷ b ∷ d ∷ []) walk))
 first_of_two [] h two = cc
 first_of_two (v ∷ []) h two = absurd (omega (arith, two))
 first_of_two (v ∷ w ∷ []) h two = absurd (omega (arith, two))
 first_of_two (v ∷ w ∷ u ∷ []) h two =
-    let one = first_step graph None a d v w (u ∷ []) h in
-    let next = first_step graph None w d w u [] one.onward in
-    let last = one_vertex graph None u d u next.onward in
-    let edge = subst (λ y. IsTrue (is_among (targets None (graph y)) w)) (sym one.start) one.edge in
+    let one = first_step graph Every a d v w (u ∷ []) h in
+    let next = first_step graph Every w d w u [] one.onward in
+    let last = one_vertex graph Every u d u next.onward in
+    let edge = subst (λ y. IsTrue (is_among (targets Every (graph y)) w)) (sym one.start) one.edge in
     subst (λ y. IsTrue (is_le (slice_cmp name_cmp (a ∷ b ∷ d ∷ []) (y ∷ w ∷ u ∷ [])))) one.start
     (subst (λ y. IsTrue (is_le (slice_cmp name_cmp (a ∷ b ∷ d ∷ []) (a ∷ w ∷ y ∷ [])))) (sym last.end) (through w edge))
 first_of_two (v ∷ w ∷ u ∷ t ∷ rest) h two = absurd (omega (arith, two))
@@ -229,25 +230,25 @@ least_walk = record { walks = refl; shortest = two_edges; first = first_of_two }
 -- within one edge it answers that there is no walk
 pub no_shorter_walk : IsPlainAnswer graph (Path a d 1 None) (Walk None)
 no_shorter_walk walk h =
-    let parts = and_parts (is_walk graph None a d walk) _ h in
+    let parts = and_parts (is_walk graph Every a d walk) _ h in
     let least = two_edges walk parts.0 in
     let within = leb-true (walk_length walk) 1 parts.1 in
     omega (arith, least, within)
 
 -- `path` from a to x, which isn't there, answers that there is no walk
 pub walk_to_absent : IsPlainAnswer graph (Path a x 5 None) (Walk None)
-walk_to_absent walk h = let there = end_present graph None a x walk (and_parts (is_walk graph None a x walk) _ h).0 in cc
+walk_to_absent walk h = let there = end_present graph Every a x walk (and_parts (is_walk graph Every a x walk) _ h).0 in cc
 
 -- and so does `path` from x to d
 pub walk_from_absent : IsPlainAnswer graph (Path x d 5 None) (Walk None)
-walk_from_absent walk h = let inside = stays_inside graph None (x ∷ []) refl walk x d refl (and_parts (is_walk graph None x d walk) _ h).0 in cc
+walk_from_absent walk h = let inside = stays_inside graph Every (x ∷ []) refl walk x d refl (and_parts (is_walk graph Every x d walk) _ h).0 in cc
 
 -- a walk of no edge
 pub walk_to_itself : IsPlainAnswer graph (Path a a 0 None) (Walk (Some (a ∷ [])))
 walk_to_itself = record { walks = refl; shortest = λ other h. omega arith; first = itself_first }
   where
-    itself_first : (other : List Name) → IsTrue (is_walk graph None a a other) → walk_length other ≡ 0 → IsTrue (is_le (slice_cmp name_cmp (a ∷ []) other))
+    itself_first : (other : List Name) → IsTrue (is_walk graph Every a a other) → walk_length other ≡ 0 → IsTrue (is_le (slice_cmp name_cmp (a ∷ []) other))
     itself_first [] h none = cc
     itself_first (v ∷ []) h none =
-        let one = one_vertex graph None a a v h in subst (λ y. IsTrue (is_le (slice_cmp name_cmp (a ∷ []) (y ∷ [])))) one.start refl
+        let one = one_vertex graph Every a a v h in subst (λ y. IsTrue (is_le (slice_cmp name_cmp (a ∷ []) (y ∷ [])))) one.start refl
     itself_first (v ∷ w ∷ rest) h none = absurd (omega (arith, none))

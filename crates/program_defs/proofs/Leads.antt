@@ -1,6 +1,6 @@
 -- The list over parents is the least walk: the least list to a vertex goes over its source of least rank.
 -- Used by Backs and Pathing.
-use Rattle.std.proofs.Common.{append-nil, append_assoc, ◌≡◌, ℕ, zero, suc, ◌+◌, ◌-◌, ◌<◌, ◌≤◌, List, [], ◌∷◌, ◌++◌, IsTrue, length, refl, sym, ap, subst, ◌∙◌, Option, inl, inr, arith}
+use Rattle.std.proofs.Common.{append-nil, append_assoc, ◌≡◌, ℕ, zero, suc, ◌+◌, ◌-◌, ◌<◌, ◌≤◌, List, [], ◌∷◌, ◌++◌, IsTrue, length, refl, sym, ap, subst, ◌∙◌, inl, inr, arith}
 use Rattle.std.specs.Prelude.{is_some}
 use Rattle.std.specs.Cmp.Lexicographic.{slice_cmp}
 use Rattle.std.specs.declared.cmp.Ordering.{Ordering}
@@ -13,7 +13,7 @@ use Rattle.weave_data.specs.declared.name.Name.{Name}
 use Rattle.graph_ops.specs.Mentions.{is_among}
 use Rattle.graph_ops.specs.PlainGraph.{PlainGraph}
 use Rattle.graph_ops.proofs.Vertices.{same_name-refl}
-use Rattle.program_defs.specs.declared.program.Filter.{Filter}
+use Rattle.program_defs.specs.declared.passing.Passing.{Passing}
 use Rattle.program_defs.specs.Ranks.{IsRankedAt, trace}
 use Rattle.program_defs.specs.Visits.{levels_to, through_level}
 use Rattle.program_defs.specs.Walks.{targets, is_walk, walk_length, IsLeastWalk}
@@ -84,11 +84,11 @@ trace-end parent n v w e = sym (trace-last parent n v v) ∙ ap (last_or v) e �
 -- Lists that lead to a vertex
 
 -- a list of vertices that leads from the start to a vertex over n passing edges; the vertex itself need not be there
-abbrev pub IsLead : ℕ → PlainGraph → Option Filter → Name → Name → List Name → Type 0
+abbrev pub IsLead : ℕ → PlainGraph → Passing → Name → Name → List Name → Type 0
 IsLead zero graph pass from v lead = (v ≡ from) × (lead ≡ v ∷ [])
 IsLead (suc n) graph pass from v lead = (u : Name) × (front : List Name) × (lead ≡ front ++ v ∷ []) × IsLead n graph pass from u front × IsTrue (is_among (targets pass (graph u)) v)
 
-module _ (graph : PlainGraph) (pass : Option Filter) (from : Name) where
+module _ (graph : PlainGraph) (pass : Passing) (from : Name) where
   lead-long : (n : ℕ) (v : Name) (lead : List Name) → IsLead n graph pass from v lead → length lead ≡ suc n
   lead-long zero v lead l = ap length l.1
   lead-long (suc n) v lead l = ap length l.2 ∙ long-snoc l.1 v ∙ ap suc (lead-long n l.0 l.1 l.3)

@@ -1,7 +1,7 @@
 -- An existing vertex is in the levels 0 to n exactly if a walk of at most n edges leads to it.
 -- Used by `levels_are_distances`, Answering, AnswersAgree, Ending, FourVertices, Leads, NextVisit, Once, OneList,
 -- Rereading and Walked.
-use Rattle.std.proofs.Common.{◌≡◌, ℕ, zero, suc, ◌+◌, ◌≤◌, Bool, true, false, not, List, [], ◌∷◌, ◌++◌, IsTrue, length, refl, sym, ap, subst, ◌∙◌, Option, inl, inr, arith}
+use Rattle.std.proofs.Common.{◌≡◌, ℕ, zero, suc, ◌+◌, ◌≤◌, Bool, true, false, not, List, [], ◌∷◌, ◌++◌, IsTrue, length, refl, sym, ap, subst, ◌∙◌, inl, inr, arith}
 use Rattle.std.specs.Prelude.{is_some, ◌↔◌}
 use Rattle.std.proofs.lemmas.Bool.{and_parts, and_from, not-true, leb-true, le-leb, or_cases, or_left}
 use Rattle.weave_data.specs.Names.{same_name}
@@ -9,14 +9,13 @@ use Rattle.weave_data.specs.declared.name.Name.{Name}
 use Rattle.graph_ops.specs.Mentions.{is_among}
 use Rattle.graph_ops.specs.PlainGraph.{PlainGraph}
 use Rattle.graph_ops.proofs.Vertices.{same_name-refl}
-use Rattle.program_defs.specs.declared.program.Filter.{Filter}
-use Rattle.program_defs.specs.declared.program.Program.TheVariants.{Around}
+use Rattle.program_defs.specs.declared.passing.Passing.{Passing}
 use Rattle.program_defs.specs.Walks.{targets, is_walk, walk_length, is_walk_within}
-use Rattle.program_defs.specs.Visits.{targets_of_all, levels_to, through_level, visits_to}
+use Rattle.program_defs.specs.Visits.{targets_of_all, levels_to, through_level}
 use Rattle.program_defs.proofs.Closed.{first_step, one_vertex}
 use Rattle.program_defs.proofs.Members.{among-left, among-right, among-cases, all-targets-has, filter-has, as_set-has, filter-only, as_set-only, target-of, IsSource, all-targets-only}
 
-module _ (graph : PlainGraph) (pass : Option Filter) (start : Name) where
+module _ (graph : PlainGraph) (pass : Passing) (start : Name) where
   -- the next level has the new targets of this one
   next-has : (n : ℕ) (v w : Name) → IsTrue (is_among (levels_to n graph pass start).level v) → IsTrue (is_among (targets pass (graph v)) w) → IsTrue (is_among (through_level (suc n) graph pass start) w)
   next-has n v w h g = here (is_among (through_level n graph pass start) w) refl
@@ -56,9 +55,9 @@ module _ (graph : PlainGraph) (pass : Option Filter) (start : Name) where
       subst (λ m. IsTrue (is_among (through_level m graph pass start) to)) e
       (walk-through (w ∷ rest) (suc n) k w to (targets-through n x w x_in step.edge) (omega (arith, le)) step.onward)
 
--- each end of a walk within the bound is visited
-pub around_visits : (graph : PlainGraph) (pass : Option Filter) (from to : Name) (bound : ℕ) (walk : List Name)
-    → IsTrue (is_walk_within bound graph pass from to walk) → IsTrue (is_among (visits_to 0 graph (Around from bound pass)) to)
+-- each end of a walk within the bound is in the levels up to it
+pub around_visits : (graph : PlainGraph) (pass : Passing) (from to : Name) (bound : ℕ) (walk : List Name)
+    → IsTrue (is_walk_within bound graph pass from to walk) → IsTrue (is_among (through_level bound graph pass from) to)
 around_visits graph pass from to bound walk h =
     let parts = and_parts (is_walk graph pass from to walk) _ h in
     let le = leb-true (walk_length walk) bound parts.1 in
@@ -69,7 +68,7 @@ around_visits graph pass from to bound walk h =
 -- A walk with one edge more
 
 -- a walk with one passing edge more, to a vertex that is there, is a walk
-pub walk-and-edge : (graph : PlainGraph) (pass : Option Filter) (from u v : Name) (walk : List Name)
+pub walk-and-edge : (graph : PlainGraph) (pass : Passing) (from u v : Name) (walk : List Name)
     → IsTrue (is_walk graph pass from u walk) → IsTrue (is_among (targets pass (graph u)) v) → IsTrue (is_some (graph v)) → IsTrue (is_walk graph pass from v (walk ++ v ∷ []))
 walk-and-edge graph pass from u v [] walks edge there = cc
 walk-and-edge graph pass from u v (x ∷ []) walks edge there =
@@ -83,7 +82,7 @@ walk-and-edge graph pass from u v (x ∷ w ∷ rest) walks edge there =
     and_from _ _ (and_from _ _ (and_from _ _ start step.there) step.edge) (walk-and-edge graph pass w u v (w ∷ rest) step.onward edge there)
 
 -- a walk with one vertex more is longer by one edge
-pub length-and-edge : (graph : PlainGraph) (pass : Option Filter) (from u v : Name) (walk : List Name)
+pub length-and-edge : (graph : PlainGraph) (pass : Passing) (from u v : Name) (walk : List Name)
     → IsTrue (is_walk graph pass from u walk) → walk_length (walk ++ v ∷ []) ≡ suc (walk_length walk)
 length-and-edge graph pass from u v [] walks = cc
 length-and-edge graph pass from u v (x ∷ rest) walks = one_more rest
@@ -92,7 +91,7 @@ length-and-edge graph pass from u v (x ∷ rest) walks = one_more rest
     one_more [] = refl
     one_more (y ∷ xs) = ap suc (one_more xs)
 
-module _ (graph : PlainGraph) (pass : Option Filter) (from : Name) where
+module _ (graph : PlainGraph) (pass : Passing) (from : Name) where
   -- a vertex of a level is a target of one before, if it isn't the start
   pub source-before : (n : ℕ) (v : Name) → IsTrue (is_among (levels_to (suc n) graph pass from).level v) → (u : Name) × IsSource graph pass (levels_to n graph pass from).level v u
   source-before n v h =

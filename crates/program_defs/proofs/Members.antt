@@ -1,7 +1,7 @@
 -- Members of the lists that levels are made of.
--- Used by Answering, AnswersAgree, Ending, GoingOn, Leads, Levels, NextVisit, Once, OneAnswer, OneList, Onward,
--- Pathing, Rereading, Searched, Seeing, Sets, Sorting, VisitsAgree and Walked.
-use Rattle.std.proofs.Common.{◌≡◌, ◌&&◌, Bool, true, false, cond, List, [], ◌∷◌, ◌++◌, IsTrue, refl, sym, ap, subst, Option, Some, None, ◌⊎◌, inl, inr}
+-- Used by `searches_find_the_present`, Answering, AnswersAgree, Ending, GoingOn, Leads, Levels, NextVisit, Once,
+-- OneAnswer, OneList, OnePrice, Onward, Pathing, Rereading, Searched, Seeing, Sets, Sorting, VisitsAgree and Walked.
+use Rattle.std.proofs.Common.{◌≡◌, ◌&&◌, Bool, true, false, cond, List, [], ◌∷◌, ◌++◌, IsTrue, refl, sym, ap, subst, Some, None, ◌⊎◌, inl, inr}
 use Rattle.std.specs.Prelude.{is_some}
 use Rattle.std.specs.BTreeSet.{insert_key}
 use Rattle.std.specs.Cmp.Lexicographic.{slice_cmp}
@@ -17,7 +17,7 @@ use Rattle.graph_ops.specs.Mentions.{is_among}
 use Rattle.graph_ops.specs.Operations.{State}
 use Rattle.graph_ops.specs.PlainGraph.{PlainGraph}
 use Rattle.graph_ops.proofs.Vertices.{same_name-refl}
-use Rattle.program_defs.specs.declared.program.Filter.{Filter}
+use Rattle.program_defs.specs.declared.passing.Passing.{Passing}
 use Rattle.program_defs.specs.Walks.{targets}
 use Rattle.program_defs.specs.Visits.{as_set, targets_of_all}
 
@@ -50,7 +50,7 @@ among-cases (x ∷ xs) ys w h =
     ]
 
 -- a passing target of one of some vertices is among the targets of all of them
-pub all-targets-has : (graph : PlainGraph) (pass : Option Filter) (vs : List Name) (v w : Name)
+pub all-targets-has : (graph : PlainGraph) (pass : Passing) (vs : List Name) (v w : Name)
     → IsTrue (is_among vs v) → IsTrue (is_among (targets pass (graph v)) w) → IsTrue (is_among (targets_of_all graph pass vs) w)
 all-targets-has graph pass [] v w h g = cc
 all-targets-has graph pass (x ∷ xs) v w h g =
@@ -139,17 +139,17 @@ as_set-only (v ∷ vs) w h =
     elim (insert-only (as_set vs) v w h) [ inl same ↦ or_left _ _ same | inr more ↦ or_right _ _ (as_set-only vs w more) ]
 
 -- what has a target is there
-pub target-of : (pass : Option Filter) (state : State) (w : Name) → IsTrue (is_among (targets pass state) w) → IsTrue (is_some state)
+pub target-of : (pass : Passing) (state : State) (w : Name) → IsTrue (is_among (targets pass state) w) → IsTrue (is_some state)
 target-of pass None w h = cc
 target-of pass (Some now) w h = refl
 
 -- a target of some is one of one of them
-pub record IsSource (graph : PlainGraph) (pass : Option Filter) (vs : List Name) (w : Name) (v : Name) : Type 0 where
+pub record IsSource (graph : PlainGraph) (pass : Passing) (vs : List Name) (w : Name) (v : Name) : Type 0 where
   pub among : IsTrue (is_among vs v)
   pub edge : IsTrue (is_among (targets pass (graph v)) w)
 
 -- what is among the targets of some vertices is a passing target of one of them
-pub all-targets-only : (graph : PlainGraph) (pass : Option Filter) (vs : List Name) (w : Name) → IsTrue (is_among (targets_of_all graph pass vs) w) → (v : Name) × IsSource graph pass vs w v
+pub all-targets-only : (graph : PlainGraph) (pass : Passing) (vs : List Name) (w : Name) → IsTrue (is_among (targets_of_all graph pass vs) w) → (v : Name) × IsSource graph pass vs w v
 all-targets-only graph pass [] w h = cc
 all-targets-only graph pass (x ∷ xs) w h =
     elim (among-cases (targets pass (graph x)) (targets_of_all graph pass xs) w h) [

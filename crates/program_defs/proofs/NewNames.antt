@@ -1,6 +1,6 @@
 -- Names that are new to a table, and the targets of edges that are looked at in turn.
--- Used by `look`, `note_all`, `reach`, Noting and Seeing.
-use Rattle.std.proofs.Common.{append_assoc, add-one, ◌≡◌, ◌+◌, ◌<◌, ℕ, length, get_or, drop, Bool, true, false, ◌||◌, ◌&&◌, not, List, [], ◌∷◌, ◌++◌, map, refl, sym, ap, subst, ◌∙◌, Option}
+-- Used by `look`, `note_all`, `reach`, `row_of`, Noting, Seeing and crate priced_path.
+use Rattle.std.proofs.Common.{append_assoc, add-one, ◌≡◌, ◌+◌, ◌<◌, ℕ, length, get_or, drop, Bool, true, false, ◌||◌, ◌&&◌, not, List, [], ◌∷◌, ◌++◌, map, refl, sym, ap, subst, ◌∙◌}
 use Rattle.std.proofs.Math.Seq.{drop-cons}
 use Rattle.std.specs.Prelude.{if◌then◌else◌}
 use Rattle.std.specs.List.{filter}
@@ -11,9 +11,9 @@ use Rattle.graph_ops.specs.Mentions.{is_among}
 use Rattle.graph_ops.specs.declared.record.Edge.{Edge}
 use Rattle.graph_ops.proofs.Vertices.{same_name-refl}
 use Rattle.graph_ops.proofs.States.{same_name-sym}
-use Rattle.program_defs.specs.declared.program.Filter.{Filter}
+use Rattle.program_defs.specs.declared.passing.Passing.{Passing}
 use Rattle.program_defs.specs.Searching.{has_name, new_names, IsOnce}
-use Rattle.program_defs.specs.Walks.{passes_filter}
+use Rattle.program_defs.specs.Walks.{passes_edge}
 
 -- a table has the names among its own
 pub has-among : (names : List Name) (v : Name) → has_name names v ≡ is_among names v
@@ -29,8 +29,8 @@ known-same names name v known = at (same_name name v) refl
     at false is = refl
 
 -- the targets of the passing ones of these edges
-abbrev pub targets_in : Option Filter → List (Name × Edge) → List Name
-targets_in pass edges = map (λ (edge : Edge). edge.target) (filter (passes_filter pass) (values_of edges))
+abbrev pub targets_in : Passing → List (Name × Edge) → List Name
+targets_in pass edges = map (λ (edge : Edge). edge.target) (filter (passes_edge pass) (values_of edges))
 
 -- what is left of the edges begins with the one that is read
 pub next-edge : (all edges : List (Name × Edge)) (i : ℕ) (one : Name × Edge) → all ≡ edges → i < length all → one ≡ get_or all i one → drop i edges ≡ one ∷ drop (i + 1) edges
@@ -41,8 +41,8 @@ abbrev pub AddsName : List Name → Name → List Name → Type 0
 AddsName names name more = (v : Name) → has_name more v ≡ same_name name v || has_name names v
 
 -- if the next edge passes and its target is added unless known, the names found and to be found stay the same
-pub new-more : (pass : Option Filter) (front rest : List (Name × Edge)) (key : Name) (edge : Edge) (all found found' reached reached' : List Name)
-    → front ≡ (key, edge) ∷ rest → passes_filter pass edge ≡ true
+pub new-more : (pass : Passing) (front rest : List (Name × Edge)) (key : Name) (edge : Edge) (all found found' reached reached' : List Name)
+    → front ≡ (key, edge) ∷ rest → passes_edge pass edge ≡ true
     → found' ≡ found ++ (if has_name reached edge.target then [] else edge.target ∷ []) → AddsName reached edge.target reached'
     → found ++ new_names (has_name reached) (targets_in pass front) ≡ all → found' ++ new_names (has_name reached') (targets_in pass rest) ≡ all
 new-more pass front rest key edge all found found' reached reached' next pass_it adds knows so_far =
@@ -55,8 +55,8 @@ new-more pass front rest key edge all found found' reached reached' next pass_it
     ∙ so_far
 
 -- when a passing edge's target is noted as reached, the names reached or still to come are the same as before
-pub known-more : (pass : Option Filter) (front rest : List (Name × Edge)) (key : Name) (edge : Edge) (reached reached' : List Name) (all : Name → Bool)
-    → front ≡ (key, edge) ∷ rest → passes_filter pass edge ≡ true → ((v : Name) → has_name reached' v ≡ same_name edge.target v || has_name reached v)
+pub known-more : (pass : Passing) (front rest : List (Name × Edge)) (key : Name) (edge : Edge) (reached reached' : List Name) (all : Name → Bool)
+    → front ≡ (key, edge) ∷ rest → passes_edge pass edge ≡ true → ((v : Name) → has_name reached' v ≡ same_name edge.target v || has_name reached v)
     → ((v : Name) → is_among (targets_in pass front) v || has_name reached v ≡ all v) → (v : Name) → is_among (targets_in pass rest) v || has_name reached' v ≡ all v
 known-more pass front rest key edge reached reached' all next pass_it knows so_far v =
     let here : targets_in pass front ≡ edge.target ∷ targets_in pass rest = ap (targets_in pass) next ∙ rw pass_it refl in
@@ -72,11 +72,11 @@ known-more pass front rest key edge reached reached' all next pass_it knows so_f
     turned false false c = refl
 
 -- if the first edge passes, the targets of the passing edges are its target, and then those of the rest
-pub targets-next : (pass : Option Filter) (front rest : List (Name × Edge)) (key : Name) (edge : Edge) → front ≡ (key, edge) ∷ rest → passes_filter pass edge ≡ true → targets_in pass front ≡ edge.target ∷ targets_in pass rest
+pub targets-next : (pass : Passing) (front rest : List (Name × Edge)) (key : Name) (edge : Edge) → front ≡ (key, edge) ∷ rest → passes_edge pass edge ≡ true → targets_in pass front ≡ edge.target ∷ targets_in pass rest
 targets-next pass front rest key edge next pass_it = ap (targets_in pass) next ∙ rw pass_it refl
 
 -- the next edge doesn't pass
-pub targets-skipped : (pass : Option Filter) (front rest : List (Name × Edge)) (key : Name) (edge : Edge) → front ≡ (key, edge) ∷ rest → passes_filter pass edge ≡ false → targets_in pass front ≡ targets_in pass rest
+pub targets-skipped : (pass : Passing) (front rest : List (Name × Edge)) (key : Name) (edge : Edge) → front ≡ (key, edge) ∷ rest → passes_edge pass edge ≡ false → targets_in pass front ≡ targets_in pass rest
 targets-skipped pass front rest key edge next pass_it = ap (targets_in pass) next ∙ rw pass_it refl
 
 -- Members of new names

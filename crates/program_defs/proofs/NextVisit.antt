@@ -1,7 +1,7 @@
 -- The list of visits of what was read is complete after as many levels as there are reads.
 -- Used by `next_visit_misses_none`, Answering, Asking, Cutting, Ending, GoingOn, Listing, Onward, Pathing, ReadOrder
 -- and Searched.
-use Rattle.std.proofs.Common.{append-nil, ◌≡◌, ℕ, zero, suc, ◌+◌, ◌-◌, ◌<◌, ◌≤◌, Bool, true, false, cond, List, [], ◌∷◌, ◌++◌, IsTrue, length, refl, sym, ap, subst, ◌∙◌, Option, inl, inr, arith}
+use Rattle.std.proofs.Common.{append-nil, ◌≡◌, ℕ, zero, suc, ◌+◌, ◌-◌, ◌<◌, ◌≤◌, Bool, true, false, cond, List, [], ◌∷◌, ◌++◌, IsTrue, length, refl, sym, ap, subst, ◌∙◌, inl, inr, arith}
 use Rattle.std.specs.Prelude.{is_some, if◌then◌else◌}
 use Rattle.std.specs.List.{filter}
 use Rattle.std.specs.Map.{keys_of}
@@ -11,9 +11,11 @@ use Rattle.weave_data.specs.declared.name.Name.{Name}
 use Rattle.graph_ops.specs.Mentions.{is_among}
 use Rattle.graph_ops.specs.Operations.{State}
 use Rattle.graph_ops.specs.PlainGraph.{PlainGraph}
-use Rattle.program_defs.specs.declared.program.Filter.{Filter}
+use Rattle.program_defs.specs.declared.passing.Passing.{Passing}
+use Rattle.program_defs.specs.declared.passing.Passing.TheVariants.{Priced}
 use Rattle.program_defs.specs.declared.program.Program.{Program}
-use Rattle.program_defs.specs.declared.program.Program.TheVariants.{Show, Reach, Around, Path}
+use Rattle.program_defs.specs.declared.program.Program.TheVariants.{Show, Reach, Around, Path, Price}
+use Rattle.program_defs.specs.Walks.{passing_of}
 use Rattle.program_defs.specs.Visits.{levels_to, through_level, up_to, visits_to, IsListOfVisits, graph_read}
 use Rattle.program_defs.proofs.Members.{among-left, among-right, target-of}
 use Rattle.program_defs.proofs.Levels.{source-before, new-in-level, no-member}
@@ -87,7 +89,7 @@ up_to-longer target (x ∷ xs) more v h = cut (same_name target x) (up_to-longer
     cut true rest g = g
     cut false rest g = elim (or_cases (same_name x v) _ g) [ inl same ↦ or_left _ _ same | inr later ↦ or_right _ _ (rest later) ]
 
-module _ (reads : List (Name × State)) (pass : Option Filter) (from : Name) where
+module _ (reads : List (Name × State)) (pass : Passing) (from : Name) where
   abbrev read : PlainGraph
   read = graph_read reads
 
@@ -124,6 +126,24 @@ module _ (reads : List (Name × State)) (pass : Option Filter) (from : Name) whe
       ∙ append-nil (through_level (k + length reads) read pass from)
       ∙ through-same k
 
+  -- what is in the levels to n is in the levels to the number of reads
+  through-whole : (n : ℕ) (v : Name) → IsTrue (is_among (through_level n read pass from) v) → IsTrue (is_among (through_level (length reads) read pass from) v)
+  through-whole n v h =
+      elim (cases_lt n (length reads)) [
+        | inl fewer ↦
+            let e : (length reads - n) + n ≡ length reads = omega (arith, fewer) in
+            subst (λ m. IsTrue (is_among (through_level m read pass from) v)) e (longer (length reads - n))
+        | inr more ↦
+            let e : n ≡ (n - length reads) + length reads = omega (arith, more) in
+            subst (λ xs. IsTrue (is_among xs v)) (ap (λ m. through_level m read pass from) e ∙ through-same (n - length reads)) h
+      ]
+    where
+      longer : (k : ℕ) → IsTrue (is_among (through_level (k + n) read pass from) v)
+      longer zero = let e : n ≡ 0 + n = omega arith in subst (λ m. IsTrue (is_among (through_level m read pass from) v)) e h
+      longer (suc k) =
+          let e : suc (k + n) ≡ suc k + n = omega arith in
+          subst (λ m. IsTrue (is_among (through_level m read pass from) v)) e (among-left (through_level (k + n) read pass from) _ v (longer k))
+
   -- what is before the target in the levels to n is so in the levels to the number of reads
   up_to-whole : (target : Name) (n : ℕ) (v : Name) → IsTrue (is_among (up_to target (through_level n read pass from)) v) → IsTrue (is_among (up_to target (through_level (length reads) read pass from)) v)
   up_to-whole target n v h =
@@ -148,6 +168,7 @@ visits-of-reads reads program = record { last_level = length reads; in_turn = re
   where
     visited : (program : Program) (n : ℕ) (v : Name) → IsTrue (is_among (visits_to n (graph_read reads) program) v) → IsTrue (is_among (visits_to (length reads) (graph_read reads) program) v)
     visited (Show v) n w h = h
-    visited (Reach start to pass) n w h = up_to-whole reads pass start to n w h
+    visited (Reach start to pass) n w h = up_to-whole reads (passing_of pass) start to n w h
     visited (Around start bound pass) n w h = h
     visited (Path start to bound pass) n w h = h
+    visited (Price start to key) n w h = through-whole reads (Priced key) start n w h

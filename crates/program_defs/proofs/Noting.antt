@@ -1,6 +1,6 @@
 -- Hops that are noted edge by edge, and marks that are given hop by hop.
 -- Used by `first_mark`, `mark_in_turn` and `note_all`.
-use Rattle.std.proofs.Common.{append_assoc, ◌≡◌, ℕ, ◌+◌, Bool, true, false, cond, ◌||◌, List, [], ◌∷◌, ◌++◌, length, refl, sym, ap, ◌∙◌, Option, Some, None, arith}
+use Rattle.std.proofs.Common.{append_assoc, ◌≡◌, ℕ, ◌+◌, Bool, true, false, cond, ◌||◌, List, [], ◌∷◌, ◌++◌, length, refl, sym, ap, ◌∙◌, Some, None, arith}
 use Rattle.std.specs.Prelude.{is_some, if◌then◌else◌}
 use Rattle.weave_data.specs.Names.{same_name}
 use Rattle.weave_data.specs.declared.name.Name.{Name}
@@ -8,15 +8,15 @@ use Rattle.graph_ops.specs.Mentions.{is_among}
 use Rattle.graph_ops.specs.declared.record.Edge.{Edge}
 use Rattle.program_defs.specs.declared.path_search.Hop.{Hop}
 use Rattle.program_defs.specs.declared.path_search.Mark.{Mark}
-use Rattle.program_defs.specs.declared.program.Filter.{Filter}
+use Rattle.program_defs.specs.declared.passing.Passing.{Passing}
 use Rattle.program_defs.specs.LeastWalks.{mark_in, with_mark, marks_after, hops_from}
-use Rattle.program_defs.specs.Walks.{passes_filter}
+use Rattle.program_defs.specs.Walks.{passes_edge}
 use Rattle.program_defs.proofs.Marking.{marked-old, marked-new}
 use Rattle.program_defs.proofs.NewNames.{targets_in, targets-next}
 
 -- if the next edge passes and its hop is put at the end, the hops so far and those to come stay the same
-pub hop-more : (pass : Option Filter) (v : Name) (rank : ℕ) (front rest : List (Name × Edge)) (key : Name) (edge : Edge) (hops hops' all : List Hop)
-    → front ≡ (key, edge) ∷ rest → passes_filter pass edge ≡ true → hops' ≡ hops ++ record { rank = rank; target = edge.target; parent = v } ∷ []
+pub hop-more : (pass : Passing) (v : Name) (rank : ℕ) (front rest : List (Name × Edge)) (key : Name) (edge : Edge) (hops hops' all : List Hop)
+    → front ≡ (key, edge) ∷ rest → passes_edge pass edge ≡ true → hops' ≡ hops ++ record { rank = rank; target = edge.target; parent = v } ∷ []
     → hops ++ hops_from v rank (targets_in pass front) ≡ all → hops' ++ hops_from v rank (targets_in pass rest) ≡ all
 hop-more pass v rank front rest key edge hops hops' all next pass_it adds so_far =
     ap (λ xs. xs ++ hops_from v rank (targets_in pass rest)) adds

@@ -1,6 +1,6 @@
 -- No vertex is visited twice.
 -- Used by Answering, GoingOn, Onward, Searched and Seeing.
-use Rattle.std.proofs.Common.{◌≡◌, ℕ, zero, suc, Bool, true, false, List, [], ◌∷◌, ◌++◌, IsTrue, refl, sym, subst, Option, inl, inr}
+use Rattle.std.proofs.Common.{◌≡◌, ℕ, zero, suc, Bool, true, false, List, [], ◌∷◌, ◌++◌, IsTrue, refl, sym, subst, inl, inr}
 use Rattle.std.specs.Prelude.{if◌then◌else◌}
 use Rattle.std.proofs.lemmas.Bool.{or_parts, both_ways, false_from_ne_true, or_cases}
 use Rattle.weave_data.specs.Names.{same_name, one_name}
@@ -8,10 +8,12 @@ use Rattle.weave_data.specs.declared.name.Name.{Name}
 use Rattle.graph_ops.specs.Mentions.{is_among}
 use Rattle.graph_ops.specs.PlainGraph.{PlainGraph}
 use Rattle.graph_ops.proofs.Vertices.{same_name-refl}
-use Rattle.program_defs.specs.declared.program.Filter.{Filter}
+use Rattle.program_defs.specs.declared.passing.Passing.{Passing}
+use Rattle.program_defs.specs.declared.passing.Passing.TheVariants.{Priced}
 use Rattle.program_defs.specs.declared.program.Program.{Program}
-use Rattle.program_defs.specs.declared.program.Program.TheVariants.{Show, Reach, Around, Path}
+use Rattle.program_defs.specs.declared.program.Program.TheVariants.{Show, Reach, Around, Path, Price}
 use Rattle.program_defs.specs.Visits.{targets_of_all, not_among, levels_to, through_level, up_to, visits_to}
+use Rattle.program_defs.specs.Walks.{passing_of}
 use Rattle.program_defs.specs.Searching.{IsOnce}
 use Rattle.program_defs.proofs.Levels.{new-in-level}
 use Rattle.program_defs.proofs.Members.{among-cases, among-right}
@@ -51,7 +53,7 @@ up_to-once to (x ∷ xs) once = at (same_name to x) (up_to-once to xs once.1)
     at true rest = (refl, tt)
     at false rest = (false_from_ne_true _ (λ k. both_ways _ once.0 (up-to-only to xs x k)), rest)
 
-module _ (graph : PlainGraph) (pass : Option Filter) (from : Name) where
+module _ (graph : PlainGraph) (pass : Passing) (from : Name) where
   -- the names of a level rise
   pub level-set : (n : ℕ) → IsSet (levels_to n graph pass from).level
   level-set zero = (λ y k. cc, tt)
@@ -65,6 +67,7 @@ module _ (graph : PlainGraph) (pass : Option Filter) (from : Name) where
 -- no vertex comes twice in a program's list of visits through n levels
 pub visits-once : (n : ℕ) (graph : PlainGraph) (program : Program) → IsOnce (visits_to n graph program)
 visits-once n graph (Show v) = (refl, tt)
-visits-once n graph (Reach from to pass) = up_to-once to _ (through-once graph pass from n)
-visits-once n graph (Around from bound pass) = through-once graph pass from bound
-visits-once n graph (Path from to bound pass) = up_to-once to _ (through-once graph pass from bound)
+visits-once n graph (Reach from to pass) = up_to-once to _ (through-once graph (passing_of pass) from n)
+visits-once n graph (Around from bound pass) = through-once graph (passing_of pass) from bound
+visits-once n graph (Path from to bound pass) = up_to-once to _ (through-once graph (passing_of pass) from bound)
+visits-once n graph (Price from to key) = through-once graph (Priced key) from n

@@ -12,12 +12,13 @@ use Rattle.weave_data.specs.Names.{name_cmp}
 use Rattle.weave_data.specs.declared.name.Name.{Name}
 use Rattle.graph_ops.specs.PlainGraph.{PlainGraph}
 use Rattle.program_defs.specs.declared.program.Program.{Program}
-use Rattle.program_defs.specs.declared.program.Program.TheVariants.{Show, Reach, Around, Path}
+use Rattle.program_defs.specs.declared.program.Program.TheVariants.{Show, Reach, Around, Path, Price}
 use Rattle.program_defs.specs.declared.program.Answer.{Answer}
-use Rattle.program_defs.specs.declared.program.Answer.TheVariants.{Shown, Reached, Found, Walk}
+use Rattle.program_defs.specs.declared.program.Answer.TheVariants.{Shown, Reached, Found, Walk, Priced}
 use Rattle.program_defs.specs.PlainAnswer.{IsPlainAnswer}
-use Rattle.program_defs.specs.Walks.{is_walk, walk_length}
+use Rattle.program_defs.specs.Walks.{passing_of, is_walk, walk_length}
 use Rattle.program_defs.proofs.Members.{lists-equal}
+use Rattle.program_defs.proofs.OnePrice.{answer-one}
 use Rattle.program_defs.proofs.Sets.{same-sets, rising-set}
 
 -- names lists that are each at most the other are equal
@@ -38,8 +39,8 @@ one_answer graph (Reach from to pass) (Reached x) (Reached y) g h = ap Reached (
 one_answer graph (Around from bound pass) (Found xs) (Found ys) g h =
     ap Found (same-sets xs ys (rising-set xs g.0) (rising-set ys h.0) (λ v. same_test _ _ (λ k. (h.1 v).1 ((g.1 v).0 k)) (λ k. (g.1 v).1 ((h.1 v).0 k))))
 one_answer graph (Path from to bound pass) (Walk (Some xs)) (Walk (Some ys)) g h =
-    let x = and_parts (is_walk graph pass from to xs) _ g.walks in
-    let y = and_parts (is_walk graph pass from to ys) _ h.walks in
+    let x = and_parts (is_walk graph (passing_of pass) from to xs) _ g.walks in
+    let y = and_parts (is_walk graph (passing_of pass) from to ys) _ h.walks in
     let le = g.shortest ys y.0 in
     let ge = h.shortest xs x.0 in
     let same : walk_length ys ≡ walk_length xs = omega (arith, le, ge) in
@@ -47,6 +48,9 @@ one_answer graph (Path from to bound pass) (Walk (Some xs)) (Walk (Some ys)) g h
 one_answer graph (Path from to bound pass) (Walk (Some xs)) (Walk None) g h = absurd (h xs g.walks)
 one_answer graph (Path from to bound pass) (Walk None) (Walk (Some ys)) g h = absurd (g ys h.walks)
 one_answer graph (Path from to bound pass) (Walk None) (Walk None) g h = refl
+one_answer graph (Price from to key) (Priced walk total bounds) (Priced other sum list) g h =
+    let same = answer-one graph from to key walk other total sum bounds list g h in
+    λ i. Priced (same.0 i) (same.1 i) (same.2 i)
 one_answer graph (Show v) (Reached x) b g h = absurd g
 one_answer graph (Show v) (Found x) b g h = absurd g
 one_answer graph (Show v) (Walk x) b g h = absurd g
@@ -71,3 +75,19 @@ one_answer graph (Path from to bound pass) (Found x) b g h = absurd g
 one_answer graph (Path from to bound pass) (Walk s) (Shown x) g h = absurd h
 one_answer graph (Path from to bound pass) (Walk s) (Reached x) g h = absurd h
 one_answer graph (Path from to bound pass) (Walk s) (Found x) g h = absurd h
+one_answer graph (Show v) (Priced w t l) b g h = absurd g
+one_answer graph (Show v) (Shown s) (Priced w t l) g h = absurd h
+one_answer graph (Reach from to pass) (Priced w t l) b g h = absurd g
+one_answer graph (Reach from to pass) (Reached s) (Priced w t l) g h = absurd h
+one_answer graph (Around from bound pass) (Priced w t l) b g h = absurd g
+one_answer graph (Around from bound pass) (Found s) (Priced w t l) g h = absurd h
+one_answer graph (Path from to bound pass) (Priced w t l) b g h = absurd g
+one_answer graph (Path from to bound pass) (Walk s) (Priced w t l) g h = absurd h
+one_answer graph (Price from to key) (Shown x) b g h = absurd g
+one_answer graph (Price from to key) (Priced w t l) (Shown x) g h = absurd h
+one_answer graph (Price from to key) (Reached x) b g h = absurd g
+one_answer graph (Price from to key) (Priced w t l) (Reached x) g h = absurd h
+one_answer graph (Price from to key) (Found x) b g h = absurd g
+one_answer graph (Price from to key) (Priced w t l) (Found x) g h = absurd h
+one_answer graph (Price from to key) (Walk x) b g h = absurd g
+one_answer graph (Price from to key) (Priced w t l) (Walk x) g h = absurd h

@@ -1,6 +1,6 @@
 -- A program has one list of visits at most.
 -- Used by `list_of_visits_is_one`, AnswersAgree, Cutting, GoingOn, Onward, ReadOrder, Searched and VisitsAgree.
-use Rattle.std.proofs.Common.{append-nil, ◌||◌, ◌≡◌, ℕ, zero, suc, ◌+◌, ◌-◌, ◌≤◌, Bool, true, false, List, [], ◌∷◌, ◌++◌, IsTrue, refl, sym, ap, subst, ◌∙◌, Option, inl, inr, arith}
+use Rattle.std.proofs.Common.{append-nil, ◌||◌, ◌≡◌, ℕ, zero, suc, ◌+◌, ◌-◌, ◌≤◌, Bool, true, false, List, [], ◌∷◌, ◌++◌, IsTrue, refl, sym, ap, subst, ◌∙◌, inl, inr, arith}
 use Rattle.std.specs.Prelude.{if◌then◌else◌}
 use Rattle.std.proofs.lemmas.Bool.{cases_lt, both_ways, or_left, or_parts}
 use Rattle.std.proofs.lemmas.List.{append_assoc}
@@ -10,9 +10,11 @@ use Rattle.graph_ops.specs.Mentions.{is_among}
 use Rattle.graph_ops.specs.PlainGraph.{PlainGraph}
 use Rattle.graph_ops.proofs.Vertices.{same_name-refl}
 use Rattle.graph_ops.proofs.States.{same_name-sym}
-use Rattle.program_defs.specs.declared.program.Filter.{Filter}
+use Rattle.program_defs.specs.declared.passing.Passing.{Passing}
+use Rattle.program_defs.specs.declared.passing.Passing.TheVariants.{Priced}
 use Rattle.program_defs.specs.declared.program.Program.{Program}
-use Rattle.program_defs.specs.declared.program.Program.TheVariants.{Show, Reach, Around, Path}
+use Rattle.program_defs.specs.declared.program.Program.TheVariants.{Show, Reach, Around, Path, Price}
+use Rattle.program_defs.specs.Walks.{passing_of}
 use Rattle.program_defs.specs.Visits.{as_set, targets_of_all, not_among, levels_to, through_level, up_to, visits_to, IsVisited, IsListOfVisits}
 use Rattle.program_defs.proofs.Members.{among-right}
 use Rattle.program_defs.proofs.Levels.{new-in-level}
@@ -48,7 +50,7 @@ first-there target x xs = here (same_name target x)
     here true = or_left _ _ (same_name-refl x)
     here false = or_left _ _ (same_name-refl x)
 
-module _ (graph : PlainGraph) (pass : Option Filter) (from : Name) where
+module _ (graph : PlainGraph) (pass : Passing) (from : Name) where
   -- after an empty level each is empty
   empty-after : (k n : ℕ) → (levels_to (suc n) graph pass from).level ≡ [] → (levels_to (suc (k + n)) graph pass from).level ≡ []
   empty-after zero n h = let e : n ≡ 0 + n = omega arith in subst (λ m. (levels_to (suc m) graph pass from).level ≡ []) e h
@@ -76,8 +78,23 @@ module _ (graph : PlainGraph) (pass : Option Filter) (from : Name) where
       let level = (levels_to (suc (k + n)) graph pass from).level in
       (rest.0 ++ level, ap (λ m. through_level m graph pass from) e ∙ ap (λ xs. xs ++ level) rest.1 ∙ append_assoc (through_level n graph pass from) rest.0 level)
 
+  -- a level is empty if the levels before it have its first vertex
+  empty-if-old : (n : ℕ) → ((x : Name) → IsTrue (is_among (levels_to (suc n) graph pass from).level x) → IsTrue (is_among (through_level n graph pass from) x)) → (levels_to (suc n) graph pass from).level ≡ []
+  empty-if-old n old = at (levels_to (suc n) graph pass from).level refl
+    where
+      at : (level : List Name) → (levels_to (suc n) graph pass from).level ≡ level → (levels_to (suc n) graph pass from).level ≡ []
+      at [] e = e
+      at (x ∷ xs) e =
+          let first : IsTrue (is_among (levels_to (suc n) graph pass from).level x) = subst (λ level. IsTrue (is_among level x)) (sym e) (or_left _ _ (same_name-refl x)) in
+          absurd (both_ways _ (new-in-level graph pass from (suc n) x first) (old x first))
+
+  -- if the levels to n have each vertex of any, more levels change nothing
+  all-whole : (n k : ℕ) → ((v : Name) (m : ℕ) → IsTrue (is_among (through_level m graph pass from) v) → IsTrue (is_among (through_level n graph pass from) v))
+      → through_level (k + n) graph pass from ≡ through_level n graph pass from
+  all-whole n k whole = nothing-more k n (empty-if-old n (λ x first. whole x (suc n) (among-right (through_level n graph pass from) (levels_to (suc n) graph pass from).level x first)))
+
   -- if the list up to the target is whole, more levels change nothing
-  reach-whole : (to : Name) (n k : ℕ) → ((v : Name) → IsVisited graph (Reach from to pass) v → IsTrue (is_among (up_to to (through_level n graph pass from)) v))
+  reach-whole : (to : Name) (n k : ℕ) → ((v : Name) (m : ℕ) → IsTrue (is_among (up_to to (through_level m graph pass from)) v) → IsTrue (is_among (up_to to (through_level n graph pass from)) v))
       → up_to to (through_level (k + n) graph pass from) ≡ up_to to (through_level n graph pass from)
   reach-whole to n k whole = there (is_among (through_level n graph pass from) to) refl
     where
@@ -96,16 +113,17 @@ module _ (graph : PlainGraph) (pass : Option Filter) (from : Name) where
               (among-right (through_level n graph pass from) _ x (subst (λ level. IsTrue (is_among (up_to to level) x)) (sym e) (first-there to x xs))) in
               let uncut : up_to to (through_level n graph pass from) ≡ through_level n graph pass from =
               ap (up_to to) (sym (append-nil (through_level n graph pass from))) ∙ not-there to (through_level n graph pass from) [] is ∙ append-nil (through_level n graph pass from) in
-              let old : IsTrue (is_among (through_level n graph pass from) x) = subst (λ ys. IsTrue (is_among ys x)) uncut (whole x (suc n, first)) in
+              let old : IsTrue (is_among (through_level n graph pass from) x) = subst (λ ys. IsTrue (is_among ys x)) uncut (whole x (suc n) first) in
               let new = new-in-level graph pass from (suc n) x (subst (λ level. IsTrue (is_among level x)) (sym e) (or_left _ _ (same_name-refl x))) in
               absurd (both_ways _ new old)
 
 -- the list gone through to one level, if it is whole, is the one gone through to another
 pub visits-whole : (graph : PlainGraph) (program : Program) (n k : ℕ) → ((v : Name) → IsVisited graph program v → IsTrue (is_among (visits_to n graph program) v)) → visits_to (k + n) graph program ≡ visits_to n graph program
 visits-whole graph (Show v) n k whole = refl
-visits-whole graph (Reach from to pass) n k whole = reach-whole graph pass from to n k whole
+visits-whole graph (Reach from to pass) n k whole = reach-whole graph (passing_of pass) from to n k (λ v m h. whole v (m, h))
 visits-whole graph (Around from bound pass) n k whole = refl
 visits-whole graph (Path from to bound pass) n k whole = refl
+visits-whole graph (Price from to key) n k whole = all-whole graph (Priced key) from n k (λ v m h. whole v (m, h))
 
 -- two complete lists of visits of a program on one graph are equal
 pub one_list : (graph : PlainGraph) (program : Program) (a b : List Name) → IsListOfVisits graph program a → IsListOfVisits graph program b → a ≡ b

@@ -1,6 +1,6 @@
 -- If graphs agree on the first vertices of a list of visits, the next one is the same.
 -- Used by `visits_are_asked_for`, Answering, Feeding and GoingOn.
-use Rattle.std.proofs.Common.{append-nil, append_assoc, ◌≡◌, ℕ, zero, suc, ◌+◌, Bool, true, false, not, List, [], ◌∷◌, ◌++◌, IsTrue, length, refl, sym, ap, subst, ◌∙◌, Option, Some, ◌⊎◌, inl, inr, arith}
+use Rattle.std.proofs.Common.{append-nil, append_assoc, ◌≡◌, ℕ, zero, suc, ◌+◌, Bool, true, false, not, List, [], ◌∷◌, ◌++◌, IsTrue, length, refl, sym, ap, subst, ◌∙◌, Some, ◌⊎◌, inl, inr, arith}
 use Rattle.std.specs.Prelude.{if◌then◌else◌}
 use Rattle.std.specs.List.{find}
 use Rattle.std.specs.Map.{keys_of}
@@ -11,10 +11,12 @@ use Rattle.graph_ops.specs.Mentions.{is_among}
 use Rattle.graph_ops.specs.PlainGraph.{PlainGraph}
 use Rattle.graph_ops.proofs.Vertices.{same_name-refl}
 use Rattle.graph_ops.proofs.States.{same_name-sym}
-use Rattle.program_defs.specs.declared.program.Filter.{Filter}
+use Rattle.program_defs.specs.declared.passing.Passing.{Passing}
+use Rattle.program_defs.specs.declared.passing.Passing.TheVariants.{Priced}
 use Rattle.program_defs.specs.declared.program.Program.{Program}
-use Rattle.program_defs.specs.declared.program.Program.TheVariants.{Show, Reach, Around, Path}
+use Rattle.program_defs.specs.declared.program.Program.TheVariants.{Show, Reach, Around, Path, Price}
 use Rattle.program_defs.specs.Agreement.{Agree}
+use Rattle.program_defs.specs.Walks.{passing_of}
 use Rattle.program_defs.specs.Visits.{levels_to, names_through, through_level, up_to, visits_to, IsListOfVisits, graph_read, next_visit, states_at, first_of}
 use Rattle.program_defs.proofs.Members.{among-left}
 use Rattle.program_defs.proofs.NextVisit.{visits-of-reads}
@@ -57,7 +59,7 @@ first-append : (x : Name) (xs ys : List Name) → Some x ≡ first_of xs → Som
 first-append x [] ys e = cc
 first-append x (y ∷ xs) ys e = e
 
-module _ (g h : PlainGraph) (pass : Option Filter) (from : Name) where
+module _ (g h : PlainGraph) (pass : Passing) (from : Name) where
   through-onward : (n : ℕ) (done rest : List Name) → through_level n g pass from ≡ done ++ rest → Agree g h done → GoesOn (through_level n h pass from) done rest
   through-onward zero done rest is agree = record { rest' = rest; is = is; next = refl }
   through-onward (suc n) done rest is agree =
@@ -110,7 +112,7 @@ first-cut to x xs = at (same_name to x)
     at true = refl
     at false = refl
 
-cut-onward : (g h : PlainGraph) (pass : Option Filter) (from to : Name) (n : ℕ) (done rest : List Name) → up_to to (through_level n g pass from) ≡ done ++ rest → Agree g h done → GoesOn (up_to to (through_level n h pass from)) done rest
+cut-onward : (g h : PlainGraph) (pass : Passing) (from to : Name) (n : ℕ) (done rest : List Name) → up_to to (through_level n g pass from) ≡ done ++ rest → Agree g h done → GoesOn (up_to to (through_level n h pass from)) done rest
 cut-onward g h pass from to n done [] is agree =
     let whole : up_to to (through_level n g pass from) ≡ done = is ∙ append-nil done in
     record { rest' = []; is = sym (same-up-to g h pass from to n (λ v k. agree v (subst (λ xs. IsTrue (is_among xs v)) whole k))) ∙ is; next = refl }
@@ -133,9 +135,10 @@ cut-onward g h pass from to n done (x ∷ rest) is agree =
 -- if a graph agrees with another on its first visits, the other's list begins with them, and the next visit is the same
 pub visits-onward : (g h : PlainGraph) (program : Program) (n : ℕ) (done rest : List Name) → visits_to n g program ≡ done ++ rest → Agree g h done → GoesOn (visits_to n h program) done rest
 visits-onward g h (Show v) n done rest is agree = record { rest' = rest; is = is; next = refl }
-visits-onward g h (Reach from to pass) n done rest is agree = cut-onward g h pass from to n done rest is agree
-visits-onward g h (Around from bound pass) n done rest is agree = through-onward g h pass from bound done rest is agree
-visits-onward g h (Path from to bound pass) n done rest is agree = cut-onward g h pass from to bound done rest is agree
+visits-onward g h (Reach from to pass) n done rest is agree = cut-onward g h (passing_of pass) from to n done rest is agree
+visits-onward g h (Around from bound pass) n done rest is agree = through-onward g h (passing_of pass) from bound done rest is agree
+visits-onward g h (Path from to bound pass) n done rest is agree = cut-onward g h (passing_of pass) from to bound done rest is agree
+visits-onward g h (Price from to key) n done rest is agree = through-onward g h (Priced key) from n done rest is agree
 
 -- The states of a graph
 

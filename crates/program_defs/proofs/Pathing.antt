@@ -11,6 +11,7 @@ use Rattle.graph_ops.specs.PlainGraph.{PlainGraph}
 use Rattle.program_defs.specs.declared.aim.Aim.{Aim}
 use Rattle.program_defs.specs.declared.path_search.Hop.{Hop}
 use Rattle.program_defs.specs.declared.path_search.Mark.{Mark}
+use Rattle.program_defs.specs.declared.passing.Passing.{Passing}
 use Rattle.program_defs.specs.declared.program.Filter.{Filter}
 use Rattle.program_defs.specs.declared.program.Program.{Program}
 use Rattle.program_defs.specs.declared.program.Program.TheVariants.{Path}
@@ -20,7 +21,7 @@ use Rattle.program_defs.specs.Ranks.{trace}
 use Rattle.program_defs.specs.Searching.{SearchState, SeesVertex, IsWithinLevel, IsGoing, IsTargetNotIn, HasSearched, SameReached, aim_of, next_of, levels_read, gone_on}
 use Rattle.program_defs.specs.Visits.{levels_to, through_level, graph_read, first_of}
 use Rattle.program_defs.specs.LeastWalks.{WalkState, HasWalked, HasHops, HasMarked, IsMarkedBy, IsRankedTo, SameWalked, mark_in, marks_after, parents, ranks, hops_from}
-use Rattle.program_defs.specs.Walks.{targets, is_walk, IsLeastWalk}
+use Rattle.program_defs.specs.Walks.{passing_of, targets, is_walk, IsLeastWalk}
 use Rattle.program_defs.proofs.Answering.{same-search}
 use Rattle.program_defs.proofs.Closed.{end_present}
 use Rattle.program_defs.proofs.Leads.{no-nearer, trace-is-least}
@@ -43,7 +44,7 @@ module _ (program : Program) (old : WalkState) (v : Name) (state : State) (reads
   abbrev now : PlainGraph
   now = graph_read ((v, state) ∷ reads)
 
-  abbrev pass : Option Filter
+  abbrev pass : Passing
   pass = old.search.aim.pass
 
   abbrev from : Name
@@ -148,7 +149,7 @@ last-one rest v (x ∷ more) b e is = sym (is ∙ ap (λ xs. nat_le (length xs) 
 
 -- one more read, by the parts that the code has
 module _ (program : Program) (old : WalkState) (v : Name) (state : State) (reads : List (Name × State)) (h : HasWalked program old reads) (next : next_of old.search ≡ Some v) (last : SearchState) (step : SeesVertex v state old.search last) (aim_kept : last.aim ≡ old.search.aim)
-    (rank : ℕ) (rank-is : rank ≡ ranks (mark_in old.marks) v) (p : Option Filter) (pass-is : p ≡ old.search.aim.pass) (noted : List Hop) (noted-is : noted ≡ old.hops ++ hops_from v rank (targets p state)) (is_last : Bool) (last-is : is_last ≡ nat_le (length old.search.rest) 1) (room : ℕ) where
+    (rank : ℕ) (rank-is : rank ≡ ranks (mark_in old.marks) v) (p : Passing) (pass-is : p ≡ old.search.aim.pass) (noted : List Hop) (noted-is : noted ≡ old.hops ++ hops_from v rank (targets p state)) (is_last : Bool) (last-is : is_last ≡ nat_le (length old.search.rest) 1) (room : ℕ) where
   noted-all : noted ≡ old.hops ++ hops_from v (ranks (mark_in old.marks) v) (targets old.search.aim.pass state)
   noted-all = noted-is ∙ (λ i. old.hops ++ hops_from v (rank-is i) (targets (pass-is i) state))
 
@@ -213,7 +214,7 @@ same-walked program old new reads same h =
 -- The plain answer
 
 -- a vertex of the levels up to one is of one of them
-level-of : (graph : PlainGraph) (pass : Option Filter) (from v : Name) (n : ℕ) → IsTrue (is_among (through_level n graph pass from) v)
+level-of : (graph : PlainGraph) (pass : Passing) (from v : Name) (n : ℕ) → IsTrue (is_among (through_level n graph pass from) v)
     → (level : ℕ) × (level ≤ n) × IsTrue (is_among (levels_to level graph pass from).level v)
 level-of graph pass from v zero h = (0, omega arith, h)
 level-of graph pass from v (suc n) h =
@@ -223,7 +224,7 @@ level-of graph pass from v (suc n) h =
     ]
 
 module _ (from to : Name) (bound : ℕ) (pass : Option Filter) (walk : WalkState) (reads : List (Name × State)) (h : HasWalked (Path from to bound pass) walk reads) where
-  aim-is : record { from = from; target = Some to; bound = Some bound; pass = pass } ≡ walk.search.aim
+  aim-is : record { from = from; target = Some to; bound = Some bound; pass = passing_of pass } ≡ walk.search.aim
   aim-is = some-aim _ _ h.searched.aim
     where
       some-aim : (a b : Aim) → Some a ≡ Some b → a ≡ b
@@ -239,21 +240,21 @@ module _ (from to : Name) (bound : ℕ) (pass : Option Filter) (walk : WalkState
 
   -- the target was read and is there
   pub walk-answer : IsTrue (is_among walk.search.present to) → (found : List Name)
-      → ((graph : PlainGraph) (p : Option Filter) (d : ℕ) → d ≤ bound → IsRankedTo d graph p walk.search.aim.from (mark_in walk.marks) → IsTrue (is_among (levels_to d graph p walk.search.aim.from).level to) → found ≡ trace (parents (mark_in walk.marks)) d to)
+      → ((graph : PlainGraph) (p : Passing) (d : ℕ) → d ≤ bound → IsRankedTo d graph p walk.search.aim.from (mark_in walk.marks) → IsTrue (is_among (levels_to d graph p walk.search.aim.from).level to) → found ≡ trace (parents (mark_in walk.marks)) d to)
       → IsPlainAnswer (graph_read reads) (Path from to bound pass) (Walk (Some found))
   walk-answer k found is =
       let graph : PlainGraph = graph_read reads in
-      let in_levels : IsTrue (is_among (through_level h.level graph pass from) to) = subst (λ (a : Aim). IsTrue (is_among (through_level h.level graph a.pass a.from) to)) (sym aim-is) (h.inside to k) in
-      let at = level-of graph pass from to h.level in_levels in
+      let in_levels : IsTrue (is_among (through_level h.level graph (passing_of pass) from) to) = subst (λ (a : Aim). IsTrue (is_among (through_level h.level graph a.pass a.from) to)) (sym aim-is) (h.inside to k) in
+      let at = level-of graph (passing_of pass) from to h.level in_levels in
       let le = at.1 in
-      let ranked_all : IsRankedTo h.level graph pass from (mark_in walk.marks) = subst (λ (a : Aim). IsRankedTo h.level graph a.pass a.from (mark_in walk.marks)) (sym aim-is) h.marked.ranked in
-      let ranked : IsRankedTo at.0 graph pass from (mark_in walk.marks) = λ j less. ranked_all j (omega (arith, less, le)) in
-      let near = up-to-only to (through_level bound graph pass from) to (h.searched.found.visited to (read-there reads to (sym (h.searched.found.present to) ∙ k))) in
-      let least = trace-is-least graph pass from (parents (mark_in walk.marks)) (ranks (mark_in walk.marks)) at.0 bound to ranked at.2 (sym (h.searched.found.present to) ∙ k) near in
+      let ranked_all : IsRankedTo h.level graph (passing_of pass) from (mark_in walk.marks) = subst (λ (a : Aim). IsRankedTo h.level graph a.pass a.from (mark_in walk.marks)) (sym aim-is) h.marked.ranked in
+      let ranked : IsRankedTo at.0 graph (passing_of pass) from (mark_in walk.marks) = λ j less. ranked_all j (omega (arith, less, le)) in
+      let near = up-to-only to (through_level bound graph (passing_of pass) from) to (h.searched.found.visited to (read-there reads to (sym (h.searched.found.present to) ∙ k))) in
+      let least = trace-is-least graph (passing_of pass) from (parents (mark_in walk.marks)) (ranks (mark_in walk.marks)) at.0 bound to ranked at.2 (sym (h.searched.found.present to) ∙ k) near in
       let from-is : from ≡ walk.search.aim.from = ap (λ (a : Aim). a.from) aim-is in
-      let same = is graph pass at.0 (no-nearer graph pass from at.0 to at.2 bound near) (subst (λ f. IsRankedTo at.0 graph pass f (mark_in walk.marks)) from-is ranked) (subst (λ f. IsTrue (is_among (levels_to at.0 graph pass f).level to)) from-is at.2) in
-      subst (λ xs. IsLeastWalk bound graph pass from to xs) (sym same) least
+      let same = is graph (passing_of pass) at.0 (no-nearer graph (passing_of pass) from at.0 to at.2 bound near) (subst (λ f. IsRankedTo at.0 graph (passing_of pass) f (mark_in walk.marks)) from-is ranked) (subst (λ f. IsTrue (is_among (levels_to at.0 graph (passing_of pass) f).level to)) from-is at.2) in
+      subst (λ xs. IsLeastWalk bound graph (passing_of pass) from to xs) (sym same) least
 
   -- or there is no walk
   pub no-walk-answer : is_among walk.search.present to ≡ false → IsPlainAnswer (graph_read reads) (Path from to bound pass) (Walk None)
-  no-walk-answer none other w = both_ways _ none (h.searched.found.present to ∙ end_present (graph_read reads) pass from to other (and_parts (is_walk (graph_read reads) pass from to other) _ w).0)
+  no-walk-answer none other w = both_ways _ none (h.searched.found.present to ∙ end_present (graph_read reads) (passing_of pass) from to other (and_parts (is_walk (graph_read reads) (passing_of pass) from to other) _ w).0)

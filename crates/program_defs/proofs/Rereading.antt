@@ -10,7 +10,7 @@ use Rattle.graph_ops.specs.PlainGraph.{PlainGraph}
 use Rattle.graph_ops.proofs.Vertices.{same_name-refl}
 use Rattle.program_defs.specs.declared.path_search.Hop.{Hop}
 use Rattle.program_defs.specs.declared.path_search.Mark.{Mark}
-use Rattle.program_defs.specs.declared.program.Filter.{Filter}
+use Rattle.program_defs.specs.declared.passing.Passing.{Passing}
 use Rattle.program_defs.specs.Ranks.{IsRankedAt}
 use Rattle.program_defs.specs.Searching.{SearchState, IsWithinLevel, levels_read}
 use Rattle.program_defs.specs.Visits.{levels_to, names_through, through_level, graph_read}
@@ -23,20 +23,20 @@ use Rattle.program_defs.proofs.Walked.{in-left, in-right, in-cases, level-throug
 
 -- The levels before
 
-before-more : (graph : PlainGraph) (pass : Option Filter) (from : Name) (k n : ℕ) → k ≤ n → (w : Name) → IsTrue (is_among (levels_to k graph pass from).before w) → IsTrue (is_among (levels_to n graph pass from).before w)
+before-more : (graph : PlainGraph) (pass : Passing) (from : Name) (k n : ℕ) → k ≤ n → (w : Name) → IsTrue (is_among (levels_to k graph pass from).before w) → IsTrue (is_among (levels_to n graph pass from).before w)
 before-more graph pass from zero n le w h = cc
 before-more graph pass from (suc k) zero le w h = absurd (omega (arith, le))
 before-more graph pass from (suc k) (suc n) le w h =
     let e : n - k + k ≡ n = omega (arith, le) in
     subst (λ m. IsTrue (is_among (through_level m graph pass from) w)) e (through-more graph pass from (n - k) k w h)
 
-level-before : (graph : PlainGraph) (pass : Option Filter) (from : Name) (k n : ℕ) → k < n → (w : Name) → IsTrue (is_among (levels_to k graph pass from).level w) → IsTrue (is_among (levels_to n graph pass from).before w)
+level-before : (graph : PlainGraph) (pass : Passing) (from : Name) (k n : ℕ) → k < n → (w : Name) → IsTrue (is_among (levels_to k graph pass from).level w) → IsTrue (is_among (levels_to n graph pass from).before w)
 level-before graph pass from k zero less w h = absurd (omega (arith, less))
 level-before graph pass from k (suc n) less w h = level-through graph pass from k n (omega (arith, less)) w h
 
 -- Ranks over another graph that has the same levels, and the same states in this one
 
-ranked-over : (g h : PlainGraph) (pass : Option Filter) (from : Name) (k : ℕ) (parent : Name → Name) (rank : Name → ℕ) → levels_to k g pass from ≡ levels_to k h pass from → levels_to (suc k) g pass from ≡ levels_to (suc k) h pass from
+ranked-over : (g h : PlainGraph) (pass : Passing) (from : Name) (k : ℕ) (parent : Name → Name) (rank : Name → ℕ) → levels_to k g pass from ≡ levels_to k h pass from → levels_to (suc k) g pass from ≡ levels_to (suc k) h pass from
     → ((u : Name) → IsTrue (is_among (levels_to k g pass from).level u) → g u ≡ h u) → IsRankedAt k g pass from parent rank → IsRankedAt k h pass from parent rank
 ranked-over g h pass from k parent rank here next agree at =
     record {

@@ -1,6 +1,6 @@
 -- When the next vertex of a level is read, the levels up to this one stay as they were.
 -- Used by Pathing, Rereading and Searched.
-use Rattle.std.proofs.Common.{append-nil, append_assoc, ◌≡◌, ℕ, zero, suc, Bool, true, false, not, ◌&&◌, ◌||◌, List, [], ◌∷◌, ◌++◌, IsTrue, refl, sym, ap, subst, ◌∙◌, Option}
+use Rattle.std.proofs.Common.{append-nil, append_assoc, ◌≡◌, ℕ, zero, suc, Bool, true, false, not, ◌&&◌, ◌||◌, List, [], ◌∷◌, ◌++◌, IsTrue, refl, sym, ap, subst, ◌∙◌}
 use Rattle.std.specs.Prelude.{if◌then◌else◌}
 use Rattle.std.specs.Map.{keys_of}
 use Rattle.std.proofs.lemmas.Bool.{both_ways}
@@ -10,7 +10,7 @@ use Rattle.graph_ops.specs.Mentions.{is_among}
 use Rattle.graph_ops.specs.Operations.{State}
 use Rattle.graph_ops.specs.PlainGraph.{PlainGraph}
 use Rattle.graph_ops.proofs.Vertices.{same_name-refl}
-use Rattle.program_defs.specs.declared.program.Filter.{Filter}
+use Rattle.program_defs.specs.declared.passing.Passing.{Passing}
 use Rattle.program_defs.specs.Agreement.{Agree}
 use Rattle.program_defs.specs.Searching.{SearchState, AddsState, IsWithinLevel, IsOnce, has_name, new_names, levels_read}
 use Rattle.program_defs.specs.Visits.{targets_of_all, levels_to, names_through, through_level, graph_read}
@@ -31,12 +31,12 @@ among-append (x ∷ xs) ys v = ap (λ b. same_name x v || b) (among-append xs ys
     turned true b c = refl
     turned false b c = refl
 
-targets-append : (graph : PlainGraph) (pass : Option Filter) (xs : List Name) (v : Name) → targets_of_all graph pass (xs ++ v ∷ []) ≡ targets_of_all graph pass xs ++ targets pass (graph v)
+targets-append : (graph : PlainGraph) (pass : Passing) (xs : List Name) (v : Name) → targets_of_all graph pass (xs ++ v ∷ []) ≡ targets_of_all graph pass xs ++ targets pass (graph v)
 targets-append graph pass [] v = append-nil (targets pass (graph v))
 targets-append graph pass (x ∷ xs) v = ap (λ ts. targets pass (graph x) ++ ts) (targets-append graph pass xs v) ∙ sym (append_assoc (targets pass (graph x)) (targets_of_all graph pass xs) (targets pass (graph v)))
 
 -- two graphs that agree on the levels before level n have the same levels up to it
-pub levels-same : (g h : PlainGraph) (pass : Option Filter) (from : Name) (n : ℕ) → Agree g h (levels_to n g pass from).before → levels_to n g pass from ≡ levels_to n h pass from
+pub levels-same : (g h : PlainGraph) (pass : Passing) (from : Name) (n : ℕ) → Agree g h (levels_to n g pass from).before → levels_to n g pass from ≡ levels_to n h pass from
 levels-same g h pass from zero a = refl
 levels-same g h pass from (suc n) a = next-levels g h pass from n a
 

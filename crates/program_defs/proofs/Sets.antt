@@ -1,5 +1,5 @@
 -- Lists of names in rising order: two of them with the same members are equal.
--- Used by Answering, Cutting, Once, OneAnswer, Searched and Sorting.
+-- Used by `searches_find_the_present`, Answering, Cutting, Once, OneAnswer, Searched and Sorting.
 use Rattle.std.proofs.Common.{◌≡◌, ◌+◌, true, false, List, [], ◌∷◌, IsTrue, refl, sym, ap, subst, ◌∙◌, ◌⊎◌, inl, inr, arith, get_or}
 use Rattle.std.specs.Prelude.{⊤}
 use Rattle.std.specs.BTreeSet.{insert_key}
@@ -16,7 +16,7 @@ use Rattle.weave_data.specs.Names.{name_cmp, same_name, one_name}
 use Rattle.weave_data.specs.declared.name.Name.{Name}
 use Rattle.graph_ops.specs.Mentions.{is_among}
 use Rattle.graph_ops.proofs.Vertices.{same_name-refl}
-use Rattle.program_defs.specs.PlainAnswer.{is_rising}
+use Rattle.program_defs.specs.Rising.{is_rising}
 use Rattle.program_defs.specs.Visits.{as_set}
 use Rattle.program_defs.proofs.Members.{insert-only}
 

@@ -1,7 +1,7 @@
 -- Graphs that agree on the vertices that a program visits have the same list of visits.
 -- Used by `only_visits_matter`, Answering, AnswersAgree, Asking, Cutting, Feeding, Listing, Once, Onward, Pathing and
 -- Seeing.
-use Rattle.std.proofs.Common.{◌≡◌, ℕ, zero, suc, Bool, true, false, List, [], ◌∷◌, ◌++◌, IsTrue, refl, sym, ap, subst, ◌∙◌, Option, ◌⊎◌, inl, inr}
+use Rattle.std.proofs.Common.{◌≡◌, ℕ, zero, suc, Bool, true, false, List, [], ◌∷◌, ◌++◌, IsTrue, refl, sym, ap, subst, ◌∙◌, ◌⊎◌, inl, inr}
 use Rattle.std.specs.Prelude.{if◌then◌else◌}
 use Rattle.std.proofs.lemmas.Bool.{cases_Bool, both_ways, or_cases, or_left, or_right}
 use Rattle.weave_data.specs.Names.{same_name}
@@ -10,11 +10,12 @@ use Rattle.graph_ops.specs.Mentions.{is_among}
 use Rattle.graph_ops.specs.PlainGraph.{PlainGraph}
 use Rattle.graph_ops.proofs.Vertices.{same_name-refl}
 use Rattle.graph_ops.proofs.States.{same_name-sym}
-use Rattle.program_defs.specs.declared.program.Filter.{Filter}
+use Rattle.program_defs.specs.declared.passing.Passing.{Passing}
+use Rattle.program_defs.specs.declared.passing.Passing.TheVariants.{Priced}
 use Rattle.program_defs.specs.declared.program.Program.{Program}
-use Rattle.program_defs.specs.declared.program.Program.TheVariants.{Show, Reach, Around, Path}
+use Rattle.program_defs.specs.declared.program.Program.TheVariants.{Show, Reach, Around, Path, Price}
 use Rattle.program_defs.specs.Visits.{Levels, names_through, next_level, as_set, targets_of_all, not_among, levels_to, through_level, up_to, visits_to, IsVisited, IsListOfVisits}
-use Rattle.program_defs.specs.Walks.{targets}
+use Rattle.program_defs.specs.Walks.{passing_of, targets}
 use Rattle.program_defs.specs.Agreement.{Agree, AgreeOnVisits}
 use Rattle.program_defs.proofs.Members.{among-left, among-right}
 use Rattle.program_defs.proofs.OneList.{cut-there, not-there}
@@ -42,7 +43,7 @@ up-to-only target (x ∷ xs) v h = here (same_name target x) h (up-to-only targe
 
 -- Levels
 
-module _ (g h : PlainGraph) (pass : Option Filter) where
+module _ (g h : PlainGraph) (pass : Passing) where
   -- graphs that agree on some vertices have the same passing targets of these
   pub targets-same : (vs : List Name) → Agree g h vs → targets_of_all g pass vs ≡ targets_of_all h pass vs
   targets-same [] a = refl
@@ -85,9 +86,10 @@ module _ (g h : PlainGraph) (pass : Option Filter) where
 -- the list of visits is the same
 pub visits-same : (g h : PlainGraph) (program : Program) (n : ℕ) → Agree g h (visits_to n g program) → visits_to n g program ≡ visits_to n h program
 visits-same g h (Show v) n a = refl
-visits-same g h (Reach from to pass) n a = same-up-to g h pass from to n a
-visits-same g h (Around from bound pass) n a = same-levels g h pass from bound a
-visits-same g h (Path from to bound pass) n a = same-up-to g h pass from to bound a
+visits-same g h (Reach from to pass) n a = same-up-to g h (passing_of pass) from to n a
+visits-same g h (Around from bound pass) n a = same-levels g h (passing_of pass) from bound a
+visits-same g h (Path from to bound pass) n a = same-up-to g h (passing_of pass) from to bound a
+visits-same g h (Price from to key) n a = same-levels g h (Priced key) from n a
 
 -- graphs that agree on the visits of a program have the same vertices visited by it
 pub visited-same : (g h : PlainGraph) (program : Program) → AgreeOnVisits g h program → (v : Name) → IsVisited g program v → IsVisited h program v

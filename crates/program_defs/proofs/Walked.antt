@@ -13,7 +13,7 @@ use Rattle.graph_ops.specs.Mentions.{is_among}
 use Rattle.graph_ops.specs.PlainGraph.{PlainGraph}
 use Rattle.program_defs.specs.declared.path_search.Hop.{Hop}
 use Rattle.program_defs.specs.declared.path_search.Mark.{Mark}
-use Rattle.program_defs.specs.declared.program.Filter.{Filter}
+use Rattle.program_defs.specs.declared.passing.Passing.{Passing}
 use Rattle.program_defs.specs.Ranks.{ComesNoLater, IsRankedAt}
 use Rattle.program_defs.specs.Visits.{levels_to, through_level}
 use Rattle.program_defs.specs.LeastWalks.{IsIn, HopsRise, HasHops, HasMarked, parent_or, rank_or, parents, ranks, marks_after}
@@ -62,7 +62,7 @@ some-mark (Some mark) e = (mark, refl)
 
 -- The same ranks by other marks
 
-module _ (graph : PlainGraph) (pass : Option Filter) (from : Name) where
+module _ (graph : PlainGraph) (pass : Passing) (from : Name) where
   -- level k is in the levels 0 to n
   pub level-through : (k n : ℕ) → k ≤ n → (v : Name) → IsTrue (is_among (levels_to k graph pass from).level v) → IsTrue (is_among (through_level n graph pass from) v)
   level-through k n le v h =

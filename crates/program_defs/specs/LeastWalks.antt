@@ -9,7 +9,7 @@ use Rattle.graph_ops.specs.Operations.{State}
 use Rattle.graph_ops.specs.PlainGraph.{PlainGraph}
 use Rattle.program_defs.specs.declared.path_search.Hop.{Hop}
 use Rattle.program_defs.specs.declared.path_search.Mark.{Mark}
-use Rattle.program_defs.specs.declared.program.Filter.{Filter}
+use Rattle.program_defs.specs.declared.passing.Passing.{Passing}
 use Rattle.program_defs.specs.declared.program.Program.{Program}
 use Rattle.program_defs.specs.Ranks.{ComesNoLater, IsRankedAt}
 use Rattle.program_defs.specs.Searching.{SearchState, IsGoing, HasSearched, SameReached}
@@ -75,7 +75,7 @@ hops_from v rank names = map (λ name. record { rank = rank; target = name; pare
 
 -- the hops are the passing edges of these vertices, with the ranks of these
 pub record HasHops (marks : Name
-    → Option Mark) (graph : PlainGraph) (pass : Option Filter) (done : List Name) (hops : List Hop) : Type 0 where
+    → Option Mark) (graph : PlainGraph) (pass : Passing) (done : List Name) (hops : List Hop) : Type 0 where
   pub parent : (hop : Hop) → IsIn hops hop → IsTrue (is_among done hop.parent)
   pub edge : (hop : Hop) → IsIn hops hop → IsTrue (is_among (targets pass (graph hop.parent)) hop.target)
   pub rank : (hop : Hop) → IsIn hops hop → hop.rank ≡ ranks marks hop.parent
@@ -83,12 +83,12 @@ pub record HasHops (marks : Name
       → IsIn hops (record { rank = ranks marks u; target = v; parent = u })
 
 -- the levels 1 to n are ranked
-abbrev pub IsRankedTo : ℕ → PlainGraph → Option Filter → Name → (Name → Option Mark) → Type 0
+abbrev pub IsRankedTo : ℕ → PlainGraph → Passing → Name → (Name → Option Mark) → Type 0
 IsRankedTo n graph pass from marks = (k : ℕ) → k < n → IsRankedAt k graph pass from (parents marks) (ranks marks)
 
 -- the vertices of the levels 0 to n are marked, and ranked in each level
 pub record HasMarked (marks : Name
-    → Option Mark) (graph : PlainGraph) (pass : Option Filter) (from : Name) (n : ℕ) : Type 0 where
+    → Option Mark) (graph : PlainGraph) (pass : Passing) (from : Name) (n : ℕ) : Type 0 where
   pub marked : (v : Name) → is_some (marks v) ≡ is_among (through_level n graph pass from) v
   pub ranked : IsRankedTo n graph pass from marks
 

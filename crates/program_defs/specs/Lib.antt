@@ -1,4 +1,11 @@
+pub mod Rising
+pub mod Prices
 pub mod Walks
+pub mod PricedAnswer
+pub mod PriceTests
+pub mod Certificate
+pub mod Labels
+pub mod Parents
 pub mod Works
 pub mod PlainAnswer
 pub mod Visits

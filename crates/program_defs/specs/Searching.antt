@@ -7,17 +7,21 @@ use Rattle.weave_data.specs.declared.name.Name.{Name}
 use Rattle.graph_ops.specs.Mentions.{is_among}
 use Rattle.graph_ops.specs.Operations.{State}
 use Rattle.program_defs.specs.declared.program.Program.{Program}
-use Rattle.program_defs.specs.declared.program.Program.TheVariants.{Show, Reach, Around, Path}
+use Rattle.program_defs.specs.declared.program.Program.TheVariants.{Show, Reach, Around, Path, Price}
+use Rattle.program_defs.specs.declared.passing.Passing.TheVariants.{Priced}
 use Rattle.program_defs.specs.declared.aim.Aim.{Aim}
-use Rattle.program_defs.specs.Walks.{is_value, targets}
+use Rattle.program_defs.specs.Walks.{passing_of, is_value, targets}
 use Rattle.program_defs.specs.Visits.{as_set, targets_of_all, Levels, levels_to, through_level, visits_to, graph_read, first_of}
 
 -- what a program searches for; `show` doesn't search
 abbrev pub aim_of : Program → Option Aim
 aim_of (Show v) = None
-aim_of (Reach from to pass) = Some (record { from = from; target = Some to; bound = None; pass = pass })
-aim_of (Around from bound pass) = Some (record { from = from; target = None; bound = Some bound; pass = pass })
-aim_of (Path from to bound pass) = Some (record { from = from; target = Some to; bound = Some bound; pass = pass })
+aim_of (Reach from to pass) = Some (record { from = from; target = Some to; bound = None; pass = passing_of pass })
+aim_of (Around from bound pass) =
+    Some (record { from = from; target = None; bound = Some bound; pass = passing_of pass })
+aim_of (Path from to bound pass) =
+    Some (record { from = from; target = Some to; bound = Some bound; pass = passing_of pass })
+aim_of (Price from to key) = Some (record { from = from; target = None; bound = None; pass = Priced key })
 
 -- what contracts see of a search: its aim, how many levels may follow this one, what is left of this level, the new
 -- targets found in it, all names reached, the vertices that are there, whether it is over, and for how many more names

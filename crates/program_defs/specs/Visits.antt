@@ -8,10 +8,11 @@ use Rattle.weave_data.specs.declared.name.Name.{Name}
 use Rattle.graph_ops.specs.Mentions.{is_among}
 use Rattle.graph_ops.specs.Operations.{State}
 use Rattle.graph_ops.specs.PlainGraph.{PlainGraph}
-use Rattle.program_defs.specs.declared.program.Filter.{Filter}
+use Rattle.program_defs.specs.declared.passing.Passing.{Passing}
+use Rattle.program_defs.specs.declared.passing.Passing.TheVariants.{Priced}
 use Rattle.program_defs.specs.declared.program.Program.{Program}
-use Rattle.program_defs.specs.declared.program.Program.TheVariants.{Show, Reach, Around, Path}
-use Rattle.program_defs.specs.Walks.{targets}
+use Rattle.program_defs.specs.declared.program.Program.TheVariants.{Show, Reach, Around, Path, Price}
+use Rattle.program_defs.specs.Walks.{passing_of, targets}
 
 -- the set of these names: each once, in byte order
 abbrev pub as_set : List Name → List Name
@@ -19,7 +20,7 @@ as_set [] = []
 as_set (v ∷ rest) = insert_key name_cmp (as_set rest) v
 
 -- the targets of the passing edges of these vertices, as far as they are there
-abbrev pub targets_of_all : PlainGraph → Option Filter → List Name → List Name
+abbrev pub targets_of_all : PlainGraph → Passing → List Name → List Name
 targets_of_all graph pass [] = []
 targets_of_all graph pass (v ∷ rest) = targets pass (graph v) ++ targets_of_all graph pass rest
 
@@ -37,7 +38,7 @@ abbrev pub names_through : Levels → List Name
 names_through levels = levels.before ++ levels.level
 
 -- level n + 1 is the set of the targets of level n's passing edges that are in no earlier level
-abbrev pub next_level : PlainGraph → Option Filter → Levels → Levels
+abbrev pub next_level : PlainGraph → Passing → Levels → Levels
 next_level graph pass levels =
     record {
       before = names_through levels;
@@ -46,12 +47,12 @@ next_level graph pass levels =
     }
 
 -- level 0 is the start
-abbrev pub levels_to : ℕ → PlainGraph → Option Filter → Name → Levels
+abbrev pub levels_to : ℕ → PlainGraph → Passing → Name → Levels
 levels_to zero graph pass start = record { before = []; level = start ∷ [] }
 levels_to (suc n) graph pass start = next_level graph pass (levels_to n graph pass start)
 
 -- levels 0 to n in turn, each in byte order
-abbrev pub through_level : ℕ → PlainGraph → Option Filter → Name → List Name
+abbrev pub through_level : ℕ → PlainGraph → Passing → Name → List Name
 through_level n graph pass start = names_through (levels_to n graph pass start)
 
 -- the names up to the target, and with it; all of them if it isn't among them
@@ -61,13 +62,14 @@ up_to target (v ∷ rest) = if same_name target v then v ∷ [] else v ∷ up_to
 
 -- The list of visits. `show` visits its vertex alone; the others go level by level. `reach` and `path` end with the
 -- target, `around` and `path` with the level of their bound.
--- `reach` has no bound and is gone through to level n: if a level is empty, so are later ones, and the list is
--- complete.
+-- `reach` and `price` have no bound and are gone through to level n: if a level is empty, so are later ones, and the
+-- list is complete.
 abbrev pub visits_to : ℕ → PlainGraph → Program → List Name
 visits_to n graph (Show v) = v ∷ []
-visits_to n graph (Reach from to pass) = up_to to (through_level n graph pass from)
-visits_to n graph (Around from bound pass) = through_level bound graph pass from
-visits_to n graph (Path from to bound pass) = up_to to (through_level bound graph pass from)
+visits_to n graph (Reach from to pass) = up_to to (through_level n graph (passing_of pass) from)
+visits_to n graph (Around from bound pass) = through_level bound graph (passing_of pass) from
+visits_to n graph (Path from to bound pass) = up_to to (through_level bound graph (passing_of pass) from)
+visits_to n graph (Price from to key) = through_level n graph (Priced key) from
 
 -- the program visits the vertex
 abbrev pub IsVisited : PlainGraph → Program → Name → Type 0

@@ -1,8 +1,10 @@
 //! What a program searches for.
 ghost use Rattle.std.specs.Prelude.{◌≡◌, Some};
-ghost use Rattle.program_defs.specs.declared.program.Program.TheVariants.{Reach, Around, Path};
+ghost use Rattle.weave_data.specs.declared.name.Name.{Name};
+ghost use Rattle.program_defs.specs.declared.program.Program.TheVariants.{Reach, Around, Path, Price};
 ghost use Rattle.program_defs.specs.Searching.{aim_of};
 
+use crate::passing::Passing;
 use crate::program::Filter;
 use weave_data::Name;
 
@@ -15,7 +17,7 @@ pub struct Aim {
     /// The most edges of a walk.
     pub bound: Option<u32>,
     /// Which edges pass.
-    pub pass: Option<Filter>,
+    pub pass: Passing,
 }
 
 impl Aim {
@@ -27,7 +29,7 @@ impl Aim {
             from,
             target: Some(to),
             bound: None,
-            pass,
+            pass: Passing::of(pass),
         }
     }
 
@@ -39,7 +41,7 @@ impl Aim {
             from,
             target: None,
             bound: Some(bound),
-            pass,
+            pass: Passing::of(pass),
         }
     }
 
@@ -51,7 +53,19 @@ impl Aim {
             from,
             target: Some(to),
             bound: Some(bound),
-            pass,
+            pass: Passing::of(pass),
+        }
+    }
+
+    /// The aim of `price`: whatever its target is, the search ends only when it has read all that walks lead to.
+    pub fn price(from: Name, key: Name) -> Aim
+        ensures { (to : Name) → aim_of (Price from to key) ≡ Some result }
+    {
+        Aim {
+            from,
+            target: None,
+            bound: None,
+            pass: Passing::Priced(key),
         }
     }
 }

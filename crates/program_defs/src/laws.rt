@@ -1,26 +1,31 @@
 //! Laws of walks and visits.
 
-ghost use Rattle.std.specs.Prelude.{ℕ, List, Option, Some, IsTrue, is_some, length, reverse, ◌↔◌, ◌≡◌, ◌++◌, ◌∷◌};
+ghost use Rattle.std.specs.Prelude.{ℕ, List, [], Option, Some, None, IsTrue, is_some, length, reverse, ◌↔◌, ◌≡◌, ◌++◌, ◌∷◌};
 ghost use Rattle.weave_data.specs.declared.name.Name.{Name};
 ghost use Rattle.graph_ops.specs.Graphs.{Vertices, plain_of};
 ghost use Rattle.graph_ops.specs.Mentions.{is_among};
 ghost use Rattle.graph_ops.specs.Operations.{State};
 ghost use Rattle.graph_ops.specs.PlainGraph.{PlainGraph};
+ghost use Rattle.program_defs.specs.declared.passing.Passing.{Passing};
 ghost use Rattle.program_defs.specs.declared.program.Filter.{Filter};
 ghost use Rattle.program_defs.specs.declared.program.Program.{Program};
 ghost use Rattle.program_defs.specs.declared.program.Answer.{Answer};
-ghost use Rattle.program_defs.specs.declared.program.Program.TheVariants.{Reach, Around};
-ghost use Rattle.program_defs.specs.declared.program.Answer.TheVariants.{Reached, Found};
-ghost use Rattle.program_defs.specs.Searching.{SearchState, SameReached, HasSearched, next_of};
+ghost use Rattle.program_defs.specs.declared.program.Program.TheVariants.{Reach, Around, Price};
+ghost use Rattle.program_defs.specs.declared.program.Answer.TheVariants.{Reached, Found, Priced};
+ghost use Rattle.program_defs.specs.Searching.{SearchState, IsOnce, SameReached, HasSearched, next_of};
 ghost use Rattle.program_defs.specs.Agreement.{AgreeOnVisits, AreSameReads};
+ghost use Rattle.program_defs.specs.declared.program.Bound.{Bound};
+ghost use Rattle.program_defs.specs.Certificate.{passes_tests};
 ghost use Rattle.program_defs.specs.PlainAnswer.{IsPlainAnswer};
+ghost use Rattle.program_defs.specs.PricedAnswer.{IsPricedAnswer};
+ghost use Rattle.program_defs.specs.Rising.{is_rising};
 ghost use Rattle.program_defs.specs.Visits.{as_set, through_level, visits_to, graph_read, next_visit, states_at, first_of, IsListOfVisits, AreFirstVisits};
 ghost use Rattle.program_defs.specs.LeastWalks.{WalkState, SameWalked, HasWalked};
 ghost use Rattle.program_defs.specs.Walks.{is_walk_within};
 
 /// A vertex that is there is in the levels 0 to n exactly if a walk of at most n edges leads to it.
 pub fn levels_are_distances()
-    ensures { (n : ℕ) (graph : PlainGraph) (pass : Option Filter) (from v : Name) → IsTrue (is_some (graph v))
+    ensures { (n : ℕ) (graph : PlainGraph) (pass : Passing) (from v : Name) → IsTrue (is_some (graph v))
         → IsTrue (is_among (through_level n graph pass from) v)
         ↔ ((walk : List Name) × IsTrue (is_walk_within n graph pass from v walk)) }
 {}
@@ -98,6 +103,15 @@ pub fn searches_are_right()
         → SameReached old new → HasSearched program old reads → HasSearched program new reads }
 {}
 
+/// The vertices that a search has read and that are there, in byte order.
+pub fn searches_find_the_present()
+    ensures rising { (search : SearchState) → IsTrue (is_rising (as_set search.present)) }
+    ensures members { (program : Program) (search : SearchState) (reads : List (Name × State)) (v : Name)
+        → HasSearched program search reads → is_among (as_set search.present) v ≡ is_some (graph_read reads v) }
+    ensures once { (program : Program) (search : SearchState) (reads : List (Name × State))
+        → HasSearched program search reads → IsOnce search.present }
+{}
+
 /// What a search for the least walk says of its program: the next visit.
 pub fn path_searches_are_right()
     ensures next { (program : Program) (walk : WalkState) (reads : List (Name × State))
@@ -112,4 +126,17 @@ pub fn order_of_reads_is_free()
         → AreSameReads a b → next_visit a program ≡ next_visit b program }
     ensures answer { (a b : List (Name × State)) (program : Program) (answer : Answer) → AreSameReads a b
         → IsPlainAnswer (graph_read a) program answer → IsPlainAnswer (graph_read b) program answer }
+{}
+
+/// The tests of a certificate pass exactly if the answer is the priced answer.
+pub fn certificates_are_exact()
+    ensures { (graph : PlainGraph) (from to key : Name) (walk : Option (List Name)) (total : ℕ) (bounds : List Bound)
+        → IsTrue (passes_tests graph key from bounds to walk total)
+        ↔ IsPricedAnswer graph from to key walk total bounds }
+{}
+
+/// The priced answer from a start that is absent: no walk, and no bounds.
+pub fn absent_starts_lead_nowhere()
+    ensures { (graph : PlainGraph) (from to key : Name) → graph from ≡ None
+        → IsPlainAnswer graph (Price from to key) (Priced None 0 []) }
 {}

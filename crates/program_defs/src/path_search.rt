@@ -3,6 +3,7 @@ ghost use Rattle.std.specs.Prelude.{ℕ, ◌≡◌, ◌≤◌, ◌+◌, ◌++◌
 ghost use Rattle.std.specs.HashMap.{spare};
 ghost use Rattle.weave_data.specs.declared.name.Name.{Name};
 ghost use Rattle.graph_ops.specs.Operations.{State};
+ghost use Rattle.program_defs.specs.declared.passing.Passing.{Passing};
 ghost use Rattle.program_defs.specs.declared.program.Filter.{Filter};
 ghost use Rattle.program_defs.specs.declared.program.Program.{Program};
 ghost use Rattle.program_defs.specs.declared.program.Program.TheVariants.{Path};
@@ -17,9 +18,8 @@ ghost use Rattle.program_defs.specs.LeastWalks.{HasWalked, SameWalked, IsMarkedB
 ghost use Rattle.program_defs.specs.Walks.{targets};
 
 use crate::aim::Aim;
-use crate::program::Filter;
+use crate::passing::{Passing, passes};
 use crate::search::Search;
-use crate::targets::passes;
 use graph_ops::Record;
 use std::alloc::{AllocError, Global};
 use std::collections::HashMap;
@@ -162,7 +162,7 @@ impl PathSearch {
 
     // The list over parents to a vertex of a level within the bound, from the start.
     fn walk_to(&self, alloc: Global, to: Name, bound: u32) -> Result<Items<Name>, AllocError>
-        ensures { IfOk result (λ walk. (graph : PlainGraph) (pass : Option Filter) (d : ℕ) → d ≤ bound
+        ensures { IfOk result (λ walk. (graph : PlainGraph) (pass : Passing) (d : ℕ) → d ≤ bound
             → IsRankedTo d graph pass self.now.search.aim.from (mark_in self.now.marks)
             → IsTrue (is_among (levels_to d graph pass self.now.search.aim.from).level to)
             → walk ≡ trace (parents (mark_in self.now.marks)) d to) }
@@ -176,7 +176,7 @@ impl PathSearch {
     // Adds the vertex and then each parent, back to the start, over at most that many edges.
     fn lead_back(&self, walk: &mut Vec<Name>, to: Name, bound: u32) -> Result<(), AllocError>
         requires { walk.old.items ≡ [] }
-        ensures { OnOk result ((graph : PlainGraph) (pass : Option Filter) (d : ℕ) → d ≤ bound
+        ensures { OnOk result ((graph : PlainGraph) (pass : Passing) (d : ℕ) → d ≤ bound
             → IsRankedTo d graph pass self.now.search.aim.from (mark_in self.now.marks)
             → IsTrue (is_among (levels_to d graph pass self.now.search.aim.from).level to)
             → reverse walk.new.items ≡ trace (parents (mark_in self.now.marks)) d to) }
@@ -210,7 +210,7 @@ fn first_mark(alloc: Global, from: Name) -> Result<HashMap<Name, Mark>, AllocErr
 }
 
 // Adds the passing edges of a vertex of this rank in this state. There is room for them.
-fn note(hops: &mut Vec<Hop>, pass: &Option<Filter>, v: Name, rank: usize, state: Option<&Record>)
+fn note(hops: &mut Vec<Hop>, pass: &Passing, v: Name, rank: usize, state: Option<&Record>)
     requires room { vec_len hops.old + edges_of (option_copied state) ≤ vec_capacity hops.old }
     ensures hops { hops.new.items ≡ hops.old.items ++ hops_from v rank (targets pass.now (option_copied state.entry)) }
     ensures len { vec_len hops.new ≤ vec_len hops.old + edges_of (option_copied state.entry) }
@@ -221,7 +221,7 @@ fn note(hops: &mut Vec<Hop>, pass: &Option<Filter>, v: Name, rank: usize, state:
 }
 
 // Adds the passing edges of a vertex that is there.
-fn note_all(hops: &mut Vec<Hop>, pass: &Option<Filter>, v: Name, rank: usize, found: &Record)
+fn note_all(hops: &mut Vec<Hop>, pass: &Passing, v: Name, rank: usize, found: &Record)
     requires room { vec_len hops.old + length found.now.edges ≤ vec_capacity hops.old }
     ensures hops { hops.new.items ≡ hops.old.items ++ hops_from v rank (targets pass.now (Some found.now)) }
     ensures len { vec_len hops.new ≤ vec_len hops.old + length found.now.edges }

@@ -1,10 +1,10 @@
 //! The plain answer of a program, found by searches of the graph.
-ghost use Rattle.std.specs.Prelude.{◌≡◌, ◌↔◌, [], IsTrue, Some, IfOk};
+ghost use Rattle.std.specs.Prelude.{◌≡◌, ◌↔◌, [], false, IsTrue, Some, IfOk};
 ghost use Rattle.weave_data.specs.declared.name.Name.{Name};
 ghost use Rattle.graph_ops.specs.Graphs.{plain_of};
 ghost use Rattle.program_defs.specs.declared.program.Program.{Program};
 ghost use Rattle.program_defs.specs.Asking.{HasReadVisits, HasWalkedVisits};
-ghost use Rattle.program_defs.specs.PlainAnswer.{IsPlainAnswer};
+ghost use Rattle.program_defs.specs.PlainAnswer.{IsPlainAnswer, is_price};
 ghost use Rattle.program_defs.specs.Searching.{aim_of, has_name};
 ghost use Rattle.program_defs.specs.Visits.{IsVisited};
 
@@ -24,17 +24,19 @@ pub struct Asked {
     pub visits: Visits,
 }
 
-/// The plain answer of a program on a graph. The one error is out of memory.
+/// The plain answer of a program on a graph, if it asks for no price. The one error is out of memory.
 pub fn ask(alloc: Global, graph: &Graph, program: &Program) -> Result<Answer, AllocError>
+    requires { is_price program.now ≡ false }
     ensures { IfOk result (IsPlainAnswer (plain_of graph.now) program.now) }
 {
     let Asked { answer, .. } = ask_with_visits(alloc, graph, program)?;
     Ok(answer)
 }
 
-/// The plain answer of a program on a graph and the vertices that it visits there, by one search. The one error is out
-/// of memory.
+/// The plain answer of a program on a graph, if it asks for no price, and the vertices that it visits there, by one
+/// search. The one error is out of memory.
 pub fn ask_with_visits(alloc: Global, graph: &Graph, program: &Program) -> Result<Asked, AllocError>
+    requires { is_price program.now ≡ false }
     ensures answer { IfOk result (λ asked. IsPlainAnswer (plain_of graph.now) program.now asked.answer) }
     ensures visits { IfOk result (λ asked. (v : Name)
         → IsTrue (has_name asked.visits v) ↔ IsVisited (plain_of graph.now) program.now v) }
@@ -69,7 +71,24 @@ pub fn ask_with_visits(alloc: Global, graph: &Graph, program: &Program) -> Resul
             let answer = Answer::Walk(search.walk(alloc)?);
             Ok(Asked { answer, visits })
         }
+        // The condition excludes it.
+        Program::Price { .. } => Err(AllocError),
     }
+}
+
+/// The vertices that a `price` visits on a graph, by a search level by level. The one error is out of memory.
+pub fn visits_of(alloc: Global, graph: &Graph, program: &Program) -> Result<Visits, AllocError>
+    requires { IsTrue (is_price program.now) }
+    ensures { IfOk result (λ visits. (v : Name)
+        → IsTrue (has_name visits v) ↔ IsVisited (plain_of graph.now) program.now v) }
+{
+    let mut visits = Visits::new(alloc);
+    let Program::Price { from, to: _to, key } = *program else {
+        return Ok(visits);
+    };
+    let aim = Aim::price(from, key);
+    searched(alloc, graph, aim, &mut visits)?;
+    Ok(visits)
 }
 
 fn state_of(alloc: Global, graph: &Graph, v: Name) -> Result<Option<Record>, AllocError>

@@ -1,4 +1,6 @@
 //! Node programs, which only read, and their answers.
+ghost use Rattle.std.specs.Prelude.{◌≡◌};
+ghost use Rattle.program_defs.specs.PlainAnswer.{is_price};
 
 use graph_ops::Record;
 use std::alloc::{AllocError, Global};
@@ -37,6 +39,28 @@ pub enum Program {
         bound: u32,
         pass: Option<Filter>,
     },
+    /// Asks for a walk of least price. An edge passes if its tag at the key says a price.
+    Price {
+        from: Name,
+        to: Name,
+        key: Name,
+    },
+}
+
+impl Program {
+    /// Whether it asks for a walk of least price.
+    pub fn is_price(&self) -> bool
+        ensures { result ≡ is_price self.now }
+    {
+        matches!(self, Program::Price { .. })
+    }
+}
+
+/// A vertex with the least price of a walk to it.
+#[derive(Clone, Copy, PartialEq, Eq)]
+pub struct Bound {
+    pub vertex: Name,
+    pub price: u128,
 }
 
 /// What a program answers.
@@ -50,6 +74,21 @@ pub enum Answer {
     Found(Items<Name>),
     /// To `path`: the walk, or none.
     Walk(Option<Items<Name>>),
+    /// To `price`.
+    Priced {
+        /// The walk, or none.
+        walk: Option<Items<Name>>,
+        /// The price of the walk, 0 if there is none.
+        total: u128,
+        /// Each vertex to which a walk leads, in byte order, with the least price of such a walk.
+        bounds: Items<Bound>,
+    },
+}
+
+impl Copied for Bound {
+    fn copy(&self, _alloc: Global) -> Result<Self, AllocError> {
+        Ok(*self)
+    }
 }
 
 impl Copied for Answer {
@@ -59,6 +98,15 @@ impl Copied for Answer {
             Answer::Reached(reached) => Ok(Answer::Reached(*reached)),
             Answer::Found(vertices) => Ok(Answer::Found(vertices.copy(alloc)?)),
             Answer::Walk(walk) => Ok(Answer::Walk(walk.copy(alloc)?)),
+            Answer::Priced {
+                walk,
+                total,
+                bounds,
+            } => Ok(Answer::Priced {
+                walk: walk.copy(alloc)?,
+                total: *total,
+                bounds: bounds.copy(alloc)?,
+            }),
         }
     }
 }

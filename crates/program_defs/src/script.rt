@@ -53,6 +53,8 @@ pub enum Step {
     Collect { shard: u32 },
     /// The gatekeeper goes over to an epoch, 1 to 1,000,000.
     Epoch { gate: u32, epoch: u64 },
+    /// The gatekeeper stops, and returns in an epoch, 1 to 1,000,000.
+    Restart { gate: u32, epoch: u64 },
 }
 
 /// A script.

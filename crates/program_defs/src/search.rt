@@ -9,7 +9,7 @@ ghost use Rattle.program_defs.specs.Visits.{as_set};
 ghost use Rattle.program_defs.specs.Walks.{is_value};
 
 use crate::aim::Aim;
-use crate::program::Filter;
+use crate::passing::Passing;
 use crate::targets::look;
 use graph_ops::Record;
 use std::alloc::{AllocError, Global};
@@ -108,7 +108,7 @@ impl Search {
     }
 
     /// Which edges pass.
-    pub fn pass(&self) -> Option<Filter>
+    pub fn pass(&self) -> Passing
         ensures { result ≡ self.now.aim.pass }
     {
         self.aim.pass

@@ -5,33 +5,15 @@ ghost use Rattle.weave_data.specs.Names.{same_name};
 ghost use Rattle.weave_data.specs.declared.name.Name.{Name};
 ghost use Rattle.graph_ops.specs.Mentions.{is_among};
 ghost use Rattle.program_defs.specs.Searching.{has_name, new_names};
-ghost use Rattle.program_defs.specs.Walks.{passes_filter, targets};
+ghost use Rattle.program_defs.specs.Walks.{targets};
 
-use crate::program::Filter;
-use graph_ops::{Edge, Record};
+use crate::passing::{Passing, passes};
+use graph_ops::Record;
 use std::collections::HashSet;
 use weave_data::Name;
 
-/// Whether an edge passes.
-pub fn passes(pass: &Option<Filter>, edge: &Edge) -> bool
-    ensures { result ≡ passes_filter pass.now edge.now }
-{
-    let Some(only) = *pass else {
-        return true;
-    };
-    match edge.tags.get(only.key) {
-        None => false,
-        Some(found) => *found == only.value,
-    }
-}
-
 /// Adds the targets of the passing edges to the names reached, and the new ones to those found. There is room for them.
-pub fn look(
-    found: &mut Vec<Name>,
-    reached: &mut HashSet<Name>,
-    pass: &Option<Filter>,
-    vertex: &Record,
-)
+pub fn look(found: &mut Vec<Name>, reached: &mut HashSet<Name>, pass: &Passing, vertex: &Record)
     requires places { length vertex.now.edges ≤ spare reached.old }
     requires room { vec_len found.old + length vertex.now.edges ≤ vec_capacity found.old }
     ensures found { found.new.items

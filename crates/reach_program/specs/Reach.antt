@@ -7,13 +7,14 @@ use Rattle.program_defs.specs.declared.aim.Aim.{Aim}
 use Rattle.program_defs.specs.declared.program.Program.{Program}
 use Rattle.program_defs.specs.declared.program.Program.TheVariants.{Reach, Around}
 use Rattle.program_defs.specs.Searching.{SearchState, HasSearched, next_of}
+use Rattle.program_defs.specs.Walks.{filter_in}
 use Rattle.reach_program.specs.declared.reach.Goal.{Goal}
 use Rattle.reach_program.specs.declared.reach.Goal.TheVariants.{To, Within}
 
 -- which program it is
 abbrev pub program_asked : Goal → Aim → Program
-program_asked (To to) aim = Reach aim.from to aim.pass
-program_asked (Within bound) aim = Around aim.from bound aim.pass
+program_asked (To to) aim = Reach aim.from to (filter_in aim.pass)
+program_asked (Within bound) aim = Around aim.from bound (filter_in aim.pass)
 
 -- its search has read these states, the newest first
 abbrev pub HasReached : Goal → SearchState → List (Name × State) → Type 0

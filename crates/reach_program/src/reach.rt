@@ -6,7 +6,7 @@ ghost use Rattle.reach_program.specs.Reach.{program_asked, HasReached, reach_rea
 use graph_ops::{MOST_EDGES, Record};
 use node_program::NodeProgram;
 use program_defs::laws::searches_are_right;
-use program_defs::{Aim, Answer, Filter, Search};
+use program_defs::{Aim, Answer, Filter, Passing, Search};
 use std::alloc::{AllocError, Global};
 use weave_data::Name;
 
@@ -42,7 +42,7 @@ impl ReachProgram {
             from,
             target: Some(to),
             bound: None,
-            pass,
+            pass: Passing::of(pass),
         };
         let search = Search::new(alloc, aim)?;
         Ok(ReachProgram {
@@ -65,7 +65,7 @@ impl ReachProgram {
             from,
             target: None,
             bound: Some(bound),
-            pass,
+            pass: Passing::of(pass),
         };
         let search = Search::new(alloc, aim)?;
         Ok(ReachProgram {

@@ -8,7 +8,8 @@ use Rattle.weave_data.specs.declared.name.Name.{Name}
 use Rattle.graph_ops.specs.Mentions.{is_among}
 use Rattle.graph_ops.specs.PlainGraph.{PlainGraph, empty_graph}
 use Rattle.graph_ops.specs.declared.op.Op.TheVariants.{Create, Delete, Set, Link}
-use Rattle.program_defs.specs.declared.program.Filter.{Filter}
+use Rattle.program_defs.specs.declared.passing.Passing.{Passing}
+use Rattle.program_defs.specs.declared.passing.Passing.TheVariants.{Every}
 use Rattle.program_defs.specs.declared.program.Program.TheVariants.{Show, Reach}
 use Rattle.program_defs.specs.declared.program.Answer.TheVariants.{Shown, Reached}
 use Rattle.program_defs.specs.declared.script.Script.{Script}
@@ -24,7 +25,7 @@ use Rattle.report_rules.proofs.Precedence.{IsDecided, no_way}
 use Rattle.report_rules.proofs.Examples.{stamp, stamp_in, transaction, look, script_of, reply, settled, report_of, empty_record, t1, t2, v, w, k, x}
 
 -- a walk's end is there
-end_present : (graph : PlainGraph) (pass : Option Filter) (from to : Name) (walk : List Name) → IsTrue (is_walk graph pass from to walk) → IsTrue (is_some (graph to))
+end_present : (graph : PlainGraph) (pass : Passing) (from to : Name) (walk : List Name) → IsTrue (is_walk graph pass from to walk) → IsTrue (is_some (graph to))
 end_present graph pass from to [] h = cc
 end_present graph pass from to (v ∷ []) h =
     let all = and_parts (same_name from v && is_some (graph v)) _ h in
@@ -181,8 +182,8 @@ module _ (decided : IsDecided) where
       graph : PlainGraph
       graph = graph_after empty_graph (request_at dangling_script 0)
 
-      gone : (walk : List Name) → ¬ IsTrue (is_walk graph None a b walk)
-      gone walk h = let there = end_present graph None a b walk h in cc
+      gone : (walk : List Name) → ¬ IsTrue (is_walk graph Every a b walk)
+      gone walk h = let there = end_present graph Every a b walk h in cc
 
   -- A program reads the state before a later deletion
 

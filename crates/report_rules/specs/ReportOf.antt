@@ -4,16 +4,19 @@
 use Rattle.std.specs.Prelude.{ℕ, Bool, true, false, ◌+◌, ◌&&◌, nat_lt, ◌==◌, ◌≡◌, IsTrue, List, [], ◌∷◌, length, map, drop, Option, Some, None, IsSomeAnd, ⊤, if◌then◌else◌}
 use Rattle.std.specs.List.{list_all, AllByRecursion}
 use Rattle.weave_data.specs.Limits.{most_gates}
+use Rattle.weave_data.specs.declared.name.Name.{Name}
 use Rattle.vector_stamp.specs.declared.clock.Stamp.{Stamp}
 use Rattle.vector_stamp.specs.Order.{has_64_bits}
 use Rattle.graph_ops.specs.Operations.{is_get}
 use Rattle.graph_ops.specs.declared.op.Op.{Op}
 use Rattle.graph_ops.specs.declared.tx.Got.{Got}
 use Rattle.program_defs.specs.declared.program.Program.{Program}
-use Rattle.program_defs.specs.declared.program.Program.TheVariants.{Show, Reach, Around, Path}
+use Rattle.program_defs.specs.declared.program.Program.TheVariants.{Show, Reach, Around, Path, Price}
 use Rattle.program_defs.specs.declared.program.Answer.{Answer}
-use Rattle.program_defs.specs.declared.program.Answer.TheVariants.{Shown, Reached, Found, Walk}
+use Rattle.program_defs.specs.declared.program.Answer.TheVariants.{Shown, Reached, Found, Walk, Priced}
+use Rattle.program_defs.specs.declared.program.Bound.{Bound}
 use Rattle.program_defs.specs.declared.script.Script.{Script}
+use Rattle.program_defs.specs.Rising.{is_rising}
 use Rattle.program_defs.specs.declared.script.Request.{Request}
 use Rattle.program_defs.specs.declared.script.Work.{Work}
 use Rattle.program_defs.specs.declared.script.Work.TheVariants.{Change, Look}
@@ -46,12 +49,19 @@ numbers_of_gets number (op ∷ ops) =
 abbrev pub AnswersEachGet : List Op → List Got → Type 0
 AnswersEachGet ops answers = map (λ (got : Got). got.op) answers ≡ numbers_of_gets 1 ops
 
--- the answer has the form that the program's answers have
+-- there is a walk with its price, or none with total 0
+abbrev pub is_total : Option (List Name) → ℕ → Bool
+is_total (Some walk) total = true
+is_total None total = total == 0
+
+-- the answer has the form that the program's answers have; the vertices with prices rise
 abbrev pub has_form_for : Program → Answer → Bool
 has_form_for (Show v) (Shown state) = true
 has_form_for (Reach from to pass) (Reached reached) = true
 has_form_for (Around from bound pass) (Found vertices) = true
 has_form_for (Path from to bound pass) (Walk walk) = true
+has_form_for (Price from to key) (Priced walk total bounds) =
+    is_total walk total && is_rising (map (λ (bound : Bound). bound.vertex) bounds)
 has_form_for _ _ = false
 
 -- A line can say this of the work, with or without a stamp. Without one it says `unbegun`; with one it says of a

@@ -20,9 +20,11 @@ use Rattle.graph_ops.specs.PlainGraph.{PlainGraph}
 use Rattle.vector_stamp.specs.declared.clock.Stamp.{Stamp}
 use Rattle.vector_stamp.specs.Order.{stamp_before}
 use Rattle.vector_stamp.specs.Precedence.{ByPair, ByStamps, Precedes, Through}
-use Rattle.program_defs.specs.declared.program.Filter.{Filter}
+use Rattle.program_defs.specs.declared.passing.Passing.{Passing}
+use Rattle.program_defs.specs.declared.passing.Passing.TheVariants.{Priced}
 use Rattle.program_defs.specs.declared.program.Program.{Program}
-use Rattle.program_defs.specs.declared.program.Program.TheVariants.{Show, Reach, Around, Path}
+use Rattle.program_defs.specs.declared.program.Program.TheVariants.{Show, Reach, Around, Path, Price}
+use Rattle.program_defs.specs.Walks.{passing_of}
 use Rattle.program_defs.specs.Visits.{graph_read, levels_to, next_visit, through_level, up_to, visits_to}
 use Rattle.weave_entries.specs.declared.gate_log.GateEntry.{GateEntry}
 use Rattle.weave_entries.specs.declared.gate_log.GateDeed.TheVariants.{BeganTx, BeganProgram, Sent, Nop, Heard, Finished}
@@ -241,7 +243,7 @@ judgement-unseen : ¬ GateRefersAs (record seen { store = [] }) 1 (g1 ∷ []) 7 
 judgement-unseen refers = has_none refers.judged refers.is_judged
 
 -- a program is finished, and none of its visits was seen: its first one is still to come
-first-through : (n : ℕ) (graph : PlainGraph) (pass : Option Filter) (from : Name) → (rest : List Name) × (through_level n graph pass from ≡ from ∷ rest)
+first-through : (n : ℕ) (graph : PlainGraph) (pass : Passing) (from : Name) → (rest : List Name) × (through_level n graph pass from ≡ from ∷ rest)
 first-through zero graph pass from = ([], refl)
 first-through (suc n) graph pass from =
     let levels = levels_to (suc n) graph pass from in
@@ -258,10 +260,13 @@ first-up to from names rest is = subst (λ l. (others : List Name) × (up_to to 
 first-visit : (graph : PlainGraph) (program : Program) → (w : Name) × (rest : List Name) × (visits_to 0 graph program ≡ w ∷ rest)
 first-visit graph (Show w) = (w, [], refl)
 first-visit graph (Reach from to pass) =
-    let first = first-through 0 graph pass from in let up = first-up to from (through_level 0 graph pass from) first.0 first.1 in (from, up.0, up.1)
-first-visit graph (Around from bound pass) = let first = first-through bound graph pass from in (from, first.0, first.1)
+    let first = first-through 0 graph (passing_of pass) from in
+    let up = first-up to from (through_level 0 graph (passing_of pass) from) first.0 first.1 in (from, up.0, up.1)
+first-visit graph (Around from bound pass) = let first = first-through bound graph (passing_of pass) from in (from, first.0, first.1)
 first-visit graph (Path from to bound pass) =
-    let first = first-through bound graph pass from in let up = first-up to from (through_level bound graph pass from) first.0 first.1 in (from, up.0, up.1)
+    let first = first-through bound graph (passing_of pass) from in
+    let up = first-up to from (through_level bound graph (passing_of pass) from) first.0 first.1 in (from, up.0, up.1)
+first-visit graph (Price from to key) = let first = first-through 0 graph (Priced key) from in (from, first.0, first.1)
 
 none-read : (reads : List (Name × State)) → ((read : Name × State) → Contains reads read → Contains {X = Name × State} [] read) → reads ≡ []
 none-read [] none = refl

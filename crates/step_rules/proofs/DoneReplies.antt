@@ -16,7 +16,7 @@ use Rattle.shard_queue.specs.Outbox.{sent_as}
 use Rattle.program_defs.specs.declared.script.Request.{Request}
 use Rattle.program_defs.specs.declared.script.Script.{Script}
 use Rattle.program_defs.specs.declared.script.Step.{Step}
-use Rattle.program_defs.specs.declared.script.Step.TheVariants.{Begin, Judge, Send, Say, Hear, Nop, Deliver, Apply, Visit, Reply, Collect, Epoch}
+use Rattle.program_defs.specs.declared.script.Step.TheVariants.{Begin, Judge, Send, Say, Hear, Nop, Deliver, Apply, Visit, Reply, Collect, Epoch, Restart}
 use Rattle.program_defs.specs.declared.script.Work.{Work}
 use Rattle.program_defs.specs.declared.script.Work.TheVariants.{Change, Look}
 use Rattle.program_defs.specs.Limits.{IsWithinLimits}
@@ -219,6 +219,7 @@ module _ (laws : LawsForSteps) (script : Script) (limits : IsWithinLimits script
   done-adds (Reply r) = replies r (request_at script r) refl
   done-adds (Collect s) = quiet (Collect s) (account_with script state (Collect s)) refl refl
   done-adds (Epoch g epoch) = quiet (Epoch g epoch) (account_with script state (Epoch g epoch)) refl refl
+  done-adds (Restart g epoch) = quiet (Restart g epoch) (account_with script state (Restart g epoch)) refl refl
 
   -- whatever a step answers: it is a `reply` of the request, and is done
   abbrev IsDone : Step → StepAnswer → ℕ → Type 0

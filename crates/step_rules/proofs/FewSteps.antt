@@ -19,7 +19,7 @@ use Rattle.shard_queue.specs.Outbox.{sent_as}
 use Rattle.program_defs.specs.declared.script.Request.{Request}
 use Rattle.program_defs.specs.declared.script.Script.{Script}
 use Rattle.program_defs.specs.declared.script.Step.{Step}
-use Rattle.program_defs.specs.declared.script.Step.TheVariants.{Begin, Judge, Send, Say, Hear, Nop, Deliver, Apply, Visit, Reply, Collect, Epoch}
+use Rattle.program_defs.specs.declared.script.Step.TheVariants.{Begin, Judge, Send, Say, Hear, Nop, Deliver, Apply, Visit, Reply, Collect, Epoch, Restart}
 use Rattle.program_defs.specs.declared.script.Work.{Work}
 use Rattle.program_defs.specs.declared.script.Work.TheVariants.{Change, Look}
 use Rattle.program_defs.specs.Limits.{IsWithinLimits}
@@ -274,6 +274,7 @@ module _ (script : Script) (state : CoreState) (limits : IsWithinLimits script) 
   step-few (Reply r) range = replies-few r (request_at script r) refl
   step-few (Collect s) range = λ home. inl refl
   step-few (Epoch g epoch) range = adds-deed account g 0 (Raised epoch) (gate-within core.account g range.0) (λ other h. (let same = eqb-true epoch other h in let most = range.2 in omega (arith, same, most)))
+  step-few (Restart g epoch) range = adds-deed account g 0 (Raised epoch) (gate-within core.account g range.0) (λ other h. (let same = eqb-true epoch other h in let most = range.2 in omega (arith, same, most)))
 
   -- whatever a step answers, each gatekeeper has at most one entry more
   pub after-few : (step : Step) → IsStepOf script step → AddsFew account (state_after script state step).account
@@ -315,6 +316,7 @@ module _ (script : Script) (state : CoreState) (limits : IsWithinLimits script) 
     step-small (Reply r) = tt
     step-small (Collect s) = tt
     step-small (Epoch g epoch) = tt
+    step-small (Restart g epoch) = tt
 
 -- All steps
 

@@ -36,6 +36,7 @@ mod Rows
 mod MoreRows
 mod FurtherRows
 mod RowsKept
+mod RestartRows
 mod FewSteps
 mod DoneReplies
 mod ReportedReplies

@@ -1,5 +1,5 @@
 -- Worked lists of steps, computed: the whole report of each, with the answers of its steps.
--- Used by FinishedRows and RowsKept.
+-- Used by FinishedRows, RestartRows and RowsKept.
 use Rattle.std.specs.Prelude.{◌≡◌, refl, true, false, List, [], ◌∷◌, None, Some}
 use Rattle.graph_ops.specs.declared.op.Op.TheVariants.{Create, Delete, Set, Link, Get}
 use Rattle.graph_ops.specs.declared.op.Reason.TheVariants.{Missing}

@@ -9,7 +9,7 @@ use Rattle.shard_queue.specs.Outbox.{sent_as}
 use Rattle.program_defs.specs.declared.script.Request.{Request}
 use Rattle.program_defs.specs.declared.script.Script.{Script}
 use Rattle.program_defs.specs.declared.script.Step.{Step}
-use Rattle.program_defs.specs.declared.script.Step.TheVariants.{Begin, Judge, Send, Say, Hear, Nop, Deliver, Apply, Visit, Reply, Collect, Epoch}
+use Rattle.program_defs.specs.declared.script.Step.TheVariants.{Begin, Judge, Send, Say, Hear, Nop, Deliver, Apply, Visit, Reply, Collect, Epoch, Restart}
 use Rattle.program_defs.specs.declared.script.Work.{Work}
 use Rattle.program_defs.specs.declared.script.Work.TheVariants.{Change, Look}
 use Rattle.report_rules.specs.Lookups.{request_at}
@@ -181,6 +181,7 @@ module _ (script : Script) (state : CoreState) (limits : IsWithinLimits script) 
   step-goes-on (Reply r) range = replies-on r (request_at script r) refl
   step-goes-on (Collect s) range = with-shard-deed account s _ (shard-within core.account s range)
   step-goes-on (Epoch g epoch) range = with-gate-deed account g 0 _ (gate-within core.account g range.0)
+  step-goes-on (Restart g epoch) range = with-gate-deed account g 0 _ (gate-within core.account g range.0)
 
 -- Notices
 
@@ -198,3 +199,4 @@ notices-on state (Visit r) = whole state.notices
 notices-on state (Reply r) = whole state.notices
 notices-on state (Collect s) = whole state.notices
 notices-on state (Epoch g epoch) = whole state.notices
+notices-on state (Restart g epoch) = whole state.notices

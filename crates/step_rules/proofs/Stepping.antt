@@ -4,7 +4,7 @@ use Rattle.std.proofs.Common.{◌≡◌, Bool, true, false, cond, List, [], ◌�
 use Rattle.std.specs.Prelude.{fold}
 use Rattle.program_defs.specs.declared.script.Script.{Script}
 use Rattle.program_defs.specs.declared.script.Step.{Step}
-use Rattle.program_defs.specs.declared.script.Step.TheVariants.{Begin, Judge, Send, Say, Hear, Nop, Deliver, Apply, Visit, Reply, Collect, Epoch}
+use Rattle.program_defs.specs.declared.script.Step.TheVariants.{Begin, Judge, Send, Say, Hear, Nop, Deliver, Apply, Visit, Reply, Collect, Epoch, Restart}
 use Rattle.report_rules.specs.declared.report.StepAnswer.{StepAnswer}
 use Rattle.report_rules.specs.declared.report.StepAnswer.TheVariants.{Ok, Twice, Early, Busy, Idle, Old, Unknown, Repeat, Empty, Waits, Again}
 use Rattle.weave_account.specs.GoesOn.{GoesOn, IsBeginningOf}
@@ -60,6 +60,7 @@ module _ (laws : LawsForSteps) (further : FurtherLowerLaws) (script : Script) (l
   each-step-keeps state (Reply r) range small core ok = reply-keeps script state (basis-of state core) r ok
   each-step-keeps state (Collect s) range small core ok = collect-keeps script state (basis-of state core) s range
   each-step-keeps state (Epoch g epoch) range small core ok = epoch-keeps script state (basis-of state core) g epoch range.0 ok
+  each-step-keeps state (Restart g epoch) range small core ok = epoch-keeps script state (basis-of state core) g epoch range.0 ok
 
   -- whatever a step answers, it keeps a core
   pub step-keeps : (state : CoreState) (step : Step) → IsStepOf script step → IsSmallIfDone script state step → IsCore script state → IsCore script (state_after script state step)

@@ -6,7 +6,7 @@ use Rattle.shard_queue.specs.Outbox.{sent_as}
 use Rattle.program_defs.specs.declared.script.Request.{Request}
 use Rattle.program_defs.specs.declared.script.Script.{Script}
 use Rattle.program_defs.specs.declared.script.Step.{Step}
-use Rattle.program_defs.specs.declared.script.Step.TheVariants.{Begin, Judge, Send, Say, Hear, Nop, Deliver, Apply, Visit, Reply, Collect, Epoch}
+use Rattle.program_defs.specs.declared.script.Step.TheVariants.{Begin, Judge, Send, Say, Hear, Nop, Deliver, Apply, Visit, Reply, Collect, Epoch, Restart}
 use Rattle.report_rules.specs.Lookups.{request_at}
 use Rattle.report_rules.specs.declared.report.StepAnswer.{StepAnswer}
 use Rattle.report_rules.specs.declared.report.StepAnswer.TheVariants.{Ok, Twice, Early, Busy, Idle, Old, Unknown, Repeat, Empty, Waits, Again}
@@ -81,6 +81,12 @@ answer_of_visit script account (Some begun) (Some v) =
     again_or_ok (shard_of v script.shards) (first_unready script.gates begun.stamp
     (shard_log account (shard_of v script.shards)))
 
+-- Epochs
+
+-- `epoch G E` and `restart G E`: `old` if E is not above G's epoch
+abbrev pub answer_of_epoch : Account → ℕ → ℕ → StepAnswer
+answer_of_epoch account gate epoch = if nat_lt (clock_of gate (gate_log account gate)).epoch epoch then Ok else Old
+
 -- Each step
 
 -- a step on a request of the script
@@ -106,5 +112,5 @@ answer_of script state (Visit r) =
     (next_vertex state.account r request.work)) (request_at script r)
 answer_of script state (Reply r) = for_request (answer_of_reply state.account r) (request_at script r)
 answer_of script state (Collect shard) = Ok
-answer_of script state (Epoch gate epoch) =
-    if nat_lt (clock_of gate (gate_log state.account gate)).epoch epoch then Ok else Old
+answer_of script state (Epoch gate epoch) = answer_of_epoch state.account gate epoch
+answer_of script state (Restart gate epoch) = answer_of_epoch state.account gate epoch

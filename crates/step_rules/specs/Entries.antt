@@ -12,7 +12,7 @@ use Rattle.shard_queue.specs.Outbox.{sent_as}
 use Rattle.program_defs.specs.declared.script.Request.{Request}
 use Rattle.program_defs.specs.declared.script.Script.{Script}
 use Rattle.program_defs.specs.declared.script.Step.{Step}
-use Rattle.program_defs.specs.declared.script.Step.TheVariants.{Begin, Judge, Send, Say, Hear, Nop, Deliver, Apply, Visit, Reply, Collect, Epoch}
+use Rattle.program_defs.specs.declared.script.Step.TheVariants.{Begin, Judge, Send, Say, Hear, Nop, Deliver, Apply, Visit, Reply, Collect, Epoch, Restart}
 use Rattle.program_defs.specs.declared.script.Work.{Work}
 use Rattle.program_defs.specs.declared.script.Work.TheVariants.{Change, Look}
 use Rattle.report_rules.specs.Lookups.{request_at}
@@ -201,6 +201,7 @@ account_with script state (Reply r) = at_request (after_reply state.account r) s
 account_with script state (Collect s) =
     with_shard_deed state.account s (shard.Collected (bound_of script.gates (shard_log state.account s)))
 account_with script state (Epoch home epoch) = with_gate_deed state.account home 0 (gate.Raised epoch)
+account_with script state (Restart home epoch) = with_gate_deed state.account home 0 (gate.Raised epoch)
 
 -- the notices after a step that is done: `say` adds the gatekeeper's clock
 abbrev pub notices_with : CoreState → Step → List Clock

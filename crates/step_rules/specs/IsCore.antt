@@ -6,7 +6,7 @@ use Rattle.vector_stamp.specs.Order.{has_64_bits}
 use Rattle.program_defs.specs.declared.script.Request.{Request}
 use Rattle.program_defs.specs.declared.script.Script.{Script}
 use Rattle.program_defs.specs.declared.script.Step.{Step}
-use Rattle.program_defs.specs.declared.script.Step.TheVariants.{Begin, Judge, Send, Say, Hear, Nop, Deliver, Apply, Visit, Reply, Collect, Epoch}
+use Rattle.program_defs.specs.declared.script.Step.TheVariants.{Begin, Judge, Send, Say, Hear, Nop, Deliver, Apply, Visit, Reply, Collect, Epoch, Restart}
 use Rattle.report_rules.specs.Lookups.{request_at}
 use Rattle.report_rules.specs.declared.report.StepAnswer.TheVariants.{Ok}
 use Rattle.weave_account.specs.Clocks.{IsKnown}
@@ -39,6 +39,7 @@ IsStepOf script (Visit r) = r < length script.requests
 IsStepOf script (Reply r) = r < length script.requests
 IsStepOf script (Collect shard) = shard < script.shards
 IsStepOf script (Epoch gate epoch) = (gate < script.gates) × (1 ≤ epoch) × (epoch ≤ most_epoch)
+IsStepOf script (Restart gate epoch) = (gate < script.gates) × (1 ≤ epoch) × (epoch ≤ most_epoch)
 
 -- a `begin` that is done gives a stamp whose numbers have 64 bits; of other steps nothing is asked
 abbrev pub IsSmall : Script → CoreState → Step → Type 0

@@ -20,7 +20,7 @@ use weave_data::Items;
 use weave_entries::{OracleDeed, OracleEntry};
 
 /// The place of the first earlier event that the later one precedes.
-pub(crate) fn first_refused(graph: &OrderGraph, earlier: &[Stamp], later: &Stamp) -> Option<u32>
+pub fn first_refused(graph: &OrderGraph, earlier: &[Stamp], later: &Stamp) -> Option<u32>
     requires few { length earlier.now < 2 ^ 32 }
     requires coherent { AreCoherent (later.now ∷ earlier.now ++ ends_of graph.now.pairs) }
     ensures { result ≡ refused_place graph.now.pairs earlier.now later.now }
@@ -36,12 +36,7 @@ pub(crate) fn first_refused(graph: &OrderGraph, earlier: &[Stamp], later: &Stamp
 
 /// Adds a pair for each earlier event that does not yet precede the later one, in their order, and adds their places.
 /// There is room for all.
-pub(crate) fn put_before(
-    graph: &mut OrderGraph,
-    earlier: &[Stamp],
-    later: Stamp,
-    places: &mut Vec<u32>,
-)
+pub fn put_before(graph: &mut OrderGraph, earlier: &[Stamp], later: Stamp, places: &mut Vec<u32>)
     requires few { length earlier.now < 2 ^ 32 }
     requires other_ids { All (λ event. id_of event ≢ id_of later) earlier.now }
     requires coherent { AreCoherent (later ∷ earlier.now ++ ends_of graph.old.pairs) }
@@ -53,6 +48,7 @@ pub(crate) fn put_before(
     ensures not_more { length places.new.items ≤ length earlier.now }
     ensures pairs { graph.new.pairs
         ≡ graph.old.pairs ++ pairs_of (additions_from 0 graph.old.pairs earlier.now later) later }
+    ensures spared { graph.old.spare ≤ graph.new.spare + length earlier.now }
 {
     settling_puts_all_before();
     fewer_are_coherent();
@@ -101,7 +97,7 @@ fn is_put_before(graph: &OrderGraph, a: &Stamp, b: &Stamp) -> bool
 }
 
 /// Takes the memory for that many places.
-pub(crate) fn room_for(alloc: Global, places: usize) -> Result<Vec<u32>, AllocError>
+pub fn room_for(alloc: Global, places: usize) -> Result<Vec<u32>, AllocError>
     ensures none { IfOk result (λ made. made.items ≡ []) }
     ensures room { IfOk result (λ made. places ≤ vec_capacity made) }
 {

@@ -31,7 +31,9 @@ fn is_step_of(script: &Script, step: &Step) -> bool
             number,
         } => gate < script.gates && shard < script.shards && 1 <= number,
         Step::Apply { shard, gate } => shard < script.shards && gate < script.gates,
-        Step::Epoch { gate, epoch } => gate < script.gates && 1 <= epoch && epoch <= 1_000_000,
+        Step::Epoch { gate, epoch } | Step::Restart { gate, epoch } => {
+            gate < script.gates && 1 <= epoch && epoch <= 1_000_000
+        }
         Step::Collect { shard } => shard < script.shards,
     }
 }

@@ -1,5 +1,5 @@
 -- What the lemmas on an account are given: the account, its script's limits, and the laws of the crates below.
--- Used by 63 functions, laws and files of this crate and of those above.
+-- Used by 65 functions, laws and files of this crate and of those above.
 use Rattle.vector_stamp.specs.Precedence.{IsAcyclic}
 use Rattle.program_defs.specs.declared.script.Script.{Script}
 use Rattle.weave_account.specs.declared.account.Account.{Account}

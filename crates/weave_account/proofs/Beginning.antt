@@ -1,6 +1,7 @@
 -- A request that was begun has its stamp.
 -- Used by BegunElsewhere, ConflictsClause, FinalReplies, Growing, InSession, KnownClocks, Meeting, OneReport,
--- PhaseOrder, PhasePrecedence, PhasesKept, PlacedPairs, ReadingPlace, Storing, VisitedPairs and 6 crates above.
+-- OpenRequests, PhaseOrder, PhasePrecedence, PhasesKept, PlacedPairs, ReadingPlace, Storing, VisitedPairs and 6 crates
+-- above.
 use Rattle.std.proofs.Common.{◌≡◌, ◌≢◌, ℕ, zero, suc, List, [], ◌∷◌, ◌++◌, get_or, Contains, AllPairs, Some, ap}
 use Rattle.std.specs.Option.{option_map}
 use Rattle.weave_data.proofs.Members.{has_head, has_tail, has_none, has_flat}

@@ -1,6 +1,6 @@
 -- If each request has its reply in its session's log, each reply of the report is final; and a program is finished
 -- exactly if its session has its reply.
--- Used by `finished_exactly_if_replied` and `replied_requests_are_final`.
+-- Used by `finished_exactly_if_replied`, `replied_requests_are_final` and OpenRequests.
 use Rattle.std.proofs.Common.{◌≡◌, ℕ, true, false, List, [], ◌∷◌, IsTrue, Option, Some, None, refl, sym, ap, subst, ◌∙◌}
 use Rattle.std.specs.Prelude.{◌↔◌, IsSomeAnd}
 use Rattle.std.specs.List.{AllByRecursion}

@@ -3,7 +3,7 @@
 use Rattle.std.proofs.Common.{◌≡◌, ℕ, Bool, ◌==◌, ◌&&◌, List, [], ◌∷◌, map, length, Contains, IsTrue, Option, Some, None, refl, sym, subst, ◌∙◌}
 use Rattle.std.specs.Prelude.{IsSomeAnd, reverse}
 use Rattle.std.specs.List.{AllByRecursion}
-use Rattle.std.proofs.lemmas.Bool.{and_from, lt-ltb}
+use Rattle.std.proofs.lemmas.Bool.{and_from, eq-eqb, lt-ltb}
 use Rattle.std.proofs.lemmas.Option.{slice_get_within}
 use Rattle.vector_stamp.specs.declared.clock.Stamp.{Stamp}
 use Rattle.vector_stamp.specs.Precedence.{GivenPair}
@@ -11,9 +11,9 @@ use Rattle.graph_ops.specs.PlainGraph.{PlainGraph, TxOutcome}
 use Rattle.graph_ops.specs.declared.op.Op.{Op}
 use Rattle.graph_ops.specs.declared.tx.Got.{Got}
 use Rattle.program_defs.specs.declared.program.Answer.{Answer}
-use Rattle.program_defs.specs.declared.program.Answer.TheVariants.{Shown, Reached, Found, Walk}
+use Rattle.program_defs.specs.declared.program.Answer.TheVariants.{Shown, Reached, Found, Walk, Priced}
 use Rattle.program_defs.specs.declared.program.Program.{Program}
-use Rattle.program_defs.specs.declared.program.Program.TheVariants.{Show, Reach, Around, Path}
+use Rattle.program_defs.specs.declared.program.Program.TheVariants.{Show, Reach, Around, Path, Price}
 use Rattle.program_defs.specs.PlainAnswer.{IsPlainAnswer}
 use Rattle.program_defs.specs.declared.script.Request.{Request}
 use Rattle.program_defs.specs.declared.script.Script.{Script}
@@ -57,6 +57,9 @@ answer-form graph (Show v) (Shown state) is = refl
 answer-form graph (Reach from to pass) (Reached reached) is = refl
 answer-form graph (Around from bound pass) (Found vertices) is = refl
 answer-form graph (Path from to bound pass) (Walk walk) is = refl
+answer-form graph (Price from to key) (Priced (Some walk) total bounds) is = is.priced.rising
+answer-form graph (Price from to key) (Priced None total bounds) is =
+    and_from (total == 0) _ (eq-eqb total 0 is.led.0) is.priced.rising
 answer-form graph (Show v) (Reached reached) is = absurd is
 answer-form graph (Show v) (Found vertices) is = absurd is
 answer-form graph (Show v) (Walk walk) is = absurd is
@@ -69,6 +72,14 @@ answer-form graph (Around from bound pass) (Walk walk) is = absurd is
 answer-form graph (Path from to bound pass) (Shown state) is = absurd is
 answer-form graph (Path from to bound pass) (Reached reached) is = absurd is
 answer-form graph (Path from to bound pass) (Found vertices) is = absurd is
+answer-form graph (Show v) (Priced walk total bounds) is = absurd is
+answer-form graph (Reach from to pass) (Priced walk total bounds) is = absurd is
+answer-form graph (Around from bound pass) (Priced walk total bounds) is = absurd is
+answer-form graph (Path from to bound pass) (Priced walk total bounds) is = absurd is
+answer-form graph (Price from to key) (Shown state) is = absurd is
+answer-form graph (Price from to key) (Reached reached) is = absurd is
+answer-form graph (Price from to key) (Found vertices) is = absurd is
+answer-form graph (Price from to key) (Walk walk) is = absurd is
 
 module _ (script : Script) (account : Account) (basis : Basis script account) (report : Report) (reported : IsReportOfAccount script account report) where
   request-there : (r : ℕ) (stamp : Stamp) → stamp_of account r ≡ Some stamp → IsTrue (is_request_of script r)

@@ -1,7 +1,7 @@
 -- What a session's log says with the other logs: what was begun last, the request that comes next, and that a request
 -- which a later one of its session follows has its reply.
--- Used by `judgements_are_of_requests`, `requests_end_or_go_on`, `sessions_follow_gatekeepers`, BegunElsewhere and
--- crates hands_account, sessions_account, weaver_core and workers_account.
+-- Used by `judgements_are_of_requests`, `requests_end_or_go_on`, `sessions_follow_gatekeepers`, BegunElsewhere,
+-- OpenRequests and crates hands_account, sessions_account, weaver_core and workers_account.
 use Rattle.std.proofs.Common.{◌≡◌, ◌≢◌, ℕ, zero, suc, ◌<◌, ◌==◌, Bool, true, false, List, [], ◌∷◌, ◌++◌, length, take, Contains, IsTrue, Option, None, Some, ◌⊎◌, inl, inr, refl, sym, ap, subst, ◌∙◌, arith}
 use Rattle.std.specs.Prelude.{◌-◌, cond, not, slice_get, reverse}
 use Rattle.std.specs.List.{filter, range_with_len}

@@ -61,6 +61,7 @@ pub mod Takable
 pub mod SeenIds
 pub mod Requests
 pub mod InSession
+pub mod OpenRequests
 pub mod BegunElsewhere
 pub mod Ticking
 pub mod Collecting

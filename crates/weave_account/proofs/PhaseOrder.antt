@@ -1,6 +1,7 @@
 -- The store judges a request of an earlier phase before one of a later phase. It rests on the clauses on sessions,
 -- channels and the store.
--- Used by FinalReplies, InSession, OneReport, PhasePrecedence, PhasesKept, Requests and crate weaver_top.
+-- Used by FinalReplies, InSession, OneReport, OpenRequests, PhasePrecedence, PhasesKept, Requests and crate
+-- weaver_top.
 use Rattle.std.proofs.Common.{◌≡◌, ◌≢◌, ℕ, ◌<◌, ◌≤◌, ◌==◌, List, ◌∷◌, ◌++◌, Contains, AllPairs, IsTrue, Option, Some, None, refl, sym, ap, subst, ◌∙◌, append_assoc, arith}
 use Rattle.std.specs.Prelude.{IsSomeAnd}
 use Rattle.std.specs.List.{flat_map}

@@ -1,7 +1,7 @@
 -- The clause on replies (`replies`, for RightReport): each has its request's place and its gatekeeper's stamp, stamps
 -- of one home are ordered, and sessions begin in turn. With it, what other users take: facts of an account's begins.
--- Used by BegunElsewhere, FormOfScript, InSession, KnownClocks, OneReport, PairEnds, PhasePrecedence, PlacedPairs,
--- Requests, RightReport, SeenIds and crates hands_account, seen_logs, shard_lock and weaver_top.
+-- Used by BegunElsewhere, FormOfScript, InSession, KnownClocks, OneReport, OpenRequests, PairEnds, PhasePrecedence,
+-- PlacedPairs, Requests, RightReport, SeenIds and crates hands_account, seen_logs, shard_lock and weaver_top.
 use Rattle.std.proofs.Common.{◌≡◌, ◌≢◌, ℕ, ◌<◌, Bool, ◌==◌, ◌&&◌, List, [], ◌∷◌, ◌++◌, length, Contains, AllPairs, IsTrue, Option, Some, None, ◌⊎◌, inl, inr, refl, sym, ap, subst, ◌∙◌, arith}
 use Rattle.std.specs.Prelude.{slice_get}
 use Rattle.std.specs.List.{find}

@@ -1,6 +1,6 @@
 -- Each begun request began rightly, at a gatekeeper of the script.
--- Used by BegunStamps, Coherence, FormOfScript, Growing, InSession, KnownClocks, Meeting, PhaseOrder, PhasePrecedence,
--- PlacedPairs, ReadingPlace, Replies, RepliesClause, Requests and 5 crates above.
+-- Used by BegunStamps, Coherence, FormOfScript, Growing, InSession, KnownClocks, Meeting, OpenRequests, PhaseOrder,
+-- PhasePrecedence, PlacedPairs, ReadingPlace, Replies, RepliesClause, Requests and 5 crates above.
 use Rattle.std.proofs.Common.{◌≡◌, ℕ, suc, ◌==◌, Bool, List, [], ◌∷◌, ◌++◌, get_or, Contains, IsTrue, Option, Some, None, inl, inr, refl, sym, ap, subst, ◌∙◌}
 use Rattle.std.specs.Prelude.{◌&&◌}
 use Rattle.std.specs.List.{find}

@@ -1,6 +1,7 @@
 -- Where requests begin and end: each at its own gatekeeper, and at most once. A transaction in flight has not ended
 -- anywhere. The requests of a session rise.
--- Used by `requests_end_or_go_on`, `requests_of_a_session_rise`, Collecting and InSession.
+-- Used by `requests_end_or_go_on`, `requests_of_a_session_rise`, `sessions_have_what_is_open`, Collecting, InSession
+-- and OpenRequests.
 use Rattle.std.proofs.Common.{◌≡◌, ◌≢◌, ℕ, zero, suc, ◌+◌, ◌<◌, ◌==◌, Bool, true, false, cond, List, [], ◌∷◌, ◌++◌, map, length, get_or, AllPairs, Contains, IsTrue, Option, None, Some, inl, inr, refl, sym, ap, subst, ◌∙◌, arith}
 use Rattle.std.specs.Prelude.{◌↔◌, ◌&&◌, reverse, not, IsSomeAnd}
 use Rattle.std.specs.List.{filter, flat_map, range_with_len}

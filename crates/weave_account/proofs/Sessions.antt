@@ -1,6 +1,6 @@
 -- In a session requests begin in script order, and their stamps rise.
--- Used by `facts_stay_true`, ConflictsClause, Growing, InSession, KnownClocks, ListingClause, Meeting, ReadingPlace,
--- RepliesClause, Unprocessed and Visiting.
+-- Used by `facts_stay_true`, ConflictsClause, Growing, InSession, KnownClocks, ListingClause, Meeting, OpenRequests,
+-- ReadingPlace, RepliesClause, Unprocessed and Visiting.
 use Rattle.std.proofs.Common.{◌≡◌, ◌≢◌, ℕ, zero, suc, ◌+◌, ◌<◌, ◌≤◌, ◌==◌, List, [], ◌∷◌, ◌++◌, map, length, take, drop, Contains, AllPairs, IsTrue, Option, Some, None, ◌⊎◌, inl, inr, refl, sym, ap, subst, ◌∙◌, arith}
 use Rattle.std.specs.Prelude.{slice_get}
 use Rattle.std.specs.List.{find, range_with_len}

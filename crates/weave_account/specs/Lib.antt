@@ -14,6 +14,7 @@ pub mod Report
 pub mod GoesOn
 pub mod Collection
 pub mod OnTheWay
+pub mod OpenRequests
 pub mod NoLogs
 pub mod LowerLaws
 pub mod PairsByPlace

@@ -1,5 +1,5 @@
 //! What follows for the report of an account, as contracts over the logs alone.
-ghost use Rattle.std.specs.Prelude.{◌≡◌, ◌≢◌, ◌↔◌, ◌⊎◌, ℕ, ◌<◌, ◌≤◌, Bool, List, [], ◌∷◌, ◌++◌, map, take, drop, length, not, ◌+◌, ◌-◌, ◌^◌, ◌==◌, AllPairs, Contains, IsTrue, IsSomeAnd, None, Some};
+ghost use Rattle.std.specs.Prelude.{◌≡◌, ◌≢◌, ◌↔◌, ◌⊎◌, ℕ, ◌<◌, ◌≤◌, Bool, false, List, [], ◌∷◌, ◌++◌, map, take, drop, length, not, ◌+◌, ◌-◌, ◌^◌, ◌==◌, AllPairs, Contains, IsTrue, IsSomeAnd, None, Some};
 ghost use Rattle.std.specs.List.{flat_map};
 ghost use Rattle.vector_stamp.specs.declared.clock.Stamp.{Stamp};
 ghost use Rattle.vector_stamp.specs.Clocks.{clock_after_hearing, clock_after_tick, counts_no_more, meet_of};
@@ -57,6 +57,7 @@ ghost use Rattle.weave_account.specs.Collection.{IsBeforeABound};
 ghost use Rattle.weave_account.specs.Gatekeepers.{BeginEachOnce, BeginsAs, last_stamp, request_before};
 ghost use Rattle.weave_account.specs.GoesOn.{GoesOn, IsBeginningOf, visits_by};
 ghost use Rattle.weave_account.specs.OnTheWay.{IsOnTheWay};
+ghost use Rattle.weave_account.specs.OpenRequests.{IsOpenAt};
 ghost use Rattle.weave_account.specs.Oracle.{HasItsEntry, IsAskedByCommit, IsAskedByVisit, marked_in};
 ghost use Rattle.weave_account.specs.Pairs.{ArePairsOf, IsPairInAccount};
 ghost use Rattle.weave_account.specs.PairsByPlace.{placed_pairs};
@@ -69,7 +70,7 @@ ghost use Rattle.weave_account.specs.Shards.{ShardFitsAs, update_of};
 ghost use Rattle.weave_account.specs.Report.{MatchesAccount, IsReportOfAccount};
 
 use crate::lower_laws::the_crates_below_keep_their_laws;
-use weave_entries::laws::verdicts_say_what_was_judged;
+use weave_entries::laws::{verdicts_say_what_was_judged, what_has_not_ended_goes_on};
 
 /// The report of an account is right, a report of the script, and in the printed order. Of two requests that meet one
 /// precedes the other.
@@ -229,6 +230,32 @@ pub fn requests_end_or_go_on()
         (λ (flight : BegunRequest). flight.request == r) (flight_of (gate_log account request.gate))) }
 {
     the_crates_below_keep_their_laws();
+}
+
+/// What a gatekeeper's log leaves unsent and unfinished is known by the sessions that began it: the programs that run
+/// are those that have begun and have no reply; the transaction in flight is the one that has begun and was not sent.
+pub fn sessions_have_what_is_open()
+    ensures programs { (script : Script) (account : Account) → IsWithinLimits script → IsAccount script account
+        → (home : ℕ) (begun : BegunRequest) → Contains (running_of (gate_log account home)) begun
+        → IsOpenAt script account home is_look begun }
+    ensures no_other_programs { (script : Script) (account : Account) → IsWithinLimits script
+        → IsAccount script account → (r : ℕ) (request : Request) → request_at script r ≡ Some request
+        → IsTrue (is_look request.work) → IsTrue (has_begun_in r (session_log account request.session))
+        → has_reply_in r (session_log account request.session) ≡ false
+        → (begun : BegunRequest) × Contains (running_of (gate_log account request.gate)) begun
+        × (begun.request ≡ r) × (stamp_of account r ≡ Some begun.stamp) }
+    ensures flight { (script : Script) (account : Account) → IsWithinLimits script → IsAccount script account
+        → (home : ℕ) (begun : BegunRequest) → flight_of (gate_log account home) ≡ Some begun
+        → IsOpenAt script account home is_change begun }
+    ensures no_other_flight { (script : Script) (account : Account) → IsWithinLimits script
+        → IsAccount script account → (r : ℕ) (request : Request) → request_at script r ≡ Some request
+        → IsTrue (is_change request.work) → IsTrue (has_begun_in r (session_log account request.session))
+        → has_ended_in r (gate_log account request.gate) ≡ false
+        → (begun : BegunRequest) × (flight_of (gate_log account request.gate) ≡ Some begun)
+        × (begun.request ≡ r) }
+{
+    the_crates_below_keep_their_laws();
+    what_has_not_ended_goes_on();
 }
 
 /// The requests of a session rise, and each request is one of its session. The request before it there is an earlier

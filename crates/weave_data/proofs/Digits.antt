@@ -1,5 +1,5 @@
 -- Digits are std's numerals.
--- Used by crates load_maker and weave_text.
+-- Used by crates load_maker, weave_report and weave_text.
 use Rattle.std.proofs.Common.{◌≡◌, true, rules}
 use Rattle.std.specs.Char.{is_ascii_digit}
 use Rattle.std.specs.List.{list_all}

@@ -1,5 +1,5 @@
 -- Lists, by recursion.
--- Used by FactsLaws, ListPlaces and 15 crates above.
+-- Used by FactsLaws, ListPlaces and 16 crates above.
 use Rattle.std.proofs.Common.{◌≡◌, ◌≢◌, ℕ, zero, suc, ◌<◌, Bool, true, false, cond, List, [], ◌∷◌, ◌++◌, IsTrue, length, refl, sym, ap, subst, Option, Some, None, inl, inr, arith}
 use Rattle.std.specs.Prelude.{slice_get, slice_set, find}
 use Rattle.std.specs.List.{filter, list_all, list_any, filter_map, cons_option, AllByRecursion}

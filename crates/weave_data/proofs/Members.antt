@@ -1,5 +1,5 @@
 -- The members of lists, of what is left of a filter, of mapped lists, and the first that passes a test.
--- Used by Ends, Images, ListPlaces, Numbers, Ordered and 30 crates above.
+-- Used by Ends, Images, ListPlaces, Numbers, Ordered and 31 crates above.
 use Rattle.std.proofs.Common.{◌≡◌, ℕ, zero, suc, Bool, true, false, cond, List, [], ◌∷◌, ◌++◌, map, take, drop, Contains, IsTrue, Option, None, Some, ◌⊎◌, inl, inr, refl, sym, ap, subst, ◌∙◌, arith}
 use Rattle.std.specs.List.{filter, filter_map, cons_option, find, flat_map, list_any}
 use Rattle.std.proofs.lemmas.Bool.{both_ways, or_cases, or_left, or_right}

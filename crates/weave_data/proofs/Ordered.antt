@@ -1,5 +1,5 @@
 -- Lists in which each element has a relation to each later one.
--- Used by 15 crates above.
+-- Used by 16 crates above.
 use Rattle.std.proofs.Common.{◌≡◌, ◌≢◌, ℕ, zero, suc, ◌<◌, nat_eq, ◌==◌, cond, List, [], ◌∷◌, ◌++◌, get_or, Contains, AllPairs, Some, ◌⊎◌, inl, inr, refl, sym, ap, subst, ◌∙◌, arith, map}
 use Rattle.std.specs.List.{find}
 use Rattle.std.proofs.lemmas.Bool.{cases_order, eq-eqb, ne_eqb}

@@ -9,7 +9,7 @@ use Rattle.vector_stamp.specs.declared.clock.Clock.{Clock}
 use Rattle.program_defs.specs.declared.script.Request.{Request}
 use Rattle.program_defs.specs.declared.script.Script.{Script}
 use Rattle.program_defs.specs.declared.script.Step.{Step}
-use Rattle.program_defs.specs.declared.script.Step.TheVariants.{Begin, Judge, Send, Say, Hear, Nop, Deliver, Apply, Visit, Reply, Collect, Epoch}
+use Rattle.program_defs.specs.declared.script.Step.TheVariants.{Begin, Judge, Send, Say, Hear, Nop, Deliver, Apply, Visit, Reply, Collect, Epoch, Restart}
 use Rattle.program_defs.specs.declared.script.Work.{Work}
 use Rattle.program_defs.specs.declared.script.Work.TheVariants.{Change, Look}
 use Rattle.report_rules.specs.Lookups.{request_at}
@@ -108,6 +108,7 @@ module _ (upto : ℕ) where
   done script state (Reply r) driving = replies state.account r (request_at script r)
   done script state (Collect s) driving = cc
   done script state (Epoch g epoch) driving = cc
+  done script state (Restart g epoch) driving = cc
 
   -- what a driving step adds at gatekeepers begins no request from the bound on, and raises no epoch
   pub after-step : (script : Script) (state : CoreState) (step : Step) → IsTrue (is_driving upto step) → DrivesGates upto state.account (state_after script state step).account

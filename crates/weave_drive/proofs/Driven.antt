@@ -7,7 +7,7 @@ use Rattle.std.proofs.lemmas.Bool.{lt-ltb, ltb-true}
 use Rattle.std.proofs.lemmas.List.Sums.{fold-append}
 use Rattle.program_defs.specs.declared.script.Script.{Script}
 use Rattle.program_defs.specs.declared.script.Step.{Step}
-use Rattle.program_defs.specs.declared.script.Step.TheVariants.{Begin, Judge, Send, Say, Hear, Nop, Deliver, Apply, Visit, Reply, Collect, Epoch}
+use Rattle.program_defs.specs.declared.script.Step.TheVariants.{Begin, Judge, Send, Say, Hear, Nop, Deliver, Apply, Visit, Reply, Collect, Epoch, Restart}
 use Rattle.program_defs.specs.Limits.{IsWithinLimits}
 use Rattle.report_rules.specs.declared.report.StepAnswer.{StepAnswer}
 use Rattle.weave_account.specs.GoesOn.{GoesOn}
@@ -69,6 +69,7 @@ more-driving m n below (Visit r) t = refl
 more-driving m n below (Reply r) t = refl
 more-driving m n below (Collect s) t = t
 more-driving m n below (Epoch g e) t = t
+more-driving m n below (Restart g e) t = t
 
 more-are : (script : Script) (m n : ℕ) → m ≤ n → (steps : List Step) (state : CoreState) → AreDriving script m state steps → AreDriving script n state steps
 more-are script m n below [] state are = tt

@@ -1,10 +1,10 @@
--- What driving a core does: ordinary steps, of which none begins a request from a bound on, raises an epoch or
--- collects.
+-- What driving a core does: ordinary steps, of which none begins a request from a bound on, raises an epoch, stops a
+-- gatekeeper or collects.
 use Rattle.std.specs.Prelude.{◌≡◌, ℕ, ◌<◌, Bool, true, false, nat_lt, List, [], ◌∷◌, ◌++◌, fold, Contains, IsTrue, Some, ⊤}
 use Rattle.program_defs.specs.declared.script.Request.{Request}
 use Rattle.program_defs.specs.declared.script.Script.{Script}
 use Rattle.program_defs.specs.declared.script.Step.{Step}
-use Rattle.program_defs.specs.declared.script.Step.TheVariants.{Begin, Collect, Epoch}
+use Rattle.program_defs.specs.declared.script.Step.TheVariants.{Begin, Collect, Epoch, Restart}
 use Rattle.report_rules.specs.Lookups.{request_at}
 use Rattle.weave_entries.specs.declared.gate_log.GateEntry.{GateEntry}
 use Rattle.weave_entries.specs.declared.gate_log.GateDeed.{GateDeed}
@@ -19,11 +19,12 @@ use Rattle.weaver_core.specs.Cores.{CoreView}
 
 -- The steps
 
--- a step that begins no request from this number on, raises no epoch and collects nothing
+-- a step that begins no request from this number on, raises no epoch, stops no gatekeeper and collects nothing
 abbrev pub is_driving : ℕ → Step → Bool
 is_driving upto (Begin r) = nat_lt r upto
 is_driving upto (Collect shard) = false
 is_driving upto (Epoch gate epoch) = false
+is_driving upto (Restart gate epoch) = false
 is_driving upto _ = true
 
 -- steps of the script, one after another: each is a driving one, and leaves a core

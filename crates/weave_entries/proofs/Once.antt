@@ -1,5 +1,5 @@
 -- A request ends after its begin, by its author, and once if it is begun once.
--- Used by `requests_end`, `what_has_not_ended_goes_on`, OwnStamps and crate workers_account.
+-- Used by `requests_end`, `what_has_not_ended_goes_on`, OwnStamps and crates gatekeeper and workers_account.
 use Rattle.std.proofs.Common.{◌≡◌, ◌≢◌, ℕ, Bool, true, false, not, List, [], ◌∷◌, ◌++◌, map, filter, Contains, Option, None, Some, inl, inr, refl, sym, ap, subst, ◌∙◌, arith}
 use Rattle.std.specs.List.{AllPairs, flat_map, list_any}
 use Rattle.std.proofs.lemmas.Bool.{both_ways, eqb-true, and_parts}

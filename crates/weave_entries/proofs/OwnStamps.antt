@@ -1,5 +1,5 @@
 -- The stamps of what was begun and sent are stamps that the gatekeeper made.
--- Used by `low_marks_are_below`, `messages_come_before`, `stamps_are_its_own`, LowMarks, NonePast and 10 crates above.
+-- Used by `low_marks_are_below`, `messages_come_before`, `stamps_are_its_own`, LowMarks, NonePast and 11 crates above.
 use Rattle.std.proofs.Common.{◌≡◌, ℕ, List, [], ◌∷◌, ◌++◌, Contains, Some, inl, inr, refl, sym, subst}
 use Rattle.std.proofs.lemmas.List.Elements.{Contains-append_cases, Contains-append_left, Contains-append_right}
 use Rattle.weave_data.proofs.Members.{has_none, has_head, only, filter_has, map_has, flat_has, has_flat}

@@ -1,6 +1,6 @@
 -- The replay of a log with one more entry.
--- Used by `the_replay_goes_on`, Channels, LowMarks, NonePast, Once, OwnStamps, Rising, Running, Small, Ticks and crate
--- gatekeeper.
+-- Used by `the_replay_goes_on`, Channels, LowMarks, NonePast, Once, OwnStamps, Rising, Running, Small, Ticks and
+-- crates gatekeeper and weaver_core.
 use Rattle.std.proofs.Common.{◌≡◌, ℕ, List, [], ◌∷◌, ◌++◌, map}
 use Rattle.std.proofs.lemmas.List.{map-append}
 use Rattle.std.proofs.lemmas.List.Sums.{fold-append}

@@ -17,6 +17,7 @@ mod writing;
 pub use faults::{Failed, ReadFault, WriteFault};
 pub use memory_sink::MemorySink;
 pub use memory_source::MemorySource;
+pub use planned_failures::fails_next;
 pub use reading::{MOST_BYTES, read_all};
 pub use sink::Sink;
 pub use source::Source;

@@ -10,9 +10,9 @@ use Rattle.weave_text.specs.Cutting.{is_empty}
 use Rattle.weave_text.specs.Lines.{Word}
 use Rattle.graph_ops.specs.Operations.{State}
 use Rattle.program_defs.specs.declared.program.Program.{Program}
-use Rattle.program_defs.specs.declared.program.Program.TheVariants.{Show, Reach, Around, Path}
+use Rattle.program_defs.specs.declared.program.Program.TheVariants.{Show, Reach, Around, Path, Price}
 use Rattle.program_defs.specs.declared.program.Answer.{Answer}
-use Rattle.program_defs.specs.declared.program.Answer.TheVariants.{Shown, Reached, Found, Walk}
+use Rattle.program_defs.specs.declared.program.Answer.TheVariants.{Shown, Reached, Found, Walk, Priced}
 use Rattle.weave_report.specs.declared.fault.ReportCause.TheVariants as cause
 use Rattle.report_rules.specs.declared.report.StepAnswer.{StepAnswer}
 use Rattle.report_rules.specs.declared.report.StepAnswer.TheVariants as step
@@ -27,6 +27,7 @@ use Rattle.weave_report.proofs.ReadSteps.{chosen, then_ok, is_word, or_cause_rea
 use Rattle.weave_report.proofs.FieldsRead.{name_read, name_again, names_read, names_again, small_number_read, small_number_again}
 use Rattle.weave_report.proofs.StatesRead.{state_read, state_again, no_words}
 use Rattle.weave_report.specs.TextLaws.{TextLaws}
+use Rattle.weave_report.proofs.PricedRead.{priced_read, priced_again}
 
 module _ (laws : TextLaws) where
   -- ---- programs
@@ -100,6 +101,9 @@ module _ (laws : TextLaws) where
   answer_read (Reach from to pass) words answer h e = reached_read (Reach from to pass) words answer (λ b. refl) h e
   answer_read (Around from bound pass) words answer h e = found_read (Around from bound pass) words answer (λ names. refl) h e
   answer_read (Path from to bound pass) words answer h e = walk_read (Path from to bound pass) words answer (λ walk. refl) h e
+  answer_read (Price from to key) words answer h e =
+      let priced = priced_read laws words answer h e in
+      subst (IsAnswer (Price from to key) words) priced.answer_is (record { form = priced.read.form; typed = priced.read.typed; told = priced.read.told })
 
   -- the words of a valid answer of the program's form have that form and are read as the answer
   pub answer_again : (program : Program) (answer : Answer) → has_form_for program answer ≡ true → IsTypedAnswer answer
@@ -124,6 +128,15 @@ module _ (laws : TextLaws) where
   answer_again (Path from to bound pass) (Shown state) form h = absurd cc
   answer_again (Path from to bound pass) (Reached b) form h = absurd cc
   answer_again (Path from to bound pass) (Found names) form h = absurd cc
+  answer_again (Show v) (Priced walk total bounds) form h = absurd cc
+  answer_again (Reach from to pass) (Priced walk total bounds) form h = absurd cc
+  answer_again (Around from bound pass) (Priced walk total bounds) form h = absurd cc
+  answer_again (Path from to bound pass) (Priced walk total bounds) form h = absurd cc
+  answer_again (Price from to key) (Priced walk total bounds) form h = priced_again laws walk total bounds form h
+  answer_again (Price from to key) (Shown state) form h = absurd cc
+  answer_again (Price from to key) (Reached b) form h = absurd cc
+  answer_again (Price from to key) (Found names) form h = absurd cc
+  answer_again (Price from to key) (Walk walk) form h = absurd cc
 
   -- ---- steps
 

@@ -6,7 +6,7 @@ use Rattle.std.proofs.lemmas.Bool.{cond-true, cond-false, ltb-true, ltb-false}
 use Rattle.std.proofs.lemmas.List.{take_all, length-drop}
 use Rattle.std.proofs.lemmas.Option.{cond_some}
 use Rattle.weave_text.proofs.FirstPiece.{test_failed}
-use Rattle.weave_report.specs.ReadingStates.{CutText, cut_behind, cut_first}
+use Rattle.weave_report.specs.Marks.{CutText, cut_behind, cut_first}
 
 module _ (is_mark : ℕ → Bool) where
   -- the cut at a place

@@ -9,6 +9,9 @@ pub mod FieldsRead
 pub mod StampsRead
 pub mod StatesRead
 pub mod AnswersRead
+mod PricedParts
+mod PricedRead
+mod WideNumbers
 pub mod RequestsRead
 pub mod RepliesRead
 pub mod ReportRead

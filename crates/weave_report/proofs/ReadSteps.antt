@@ -1,6 +1,6 @@
 -- Steps that were read, one after another.
--- Used by AnswersRead, FieldsRead, RepliesRead, ReportAgain, ReportRead, RequestsRead, StampsRead, StatesRead and
--- crate weave_script.
+-- Used by AnswersRead, FieldsRead, PricedParts, PricedRead, RepliesRead, ReportAgain, ReportRead, RequestsRead,
+-- StampsRead, StatesRead and crate weave_script.
 use Rattle.std.proofs.Common.{◌≡◌, ◌||◌, Bool, true, false, cond, ◌⊎◌, inl, inr, refl, ap, ◌∙◌}
 use Rattle.std.specs.Prelude.{Option, Some, None, Ok, Err}
 use Rattle.std.specs.Str.{bytes_eq}

@@ -1,5 +1,5 @@
 -- Words that are read as a state are that state's words, and the words of a state are read as it.
--- Used by AnswersRead, RepliesRead and ReportRead.
+-- Used by AnswersRead, PricedRead, RepliesRead and ReportRead.
 use Rattle.std.proofs.Common.{◌≡◌, ℕ, Bool, true, false, ◌&&◌, ◌||◌, ◌==◌, not, cond, inl, inr, List, [], ◌∷◌, ◌++◌, map, refl, sym, ap, ◌∙◌, subst, append_assoc, append-nil}
 use Rattle.std.specs.Prelude.{Option, Some, None, Ok, codes}
 use Rattle.std.specs.List.{AllByRecursion, list_all}
@@ -18,7 +18,8 @@ use Rattle.weave_report.specs.declared.read.parts.Item.{Item}
 use Rattle.weave_report.specs.declared.read.parts.Item.TheVariants.{Property, Link}
 use Rattle.weave_data.specs.Steps.{◌>>=◌}
 use Rattle.weave_report.specs.ReadingFields.{name_in}
-use Rattle.weave_report.specs.ReadingStates.{CutText, cut_behind, cut_first, is_equals, is_item_mark, key_and_value, goes_last, with_last, read_tag, tag_in, tags_in, edge_of, item_of, item_in, with_property, with_item_read, items_in, empty_record, is_state_form, read_state}
+use Rattle.weave_report.specs.Marks.{CutText, cut_behind, cut_first, is_equals, is_item_mark}
+use Rattle.weave_report.specs.ReadingStates.{key_and_value, goes_last, with_last, read_tag, tag_in, tags_in, edge_of, item_of, item_in, with_property, with_item_read, items_in, empty_record, is_state_form, read_state}
 use Rattle.weave_report.specs.ReportText.{property_text, edge_text, content_words, state_words}
 use Rattle.weave_report.specs.TextOf.{IsName, IsTypedMap, IsTypedEdge, IsTypedRecord, IsTypedState}
 use Rattle.weave_data.proofs.Steps.{bind_ok, ok_is}
@@ -57,9 +58,9 @@ module _ (laws : TextLaws) where
 
   module _ (is_mark : ℕ → Bool) where
     -- a text is what is before and after its cut, with the mark between
-    record IsCut (text : Bytes) (before : Bytes) (mark : ℕ) (behind : Bytes) : Type 0 where
-      marked : is_mark mark ≡ true
-      whole : text ≡ before ++ mark ∷ behind
+    pub record IsCut (text : Bytes) (before : Bytes) (mark : ℕ) (behind : Bytes) : Type 0 where
+      pub marked : is_mark mark ≡ true
+      pub whole : text ≡ before ++ mark ∷ behind
 
     cut_parts : (byte : ℕ) (text : Bytes) (o : Option CutText) (before : Bytes) (mark : ℕ) (behind : Bytes)
         → ((b : Bytes) (m : ℕ) (t : Bytes) → o ≡ Some (b, m, t) → IsCut text b m t) → cut_behind byte o ≡ Some (before, mark, behind) → IsCut (byte ∷ text) before mark behind
@@ -77,11 +78,13 @@ module _ (laws : TextLaws) where
         record { marked = subst (λ m. is_mark m ≡ true) parts.1 h; whole = λ i. parts.0 i ++ parts.1 i ∷ parts.2 i }
     cut_test byte text before mark behind false h e more = cut_parts byte text (cut_first is_mark text) before mark behind more e
 
-    cut_read : (text before : Bytes) (mark : ℕ) (behind : Bytes) → cut_first is_mark text ≡ Some (before, mark, behind) → IsCut text before mark behind
+    -- a cut text is what is before and after the mark
+    pub cut_read : (text before : Bytes) (mark : ℕ) (behind : Bytes) → cut_first is_mark text ≡ Some (before, mark, behind) → IsCut text before mark behind
     cut_read [] before mark behind e = absurd cc
     cut_read (byte ∷ text) before mark behind e = cut_test byte text before mark behind (is_mark byte) refl e (λ b m t k. cut_read text b m t k)
 
-    cut_again : (before : Bytes) (mark : ℕ) (behind : Bytes) → list_all (λ b. not (is_mark b)) before ≡ true → is_mark mark ≡ true
+    -- a text is cut at its mark, if there is none before it
+    pub cut_again : (before : Bytes) (mark : ℕ) (behind : Bytes) → list_all (λ b. not (is_mark b)) before ≡ true → is_mark mark ≡ true
         → cut_first is_mark (before ++ mark ∷ behind) ≡ Some (before, mark, behind)
     cut_again [] mark behind none h = cond-true (is_mark mark) _ _ h
     cut_again (byte ∷ before) mark behind none h =

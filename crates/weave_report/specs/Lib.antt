@@ -7,6 +7,8 @@ pub use Rattle.report_rules.specs.Meetings
 pub use Rattle.report_rules.specs.ReportOf
 pub mod ReportText
 pub mod ReadingFields
+pub mod Marks
+pub mod ReadingPriced
 pub mod ReadingStates
 pub mod ReadingReplies
 pub mod Reading

@@ -11,7 +11,7 @@ use Rattle.graph_ops.specs.Operations.{State}
 use Rattle.graph_ops.specs.declared.record.Edge.{Edge}
 use Rattle.graph_ops.specs.declared.record.Record.{Record}
 use Rattle.program_defs.specs.declared.program.Program.{Program}
-use Rattle.program_defs.specs.declared.program.Program.TheVariants.{Show, Reach, Around, Path}
+use Rattle.program_defs.specs.declared.program.Program.TheVariants.{Show, Reach, Around, Path, Price}
 use Rattle.program_defs.specs.declared.program.Answer.{Answer}
 use Rattle.program_defs.specs.declared.program.Answer.TheVariants.{Shown, Reached, Found, Walk}
 use Rattle.weave_report.specs.declared.fault.ReportCause.TheVariants as cause
@@ -20,32 +20,11 @@ use Rattle.weave_report.specs.declared.read.parts.Item.TheVariants.{Property, Li
 use Rattle.report_rules.specs.declared.report.StepAnswer.{StepAnswer}
 use Rattle.report_rules.specs.declared.report.StepAnswer.TheVariants as step
 use Rattle.weave_data.specs.Steps.{◌>>=◌}
+use Rattle.weave_report.specs.Marks.{CutText, cut_first, is_equals, is_item_mark}
 use Rattle.weave_report.specs.ReadingFields.{ReadResult, name_in, read_names, small_number_in, or_cause}
+use Rattle.weave_report.specs.ReadingPriced.{is_priced_form, priced_in}
 
 -- Records
-
--- a text cut at one of its bytes: what is before it, the byte, and what is after it
-abbrev pub CutText : Type 0
-CutText = Bytes × ℕ × Bytes
-
--- a cut of a text with this byte in front
-abbrev pub cut_behind : ℕ → Option CutText → Option CutText
-cut_behind byte None = None
-cut_behind byte (Some (before, mark, behind)) = Some (byte ∷ before, mark, behind)
-
--- the text cut at its first byte of a kind, if it has one
-abbrev pub cut_first : (ℕ → Bool) → Bytes → Option CutText
-cut_first is_mark [] = None
-cut_first is_mark (byte ∷ text) =
-    if is_mark byte then Some ([], byte, text) else cut_behind byte (cut_first is_mark text)
-
--- the byte between a key and its value
-abbrev pub is_equals : ℕ → Bool
-is_equals byte = byte == 61
-
--- or between an edge's name and its target
-abbrev pub is_item_mark : ℕ → Bool
-is_item_mark byte = is_equals byte || (byte == 62)
 
 -- a key and its value
 abbrev pub key_and_value : Bytes → Bytes → ReadResult (Name × Name)
@@ -146,6 +125,7 @@ is_answer_form (Show v) words = is_state_form words
 is_answer_form (Reach from to pass) words = is_reached_form words
 is_answer_form (Around from bound pass) words = is_found_form words
 is_answer_form (Path from to bound pass) words = is_walk_form words
+is_answer_form (Price from to key) words = is_priced_form words
 
 -- what `show` answers, by words of its form
 abbrev pub shown_in : List Word → ReadResult Answer
@@ -173,6 +153,7 @@ answer_in (Show v) words = shown_in words
 answer_in (Reach from to pass) words = reached_in words
 answer_in (Around from bound pass) words = read_found words
 answer_in (Path from to bound pass) words = walk_in words
+answer_in (Price from to key) words = priced_in words
 
 -- Answers of steps
 

@@ -1,5 +1,5 @@
 -- What it is to be a text of a report for a script.
-use Rattle.std.specs.Prelude.{◌≡◌, ◌<◌, ◌^◌, IsTrue, List, [], length, map, Some, None, ⊤}
+use Rattle.std.specs.Prelude.{ℕ, ◌≡◌, ◌<◌, ◌^◌, IsTrue, List, [], length, map, Option, Some, None, ⊤}
 use Rattle.std.specs.List.{AllByRecursion, IsDistinct}
 use Rattle.weave_data.specs.Names.{is_name, same_name}
 use Rattle.weave_data.specs.Pairs.{IsRising}
@@ -11,7 +11,8 @@ use Rattle.graph_ops.specs.declared.record.Edge.{Edge}
 use Rattle.graph_ops.specs.declared.record.Record.{Record}
 use Rattle.graph_ops.specs.declared.tx.Got.{Got}
 use Rattle.program_defs.specs.declared.program.Answer.{Answer}
-use Rattle.program_defs.specs.declared.program.Answer.TheVariants.{Shown, Reached, Found, Walk}
+use Rattle.program_defs.specs.declared.program.Answer.TheVariants.{Shown, Reached, Found, Walk, Priced}
+use Rattle.program_defs.specs.declared.program.Bound.{Bound}
 use Rattle.program_defs.specs.declared.script.Script.{Script}
 use Rattle.program_defs.specs.declared.script.Request.{Request}
 use Rattle.report_rules.specs.declared.report.Pair.{Pair}
@@ -52,13 +53,29 @@ abbrev pub IsTypedState : State → Type 0
 IsTypedState None = ⊤
 IsTypedState (Some held) = IsTypedRecord held
 
+-- the names of a walk, if there is one, are names
+abbrev pub IsTypedWalk : Option (List Name) → Type 0
+IsTypedWalk None = ⊤
+IsTypedWalk (Some vertices) = AllByRecursion IsName vertices
+
+-- the vertex's name is one, and its price has 128 bits
+pub record IsTypedBound (bound : Bound) : Type 0 where
+  pub vertex : IsName bound.vertex
+  pub price : bound.price < 2 ^ 128
+
+-- names are names, and prices have 128 bits
+pub record IsTypedPriced (walk : Option (List Name)) (total : ℕ) (bounds : List Bound) : Type 0 where
+  pub vertices : IsTypedWalk walk
+  pub price : total < 2 ^ 128
+  pub each : AllByRecursion IsTypedBound bounds
+
 -- the states and names in a program's answer are valid
 abbrev pub IsTypedAnswer : Answer → Type 0
 IsTypedAnswer (Shown state) = IsTypedState state
 IsTypedAnswer (Reached reached) = ⊤
 IsTypedAnswer (Found vertices) = AllByRecursion IsName vertices
-IsTypedAnswer (Walk None) = ⊤
-IsTypedAnswer (Walk (Some vertices)) = AllByRecursion IsName vertices
+IsTypedAnswer (Walk walk) = IsTypedWalk walk
+IsTypedAnswer (Priced walk total bounds) = IsTypedPriced walk total bounds
 
 -- what a `get` read is valid, and the operation's number has 32 bits
 pub record IsTypedGot (got : Got) : Type 0 where

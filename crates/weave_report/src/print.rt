@@ -7,6 +7,7 @@ ghost use Rattle.weave_report.specs.ReportText.{reply_lines, report_text};
 ghost use Rattle.weave_report.specs.TextOf.{IsTypedReplyState, IsTypedReport};
 
 mod lines;
+mod priced;
 mod reply;
 mod state;
 mod words;

@@ -14,6 +14,7 @@ mod fields;
 mod lines;
 mod named;
 mod parts;
+mod priced;
 mod record;
 mod reply;
 mod stamp;

@@ -1,5 +1,5 @@
 -- The lines of a script have clean words.
--- Used by `printed_checks_come_back` and `printed_scripts_come_back`.
+-- Used by `operations_come_back`, `printed_checks_come_back` and `printed_scripts_come_back`.
 use Rattle.std.proofs.Common.{◌≡◌, ℕ, ◌+◌, ◌≤◌, ◌<◌, ◌^◌, Bool, true, false, List, [], ◌∷◌, ◌++◌, map, Option, Some, None, refl, arith}
 use Rattle.std.specs.Prelude.{IsTrue, length}
 use Rattle.std.specs.Fmt.{decimal}
@@ -12,11 +12,11 @@ use Rattle.graph_ops.specs.declared.op.Op.{Op}
 use Rattle.graph_ops.proofs.EachOp.{word-is-name}
 use Rattle.program_defs.specs.declared.program.Filter.{Filter}
 use Rattle.program_defs.specs.declared.program.Program.{Program}
-use Rattle.program_defs.specs.declared.program.Program.TheVariants.{Show, Reach, Around, Path}
+use Rattle.program_defs.specs.declared.program.Program.TheVariants.{Show, Reach, Around, Path, Price}
 use Rattle.program_defs.specs.declared.script.Request.{Request}
 use Rattle.program_defs.specs.declared.script.Script.{Script}
 use Rattle.program_defs.specs.declared.script.Step.{Step}
-use Rattle.program_defs.specs.declared.script.Step.TheVariants.{Begin, Judge, Send, Say, Hear, Nop, Deliver, Apply, Visit, Reply, Collect, Epoch}
+use Rattle.program_defs.specs.declared.script.Step.TheVariants.{Begin, Judge, Send, Say, Hear, Nop, Deliver, Apply, Visit, Reply, Collect, Epoch, Restart}
 use Rattle.program_defs.specs.declared.script.Work.{Work}
 use Rattle.program_defs.specs.declared.script.Work.TheVariants.{Change, Look}
 use Rattle.weave_text.specs.Cutting.{is_clean, is_clean_line}
@@ -47,7 +47,8 @@ module _ (laws : CleanLaws) where
   small : (n most : ℕ) → n ≤ most → most ≤ 1000000 → IsClean (decimal n)
   small n most h k = laws.number n (omega arith)
 
-  op_clean : (op : Op) → IsOperation op → IsCleanLine (op_line op)
+  -- an operation is written in words without a mark that ends a line
+  pub op_clean : (op : Op) → IsOperation op → IsCleanLine (op_line op)
   op_clean op h =
       let word = word-is-name op in
       and_from _ _ (name_is_kept (op_word op) word) (words_clean (op_line op) (name (op_word op) word, all-map IsName IsClean name (op_fields op) h))
@@ -65,6 +66,7 @@ module _ (laws : CleanLaws) where
   program_clean (Reach from to pass) h = (refl, (name from h.0, (name to h.1, filter_clean pass h.2)))
   program_clean (Around from bound pass) h = (refl, (name from h.0, (small bound 1000 h.1 (omega arith), filter_clean pass h.2)))
   program_clean (Path from to bound pass) h = (refl, (name from h.0, (name to h.1, (small bound 1000 h.2 (omega arith), filter_clean pass h.3))))
+  program_clean (Price from to key) h = (refl, (name from h.0, (name to h.1, (name key h.2, tt))))
 
   work_clean : (gates : ℕ) → gates ≤ 8 → (request : Request) (work : Work) → IsRequest gates request → IsWork work → AllByRecursion IsCleanLine (work_lines request.name request.session request.gate work)
   work_clean gates few request work is h = go work h
@@ -119,6 +121,7 @@ module _ (laws : CleanLaws) where
       go (Reply request) h = words_clean (name_of_request requests request ∷ []) (named request h, tt)
       go (Collect m) h = words_clean (decimal m ∷ []) (shard m h, tt)
       go (Epoch n epoch) h = words_clean (decimal n ∷ decimal epoch ∷ []) (gate n h.0, (small epoch 1000000 h.2 (omega arith), tt))
+      go (Restart n epoch) h = words_clean (decimal n ∷ decimal epoch ∷ []) (gate n h.0, (small epoch 1000000 h.2 (omega arith), tt))
 
   each_step_clean : (gates shards : ℕ) (requests : List Request) → gates ≤ 8 → shards ≤ 16 → AllByRecursion (IsRequest gates) requests → (steps : List Step)
       → AllByRecursion (IsStep gates shards (length requests)) steps → AllByRecursion IsCleanLine (map (step_line requests) steps)

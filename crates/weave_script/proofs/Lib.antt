@@ -30,3 +30,4 @@ pub mod CheckLaws
 pub mod CheckFaults
 pub mod CheckTold
 pub mod Versions
+pub mod ShortLines

@@ -1,5 +1,5 @@
 -- An operation is read only from its one line, and that is read as it.
--- Used by Reached and ReadAgain.
+-- Used by `operations_come_back`, Reached and ReadAgain.
 use Rattle.std.proofs.Common.{◌≡◌, Bool, true, false, [], ◌∷◌, Option, Some, None, Ok, Err, refl, sym, ap, ◌∙◌, subst}
 use Rattle.std.specs.Prelude.{codes}
 use Rattle.std.specs.List.{AllByRecursion, list_all}

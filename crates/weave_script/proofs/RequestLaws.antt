@@ -7,14 +7,14 @@ use Rattle.std.specs.Option.{option_map}
 use Rattle.std.specs.Str.{bytes_eq}
 use Rattle.program_defs.specs.declared.program.Filter.{Filter}
 use Rattle.program_defs.specs.declared.program.Program.{Program}
-use Rattle.program_defs.specs.declared.program.Program.TheVariants.{Show, Reach, Around, Path}
+use Rattle.program_defs.specs.declared.program.Program.TheVariants.{Show, Reach, Around, Path, Price}
 use Rattle.weave_text.specs.Lines.{Word, Line}
 use Rattle.weave_script.specs.declared.fault.Cause.{Cause}
 use Rattle.weave_script.specs.declared.fault.Cause.TheVariants as causes
 use Rattle.weave_script.specs.declared.read.partial_script.Opening.{Opening}
 use Rattle.weave_data.specs.Steps.{◌>>=◌}
 use Rattle.weave_script.specs.Fields.{ReadOrCause, or_refused, name_word, number_in}
-use Rattle.weave_script.specs.Requests.{opening_of, tx_of, tag_of, filter_of, bound_word, show_program, reach_program, around_program, path_program, show_of, reach_of, around_of, path_of, program_of, prog_of}
+use Rattle.weave_script.specs.Requests.{opening_of, tx_of, tag_of, filter_of, bound_word, show_program, reach_program, around_program, path_program, price_program, show_of, reach_of, around_of, path_of, price_of, program_of, prog_of}
 use Rattle.weave_script.specs.ScriptLines.{filter_words, program_words}
 use Rattle.weave_script.specs.Scripts.{IsName, IsFilter, IsProgram}
 use Rattle.weave_data.proofs.Steps.{bind_ok, bind_at, ok_is}
@@ -182,13 +182,29 @@ module _ (laws : NumberLaws) where
       subst (IsReadAs (codes "path" ∷ from ∷ to ∷ bound ∷ words)) (ok_is {E = Cause} (Path first.0 second.0 third.0 fourth.0) program fourth.2)
       ((subst IsName a.1 a.0, subst IsName b.1 b.0, c.0, d.0), λ i. codes "path" ∷ a.1 i ∷ b.1 i ∷ c.1 i ∷ d.1 i)
 
+  price_of-ok : (words : Line) (form : ReadOrCause Program) (program : Program) → price_of words ≡ Some form → form ≡ Ok program → IsReadAs (codes "price" ∷ words) program
+  price_of-ok [] form program f e = absurd cc
+  price_of-ok (from ∷ []) form program f e = absurd cc
+  price_of-ok (from ∷ to ∷ []) form program f e = absurd cc
+  price_of-ok (from ∷ to ∷ key ∷ []) form program f e =
+      let first = bind_ok (name_word from) (λ from. name_word to >>= λ to. name_word key >>= λ key. Ok (Price from to key)) program (some_is (price_program from to key) form f ∙ e) in
+      let second = bind_ok (name_word to) (λ to. name_word key >>= λ key. Ok (Price first.0 to key)) program first.2 in
+      let third = bind_ok (name_word key) (λ key. Ok (Price first.0 second.0 key)) program second.2 in
+      let a = name_of-ok from first.0 first.1 in
+      let b = name_of-ok to second.0 second.1 in
+      let c = name_of-ok key third.0 third.1 in
+      subst (IsReadAs (codes "price" ∷ from ∷ to ∷ key ∷ [])) (ok_is {E = Cause} (Price first.0 second.0 third.0) program third.2)
+      ((subst IsName a.1 a.0, subst IsName b.1 b.0, subst IsName c.1 c.0), λ i. codes "price" ∷ a.1 i ∷ b.1 i ∷ c.1 i ∷ [])
+  price_of-ok (from ∷ to ∷ key ∷ more ∷ words) form program f e = absurd cc
+
   program_of-ok : (words : Line) (form : ReadOrCause Program) (program : Program) → program_of words ≡ Some form → form ≡ Ok program → IsReadAs words program
   program_of-ok [] form program f e = absurd cc
   program_of-ok (word ∷ words) form program f e =
       pick _ _ _ _ f (λ same f. by (codes "show") same (show_of-ok words form program f e)) (λ other f.
       pick _ _ _ _ f (λ same f. by (codes "reach") same (reach_of-ok words form program f e)) (λ other f.
       pick _ _ _ _ f (λ same f. by (codes "around") same (around_of-ok words form program f e)) (λ other f.
-      pick _ _ _ _ f (λ same f. by (codes "path") same (path_of-ok words form program f e)) (λ other f. absurd cc))))
+      pick _ _ _ _ f (λ same f. by (codes "path") same (path_of-ok words form program f e)) (λ other f.
+      pick _ _ _ _ f (λ same f. by (codes "price") same (price_of-ok words form program f e)) (λ other f. absurd cc)))))
     where
       by : (text : Word) → bytes_eq word text ≡ true → IsReadAs (text ∷ words) program → IsReadAs (word ∷ words) program
       by text same read = subst (λ word. IsReadAs (word ∷ words) program) (sym (is_word word text same)) read
@@ -211,6 +227,11 @@ module _ (laws : NumberLaws) where
       (bind_at (name_word from) (λ from. name_word to >>= λ to. bound_word (decimal bound) >>= λ bound. Ok (Path from to bound pass)) from (name_of-name from h.0)
       ∙ bind_at (name_word to) (λ to. bound_word (decimal bound) >>= λ bound. Ok (Path from to bound pass)) to (name_of-name to h.1)
       ∙ bind_at (bound_word (decimal bound)) (λ bound. Ok (Path from to bound pass)) bound (bound_of-number bound h.2))
+  program_of-words (Price from to key) h =
+      ap (λ read. Some read)
+      (bind_at (name_word from) (λ from. name_word to >>= λ to. name_word key >>= λ key. Ok (Price from to key)) from (name_of-name from h.0)
+      ∙ bind_at (name_word to) (λ to. name_word key >>= λ key. Ok (Price from to key)) to (name_of-name to h.1)
+      ∙ bind_at (name_word key) (λ key. Ok (Price from to key)) key (name_of-name key h.2))
 
   -- words that are read as a program are those of it
   pub prog_of-ok : (gates : ℕ) → 1 ≤ gates → gates ≤ 8 → (line : Line) (opening : Opening) (program : Program) → prog_of gates line ≡ Ok (opening, program)

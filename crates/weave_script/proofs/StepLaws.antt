@@ -9,7 +9,7 @@ use Rattle.weave_data.specs.Names.{same_name}
 use Rattle.weave_data.specs.declared.name.Name.{Name}
 use Rattle.program_defs.specs.declared.script.Request.{Request}
 use Rattle.program_defs.specs.declared.script.Step.{Step}
-use Rattle.program_defs.specs.declared.script.Step.TheVariants.{Begin, Judge, Send, Say, Hear, Nop, Deliver, Apply, Visit, Reply, Collect, Epoch}
+use Rattle.program_defs.specs.declared.script.Step.TheVariants.{Begin, Judge, Send, Say, Hear, Nop, Deliver, Apply, Visit, Reply, Collect, Epoch, Restart}
 use Rattle.weave_text.specs.Lines.{Word, Line}
 use Rattle.weave_script.specs.declared.fault.Cause.{Cause}
 use Rattle.weave_script.specs.declared.fault.Cause.TheVariants as causes
@@ -17,7 +17,7 @@ use Rattle.weave_data.specs.Steps.{◌>>=◌}
 use Rattle.weave_script.specs.Fields.{or_refused, name_word, number_in}
 use Rattle.weave_script.specs.ScriptLines.{step_line, name_of_request}
 use Rattle.weave_script.specs.Scripts.{IsRequest, IsStep, IsNotice, request_names}
-use Rattle.weave_script.specs.Steps.{place_of, named_request, gate_word, shard_word, notice_word, epoch_word, of_gate, of_shard, of_request, hear_of, nop_of, apply_of, epoch_step_of, deliver_of, step_of, step_of_one, step_of_two, step_of_three}
+use Rattle.weave_script.specs.Steps.{place_of, named_request, gate_word, shard_word, notice_word, epoch_word, of_gate, of_shard, of_request, hear_of, nop_of, apply_of, of_epoch, deliver_of, step_of, step_of_one, step_of_two, step_of_three}
 use Rattle.weave_data.proofs.Steps.{bind_ok, bind_at, ok_is}
 use Rattle.weave_report.proofs.ReadSteps.{is_word}
 use Rattle.weave_script.proofs.Binds.{pick}
@@ -138,20 +138,25 @@ module _ (laws : NumberLaws) (gates shards : ℕ) (sizes : AreSizes gates shards
       let gate = gate-ok second b.0 b.1 in
       subst (IsReadStep (codes "apply" ∷ first ∷ second ∷ [])) (ok_is {E = Cause} (Apply a.0 b.0) step b.2) ((shard.0, gate.0), λ i. codes "apply" ∷ shard.1 i ∷ gate.1 i ∷ [])
 
-  epoch_step-ok : (first second : Word) (step : Step) → epoch_step_of gates shards first second ≡ Ok step → IsReadStep (codes "epoch" ∷ first ∷ second ∷ []) step
-  epoch_step-ok first second step e =
-      let a = bind_ok (gate_word gates first) (λ gate. epoch_word second >>= λ epoch. Ok (Epoch gate epoch)) step e in
-      let b = bind_ok (epoch_word second) (λ epoch. Ok (Epoch a.0 epoch)) step a.2 in
+  -- a step of a gatekeeper and an epoch
+  epoch_step-ok : (text : Word) (make : ℕ → ℕ → Step)
+      → ((gate epoch : ℕ) → gate < gates → 1 ≤ epoch → epoch ≤ 1000000 → IsReadStep (text ∷ decimal gate ∷ decimal epoch ∷ []) (make gate epoch))
+      → (first second : Word) (step : Step) → of_epoch gates shards make first second ≡ Ok step → IsReadStep (text ∷ first ∷ second ∷ []) step
+  epoch_step-ok text make good first second step e =
+      let a = bind_ok (gate_word gates first) (λ gate. epoch_word second >>= λ epoch. Ok (make gate epoch)) step e in
+      let b = bind_ok (epoch_word second) (λ epoch. Ok (make a.0 epoch)) step a.2 in
       let gate = gate-ok first a.0 a.1 in
       let epoch = epoch-ok second b.0 b.1 in
-      subst (IsReadStep (codes "epoch" ∷ first ∷ second ∷ [])) (ok_is {E = Cause} (Epoch a.0 b.0) step b.2) ((gate.0, epoch.0, epoch.1), λ i. codes "epoch" ∷ gate.1 i ∷ epoch.2 i ∷ [])
+      subst (λ line. IsReadStep line step) (λ i. text ∷ sym gate.1 i ∷ sym epoch.2 i ∷ [])
+      (subst (IsReadStep (text ∷ decimal a.0 ∷ decimal b.0 ∷ [])) (ok_is {E = Cause} (make a.0 b.0) step b.2) (good a.0 b.0 gate.0 epoch.0 epoch.1))
 
   two-ok : (word first second : Word) (step : Step) → step_of_two gates shards word first second ≡ Ok step → IsReadStep (word ∷ first ∷ second ∷ []) step
   two-ok word first second step e =
       pick _ _ _ _ e (λ same e. by (codes "hear") same (hear-ok first second step e)) (λ other e.
       pick _ _ _ _ e (λ same e. by (codes "nop") same (nop-ok first second step e)) (λ other e.
       pick _ _ _ _ e (λ same e. by (codes "apply") same (apply-ok first second step e)) (λ other e.
-      pick _ _ _ _ e (λ same e. by (codes "epoch") same (epoch_step-ok first second step e)) (λ other e. absurd cc))))
+      pick _ _ _ _ e (λ same e. by (codes "epoch") same (epoch_step-ok (codes "epoch") (λ gate epoch. Epoch gate epoch) (λ gate epoch g low high. ((g, low, high), refl)) first second step e)) (λ other e.
+      pick _ _ _ _ e (λ same e. by (codes "restart") same (epoch_step-ok (codes "restart") (λ gate epoch. Restart gate epoch) (λ gate epoch g low high. ((g, low, high), refl)) first second step e)) (λ other e. absurd cc)))))
     where
       by : (text : Word) → bytes_eq word text ≡ true → IsReadStep (text ∷ first ∷ second ∷ []) step → IsReadStep (word ∷ first ∷ second ∷ []) step
       by text same read = subst (λ word. IsReadStep (word ∷ first ∷ second ∷ []) step) (sym (is_word word text same)) read
@@ -197,6 +202,11 @@ module _ (laws : NumberLaws) (gates shards : ℕ) (sizes : AreSizes gates shards
     shard_again : (make : ℕ → Step) (n : ℕ) → n < shards → of_shard gates shards make (decimal n) ≡ Ok (make n)
     shard_again make n h = bind_at (shard_word shards (decimal n)) (λ shard. Ok (make shard)) n (shard-number n h)
 
+    epoch_again : (make : ℕ → ℕ → Step) (gate epoch : ℕ) → gate < gates → 1 ≤ epoch → epoch ≤ 1000000 → of_epoch gates shards make (decimal gate) (decimal epoch) ≡ Ok (make gate epoch)
+    epoch_again make gate epoch h low high =
+        bind_at (gate_word gates (decimal gate)) (λ gate. epoch_word (decimal epoch) >>= λ epoch. Ok (make gate epoch)) gate (gate-number gate h)
+        ∙ bind_at (epoch_word (decimal epoch)) (λ epoch. Ok (make gate epoch)) epoch (epoch-number epoch low high)
+
     -- a step's line is read as it
     pub step_of-line : (step : Step) → IsStep gates shards (length requests) step → step_of gates shards places (step_line requests step) ≡ Ok step
     step_of-line (Begin request) h = request_again (λ request. Begin request) request h
@@ -213,9 +223,8 @@ module _ (laws : NumberLaws) (gates shards : ℕ) (sizes : AreSizes gates shards
         bind_at (gate_word gates (decimal gate)) (λ gate. of_shard gates shards (λ shard. Nop gate shard) (decimal shard)) gate (gate-number gate h.0) ∙ shard_again (λ shard. Nop gate shard) shard h.1
     step_of-line (Apply shard gate) h =
         bind_at (shard_word shards (decimal shard)) (λ shard. of_gate gates shards (λ gate. Apply shard gate) (decimal gate)) shard (shard-number shard h.0) ∙ gate_again (λ gate. Apply shard gate) gate h.1
-    step_of-line (Epoch gate epoch) h =
-        bind_at (gate_word gates (decimal gate)) (λ gate. epoch_word (decimal epoch) >>= λ epoch. Ok (Epoch gate epoch)) gate (gate-number gate h.0)
-        ∙ bind_at (epoch_word (decimal epoch)) (λ epoch. Ok (Epoch gate epoch)) epoch (epoch-number epoch h.1 h.2)
+    step_of-line (Epoch gate epoch) h = epoch_again (λ gate epoch. Epoch gate epoch) gate epoch h.0 h.1 h.2
+    step_of-line (Restart gate epoch) h = epoch_again (λ gate epoch. Restart gate epoch) gate epoch h.0 h.1 h.2
     step_of-line (Deliver gate shard number) h =
         bind_at (gate_word gates (decimal gate)) (λ gate. shard_word shards (decimal shard) >>= λ shard. notice_word (decimal number) >>= λ number. Ok (Deliver gate shard number)) gate (gate-number gate h.0)
         ∙ bind_at (shard_word shards (decimal shard)) (λ shard. notice_word (decimal number) >>= λ number. Ok (Deliver gate shard number)) shard (shard-number shard h.1)

@@ -7,7 +7,7 @@ use Rattle.graph_ops.specs.Mentions.{with_name}
 use Rattle.graph_ops.specs.Operations.{is_get, target_of, vertex_of}
 use Rattle.graph_ops.specs.declared.op.Op.{Op}
 use Rattle.program_defs.specs.declared.program.Program.{Program}
-use Rattle.program_defs.specs.declared.program.Program.TheVariants.{Show, Reach, Around, Path}
+use Rattle.program_defs.specs.declared.program.Program.TheVariants.{Show, Reach, Around, Path, Price}
 use Rattle.program_defs.specs.declared.script.Request.{Request}
 use Rattle.program_defs.specs.declared.script.Work.{Work}
 use Rattle.program_defs.specs.declared.script.Work.TheVariants.{Change, Look}
@@ -44,6 +44,7 @@ vertices_of_program (Show v) = v ∷ []
 vertices_of_program (Reach from to pass) = from ∷ to ∷ []
 vertices_of_program (Around from bound pass) = from ∷ []
 vertices_of_program (Path from to bound pass) = from ∷ to ∷ []
+vertices_of_program (Price from to key) = from ∷ to ∷ []
 
 -- and in a piece of work
 abbrev pub vertices_of_work : Work → List Name

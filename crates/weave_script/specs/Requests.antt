@@ -4,7 +4,7 @@ use Rattle.std.specs.Option.{option_map}
 use Rattle.std.specs.Str.{bytes_eq}
 use Rattle.program_defs.specs.declared.program.Filter.{Filter}
 use Rattle.program_defs.specs.declared.program.Program.{Program}
-use Rattle.program_defs.specs.declared.program.Program.TheVariants.{Show, Reach, Around, Path}
+use Rattle.program_defs.specs.declared.program.Program.TheVariants.{Show, Reach, Around, Path, Price}
 use Rattle.program_defs.specs.declared.script.Request.{Request}
 use Rattle.program_defs.specs.declared.script.Work.{Work}
 use Rattle.weave_text.specs.Lines.{Word, Line}
@@ -67,6 +67,10 @@ path_program from to bound filter =
     name_word from >>= λ from. name_word to >>= λ to. bound_word bound >>= λ bound. filter >>= λ pass.
     Ok (Path from to bound pass)
 
+abbrev pub price_program : Word → Word → Word → ReadOrCause Program
+price_program from to key =
+    name_word from >>= λ from. name_word to >>= λ to. name_word key >>= λ key. Ok (Price from to key)
+
 -- the words after `show`
 abbrev pub show_of : Line → Form Program
 show_of (v ∷ []) = Some (show_program v)
@@ -87,6 +91,11 @@ abbrev pub path_of : Line → Form Program
 path_of (from ∷ to ∷ bound ∷ words) = option_map (path_program from to bound) (filter_of words)
 path_of _ = None
 
+-- the words after `price`, which takes no filter
+abbrev pub price_of : Line → Form Program
+price_of (from ∷ to ∷ key ∷ []) = Some (price_program from to key)
+price_of _ = None
+
 -- the program of these words
 abbrev pub program_of : Line → Form Program
 program_of [] = None
@@ -95,6 +104,7 @@ program_of (word ∷ words) =
     else if bytes_eq word (codes "reach") then reach_of words
     else if bytes_eq word (codes "around") then around_of words
     else if bytes_eq word (codes "path") then path_of words
+    else if bytes_eq word (codes "price") then price_of words
     else None
 
 -- the words after `prog`: their form first, then the fields from the left

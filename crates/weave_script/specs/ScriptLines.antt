@@ -10,11 +10,11 @@ use Rattle.graph_ops.specs.Operations.{needed_by, op_fields, op_word}
 use Rattle.graph_ops.specs.declared.op.Op.{Op}
 use Rattle.program_defs.specs.declared.program.Filter.{Filter}
 use Rattle.program_defs.specs.declared.program.Program.{Program}
-use Rattle.program_defs.specs.declared.program.Program.TheVariants.{Show, Reach, Around, Path}
+use Rattle.program_defs.specs.declared.program.Program.TheVariants.{Show, Reach, Around, Path, Price}
 use Rattle.program_defs.specs.declared.script.Request.{Request}
 use Rattle.program_defs.specs.declared.script.Script.{Script}
 use Rattle.program_defs.specs.declared.script.Step.{Step}
-use Rattle.program_defs.specs.declared.script.Step.TheVariants.{Begin, Judge, Send, Say, Hear, Nop, Deliver, Apply, Visit, Reply, Collect, Epoch}
+use Rattle.program_defs.specs.declared.script.Step.TheVariants.{Begin, Judge, Send, Say, Hear, Nop, Deliver, Apply, Visit, Reply, Collect, Epoch, Restart}
 use Rattle.program_defs.specs.declared.script.Work.{Work}
 use Rattle.program_defs.specs.declared.script.Work.TheVariants.{Change, Look}
 use Rattle.program_defs.specs.Works.{ops_of}
@@ -52,6 +52,7 @@ program_words (Show v) = codes "show" ∷ v ∷ []
 program_words (Reach from to pass) = codes "reach" ∷ from ∷ to ∷ filter_words pass
 program_words (Around from bound pass) = codes "around" ∷ from ∷ decimal bound ∷ filter_words pass
 program_words (Path from to bound pass) = codes "path" ∷ from ∷ to ∷ decimal bound ∷ filter_words pass
+program_words (Price from to key) = codes "price" ∷ from ∷ to ∷ key ∷ []
 
 -- a program's line, with its name, session and gatekeeper
 abbrev pub program_line : Name → ℕ → ℕ → Program → Line
@@ -108,6 +109,7 @@ step_line requests (Visit request) = codes "visit" ∷ name_of_request requests 
 step_line requests (Reply request) = codes "reply" ∷ name_of_request requests request ∷ []
 step_line requests (Collect shard) = codes "collect" ∷ decimal shard ∷ []
 step_line requests (Epoch gate epoch) = codes "epoch" ∷ decimal gate ∷ decimal epoch ∷ []
+step_line requests (Restart gate epoch) = codes "restart" ∷ decimal gate ∷ decimal epoch ∷ []
 
 -- the line that the steps follow
 abbrev pub steps_line : Line

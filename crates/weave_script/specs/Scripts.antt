@@ -7,11 +7,11 @@ use Rattle.graph_ops.specs.Operations.{op_fields, version_1_op}
 use Rattle.graph_ops.specs.declared.op.Op.{Op}
 use Rattle.program_defs.specs.declared.program.Filter.{Filter}
 use Rattle.program_defs.specs.declared.program.Program.{Program}
-use Rattle.program_defs.specs.declared.program.Program.TheVariants.{Show, Reach, Around, Path}
+use Rattle.program_defs.specs.declared.program.Program.TheVariants.{Show, Reach, Around, Path, Price}
 use Rattle.program_defs.specs.declared.script.Request.{Request}
 use Rattle.program_defs.specs.declared.script.Script.{Script}
 use Rattle.program_defs.specs.declared.script.Step.{Step}
-use Rattle.program_defs.specs.declared.script.Step.TheVariants.{Begin, Judge, Send, Say, Hear, Nop, Deliver, Apply, Visit, Reply, Collect, Epoch}
+use Rattle.program_defs.specs.declared.script.Step.TheVariants.{Begin, Judge, Send, Say, Hear, Nop, Deliver, Apply, Visit, Reply, Collect, Epoch, Restart}
 use Rattle.program_defs.specs.declared.script.Work.{Work}
 use Rattle.program_defs.specs.declared.script.Work.TheVariants.{Change, Look}
 use Rattle.program_defs.specs.Works.{ops_of}
@@ -42,6 +42,7 @@ IsProgram (Show v) = IsName v
 IsProgram (Reach from to pass) = IsName from × IsName to × IsFilter pass
 IsProgram (Around from bound pass) = IsName from × (bound ≤ most_bound) × IsFilter pass
 IsProgram (Path from to bound pass) = IsName from × IsName to × (bound ≤ most_bound) × IsFilter pass
+IsProgram (Price from to key) = IsName from × IsName to × IsName key
 
 -- a program, or at most 64 operations
 abbrev pub IsWork : Work → Type 0
@@ -73,6 +74,7 @@ IsStep gates shards requests (Visit request) = request < requests
 IsStep gates shards requests (Reply request) = request < requests
 IsStep gates shards requests (Collect shard) = shard < shards
 IsStep gates shards requests (Epoch gate epoch) = (gate < gates) × (1 ≤ epoch) × (epoch ≤ most_epoch)
+IsStep gates shards requests (Restart gate epoch) = (gate < gates) × (1 ≤ epoch) × (epoch ≤ most_epoch)
 
 -- each number is at least the one before it, the first is at least `low`, and all are at most `high`
 abbrev pub RiseTo : ℕ → ℕ → List ℕ → Type 0

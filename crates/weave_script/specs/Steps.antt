@@ -6,7 +6,7 @@ use Rattle.weave_data.specs.Names.{same_name}
 use Rattle.weave_data.specs.declared.name.Name.{Name}
 use Rattle.program_defs.specs.declared.script.Request.{Request}
 use Rattle.program_defs.specs.declared.script.Step.{Step}
-use Rattle.program_defs.specs.declared.script.Step.TheVariants.{Begin, Judge, Send, Say, Hear, Nop, Deliver, Apply, Visit, Reply, Collect, Epoch}
+use Rattle.program_defs.specs.declared.script.Step.TheVariants.{Begin, Judge, Send, Say, Hear, Nop, Deliver, Apply, Visit, Reply, Collect, Epoch, Restart}
 use Rattle.weave_text.specs.Lines.{Word, Line}
 use Rattle.weave_script.specs.declared.fault.Cause.TheVariants as causes
 use Rattle.weave_data.specs.Steps.{◌>>=◌}
@@ -56,8 +56,8 @@ module _ (gates shards : ℕ) where
   abbrev pub apply_of : Word → Word → ReadOrCause Step
   apply_of first second = shard_word shards first >>= λ shard. of_gate (λ gate. Apply shard gate) second
 
-  abbrev pub epoch_step_of : Word → Word → ReadOrCause Step
-  epoch_step_of first second = gate_word gates first >>= λ gate. epoch_word second >>= λ epoch. Ok (Epoch gate epoch)
+  abbrev pub of_epoch : (ℕ → ℕ → Step) → Word → Word → ReadOrCause Step
+  of_epoch make first second = gate_word gates first >>= λ gate. epoch_word second >>= λ epoch. Ok (make gate epoch)
 
   -- a step with two fields
   abbrev pub step_of_two : Word → Word → Word → ReadOrCause Step
@@ -65,7 +65,8 @@ module _ (gates shards : ℕ) where
       if bytes_eq word (codes "hear") then hear_of first second
       else if bytes_eq word (codes "nop") then nop_of first second
       else if bytes_eq word (codes "apply") then apply_of first second
-      else if bytes_eq word (codes "epoch") then epoch_step_of first second
+      else if bytes_eq word (codes "epoch") then of_epoch (λ gate epoch. Epoch gate epoch) first second
+      else if bytes_eq word (codes "restart") then of_epoch (λ gate epoch. Restart gate epoch) first second
       else Err causes.Line
 
   -- the step with three fields, from the left

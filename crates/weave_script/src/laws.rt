@@ -1,18 +1,20 @@
 //! What holds of every valid script.
-ghost use Rattle.std.specs.Prelude.{◌≡◌, ◌≤◌, ◌<◌, length, Ok, Err};
+ghost use Rattle.std.specs.Prelude.{◌≡◌, ◌≤◌, ◌<◌, Bool, IsTrue, length, Ok, Err};
 ghost use Rattle.std.specs.List.{AllByRecursion};
 ghost use Rattle.weave_data.specs.Limits.{most_ops, most_requests};
+ghost use Rattle.graph_ops.specs.declared.op.Op.{Op};
 ghost use Rattle.program_defs.specs.Limits.{IsWithinLimits};
 ghost use Rattle.program_defs.specs.Works.{ops_of};
 ghost use Rattle.program_defs.specs.declared.script.Script.{Script};
-ghost use Rattle.weave_text.specs.Cutting.{lines_of};
-ghost use Rattle.weave_text.specs.Lines.{Bytes};
+ghost use Rattle.weave_text.specs.Cutting.{is_clean_line, lines_of};
+ghost use Rattle.weave_text.specs.Lines.{Bytes, Line, line_text};
 ghost use Rattle.weave_script.specs.CheckText.{IsHead};
 ghost use Rattle.weave_script.specs.Faults.{IsFirstScriptFault};
+ghost use Rattle.weave_script.specs.Ops.{op_in_line};
 ghost use Rattle.weave_script.specs.ReadText.{Fault, Head, head_of_text, read_text};
 ghost use Rattle.weave_script.specs.Reading.{start};
-ghost use Rattle.weave_script.specs.ScriptLines.{IsTextOf, script_text};
-ghost use Rattle.weave_script.specs.Scripts.{IsScript};
+ghost use Rattle.weave_script.specs.ScriptLines.{IsTextOf, op_line, script_text};
+ghost use Rattle.weave_script.specs.Scripts.{IsOfVersion, IsOperation, IsScript};
 ghost use Rattle.weave_script.specs.Limits.{IsLong, IsShort};
 
 use crate::fault::Cause;
@@ -76,3 +78,17 @@ pub fn scripts_are_small()
         → AllByRecursion (λ request. length (ops_of request.work) ≤ most_ops) script.requests }
     ensures limits { (script : Script) → IsScript script → IsWithinLimits script }
 {}
+
+/// An operation is read in a version from its one line alone, and that line is read as it, in a version that has it.
+/// The lines of operations have clean words.
+pub fn operations_come_back()
+    ensures read { (joins : Bool) (op : Op) → IsOperation op → IsOfVersion joins op
+        → op_in_line joins (op_line op) ≡ Ok op }
+    ensures names { (joins : Bool) (line : Line) (op : Op) → op_in_line joins line ≡ Ok op → IsOperation op }
+    ensures version { (joins : Bool) (line : Line) (op : Op) → op_in_line joins line ≡ Ok op → IsOfVersion joins op }
+    ensures line { (joins : Bool) (line : Line) (op : Op) → op_in_line joins line ≡ Ok op → line ≡ op_line op }
+    ensures clean { (op : Op) → IsOperation op → IsTrue (is_clean_line (op_line op)) }
+    ensures short { (op : Op) → IsOperation op → length (line_text (op_line op)) ≤ 139 }
+{
+    words_are_clean();
+}

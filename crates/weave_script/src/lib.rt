@@ -6,6 +6,9 @@
 //! of a script that isn't too long is read as it, no text is of two scripts, a printed script comes back, and the
 //! fault that is reported is the first.
 //!
+//! `op_in_line` and `print_ops` do the same for the operations of a transaction alone, and `operations_come_back` ties
+//! them.
+//!
 //! `read_check` gives what `check_text` in `specs/CheckText.antt` says of the bytes: a script and the report after
 //! it, or the first fault of both. `check_laws.rt` has the same laws of these texts.
 #![tactic(auto)]
@@ -25,9 +28,11 @@ pub use check_laws::{
 };
 pub use fault::{Cause, ScriptFault};
 pub use laws::{
-    faults_are_first, heads_are_texts, printed_scripts_come_back, scripts_are_small,
-    texts_are_of_one_script, texts_are_read,
+    faults_are_first, heads_are_texts, operations_come_back, printed_scripts_come_back,
+    scripts_are_small, texts_are_of_one_script, texts_are_read,
 };
 pub use limits::{MOST_STEPS, MOST_VERTICES};
 pub use print::print_script;
+pub use print::requests::print_ops;
+pub use read::ops::op_in_line;
 pub use read::read_script;

@@ -6,7 +6,7 @@ ghost use Rattle.program_defs.specs.Works.{ops_of};
 ghost use Rattle.weave_script.specs.ScriptLines.{has_joins, header_line, is_join, script_text, version_word};
 
 mod items;
-mod requests;
+pub mod requests;
 mod steps;
 mod words;
 

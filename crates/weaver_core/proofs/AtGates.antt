@@ -1,5 +1,6 @@
 -- If one gatekeeper of a core gets one more entry, the table of their logs has it, and the gatekeepers stay in order.
--- Used by `begin`, `finish`, `first_gates`, `hear`, `hear_at`, `new`, `nop`, `raise`, `raise_at` and `send`.
+-- Used by `begin`, `finish`, `first_gates`, `hear`, `hear_at`, `new`, `nop`, `raise`, `raise_at`, `restart` and
+-- `send`.
 use Rattle.std.proofs.Common.{◌≡◌, ℕ, ◌+◌, ◌<◌, List, [], ◌∷◌, ◌++◌, length, map, Some, refl, sym, ap, ◌∙◌, subst, arith}
 use Rattle.std.specs.Prelude.{slice_get, slice_set}
 use Rattle.std.proofs.lemmas.List.{length-replicate, length-map, length-set}

@@ -1,6 +1,6 @@
--- If the gatekeepers did `hear` or `epoch` with an answer, the machines did this step, with the same answer; and so for
--- `say`, if its clock is that of the gatekeeper.
--- Used by `hear`, `raise` and `say`.
+-- If the gatekeepers did `hear`, `epoch` or `restart` with an answer, the machines did this step, with the same answer;
+-- and so for `say`, if its clock is that of the gatekeeper.
+-- Used by `hear`, `raise`, `restart` and `say`.
 use Rattle.std.proofs.Common.{◌≡◌, ℕ, Bool, nat_lt, List, [], ◌∷◌, ◌++◌, Option, refl, sym, ap, ◌∙◌}
 use Rattle.std.specs.Prelude.{is_some, if◌then◌else◌}
 use Rattle.std.proofs.lemmas.Bool.{not-false, not-true}
@@ -72,3 +72,7 @@ module _ (script : Script) (old : GateTable) (store : List StoreEntry) (oracle :
   raise-done new g epoch answer.Empty none = absurd none
   raise-done new g epoch (answer.Waits v) none = absurd none
   raise-done new g epoch (answer.Again s h) none = absurd none
+
+  -- and so for `restart`, which leaves the logs of `epoch`
+  pub restart-done : (new : GateTable) (g epoch : ℕ) (a : StepAnswer) → Raises old new g epoch a → MachinesDo script (step.Restart g epoch) before (machines_of new store oracle shards was notices) a
+  restart-done new g epoch a did = let raised = raise-done new g epoch a did in record { answer_is = raised.answer_is; state_is = raised.state_is; frame_is = raised.frame_is; small = raised.small }

@@ -56,3 +56,4 @@ pub mod RepliesMore
 pub mod Parts
 pub mod Landed
 pub mod OtherSteps
+pub mod HandedIn

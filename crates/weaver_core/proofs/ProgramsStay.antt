@@ -16,7 +16,7 @@ use Rattle.program_defs.specs.declared.program.Program.{Program}
 use Rattle.program_defs.specs.declared.script.Request.{Request}
 use Rattle.program_defs.specs.declared.script.Script.{Script}
 use Rattle.program_defs.specs.declared.script.Step.{Step}
-use Rattle.program_defs.specs.declared.script.Step.TheVariants.{Begin, Judge, Send, Say, Hear, Nop, Deliver, Apply, Visit, Reply, Collect, Epoch}
+use Rattle.program_defs.specs.declared.script.Step.TheVariants.{Begin, Judge, Send, Say, Hear, Nop, Deliver, Apply, Visit, Reply, Collect, Epoch, Restart}
 use Rattle.report_rules.specs.Lookups.{request_at}
 use Rattle.weave_entries.specs.declared.gate_log.GateEntry.{GateEntry}
 use Rattle.weave_entries.specs.declared.message.Message.{Message}
@@ -147,6 +147,7 @@ module _ (script : Script) (state : CoreState) (as-many : length state.account.s
   done-same (Apply s g) is other = shard-same account s (Applied g (processed_count g (shard_log account s) + 1)) (let below = is.0 in omega (arith, below, as-many)) refl
   done-same (Collect s) is other = shard-same account s (Collected (bound_of script.gates (shard_log account s))) (omega (arith, is, as-many)) refl
   done-same (Epoch g e) is other = gates-same account _
+  done-same (Restart g e) is other = gates-same account _
   done-same (Begin r) is other = absurd other
   done-same (Visit r) is other = absurd other
   done-same (Reply r) is other = absurd other

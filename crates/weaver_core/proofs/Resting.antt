@@ -1,7 +1,7 @@
 -- When machines did a step: by its answer, and by what it left.
 -- Used by `apply`, `begin`, `begin_in`, `collect`, `deliver`, `finish`, `hear`, `is_open`, `judge`, `next_message`,
--- `nop`, `ops_of`, `raise`, `reply`, `reply_in`, `say`, `send`, `visit_taken`, `visit_with`, BeginDone, ClockDone,
--- FinishDone, Idle, JudgeDone, MessagesDone, ReplyDone, SendDone, Unordered and VisitDone.
+-- `nop`, `ops_of`, `raise`, `reply`, `reply_in`, `restart`, `say`, `send`, `visit_taken`, `visit_with`, BeginDone,
+-- ClockDone, FinishDone, Idle, JudgeDone, MessagesDone, ReplyDone, SendDone, Unordered and VisitDone.
 use Rattle.std.proofs.Common.{◌≡◌, ℕ, ◌<◌, true, false, cond, List, [], ◌∷◌, length, Option, None, Some, refl, sym, ap, ◌∙◌, arith}
 use Rattle.std.specs.Prelude.{get_or, slice_get, IsSome, if◌then◌else◌}
 use Rattle.std.proofs.lemmas.Bool.{both_ways}

@@ -1,7 +1,7 @@
 -- What follows from a clause on a result, for each value that it can have.
 -- Used by `apply`, `apply_in`, `arrive`, `begin`, `begin_change`, `begin_in`, `collect`, `deliver`, `finish`, `hear`,
 -- `judge`, `nop`, `other_step`, `raise`, `raise_at`, `reply`, `reply_in`, `reply_to_change`, `reply_to_program`,
--- `report`, `send`, `state_of`, `state_of_begun`, `step`, `unordered`, `visit` and `visit_with`.
+-- `report`, `restart`, `send`, `state_of`, `state_of_begun`, `step`, `unordered`, `visit` and `visit_with`.
 use Rattle.std.proofs.Common.{◌≡◌, ℕ, ◌<◌, ◌≤◌, not, nat_lt, Result, Ok, Err, IfOk, IfErr, OnOk, OnErr, refl, ap}
 use Rattle.std.proofs.lemmas.Bool.{le-ltb, lt-ltb}
 use Rattle.gatekeeper.specs.Answers.{IsRefusedWhere}

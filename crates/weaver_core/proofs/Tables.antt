@@ -1,8 +1,8 @@
 -- Lists of which one element is set, or to which one is added, and their images.
 -- Used by `apply`, `arrive`, `author`, `begin`, `begun`, `collect`, `fetch`, `finish`, `first_unanswered_of`,
 -- `flight`, `hear`, `is_open`, `kept`, `last`, `next_number`, `nop`, `outcome`, `put`, `raise`, `replied`,
--- `replies_of`, `reply`, `reserve`, `say`, `send`, `standing`, `take`, `visit`, AtClients, AtGates, AtShards, Parts,
--- RepliesMore and Unanswered.
+-- `replies_of`, `reply`, `reserve`, `restart`, `say`, `send`, `standing`, `take`, `visit`, `was_ended`, AtClients,
+-- AtGates, AtShards, Parts, RepliesMore and Unanswered.
 use Rattle.std.proofs.Common.{◌≡◌, ◌⊎◌, ℕ, zero, suc, ◌+◌, ◌<◌, List, [], ◌∷◌, ◌++◌, length, map, replicate, get_or, Some, inl, inr, refl, sym, ap, subst, ◌∙◌, arith}
 use Rattle.std.specs.Prelude.{slice_get, slice_set}
 use Rattle.std.proofs.lemmas.Bool.{cases_eq}

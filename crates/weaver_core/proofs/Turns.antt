@@ -1,7 +1,7 @@
 -- What a session's log says of each of its requests, by its state and by its last entry.
--- Used by `first_unanswered`, `is_open`, `standing`, `unordered`, BegunProgram, FirstUnanswered, Found, Marked,
--- MarksFound, OpenRuns, Parts, ProgramStamped, Replied, Stamped, StepValues, Unanswered, Unordered, VisitWith, Waiting
--- and crate weaver_workers.
+-- Used by `first_unanswered`, `is_open`, `standing`, `unordered`, BegunProgram, FirstUnanswered, Found, HandedIn,
+-- Marked, MarksFound, OpenRuns, Parts, ProgramStamped, Replied, Stamped, StepValues, Unanswered, Unordered, VisitWith,
+-- Waiting and crate weaver_workers.
 use Rattle.std.proofs.Common.{◌≡◌, ℕ, ◌+◌, ◌-◌, ◌<◌, ◌≤◌, Bool, true, false, not, List, [], ◌∷◌, ◌++◌, length, take, map, AllPairs, Contains, IsTrue, Option, None, Some, inl, inr, refl, sym, ap, subst, ◌∙◌, arith}
 use Rattle.std.specs.Prelude.{nat_le, nat_lt, slice_get, ◌&&◌, ◌↔◌, if◌then◌else◌}
 use Rattle.std.proofs.lemmas.Bool.{and_from, and_parts, cases_Bool, cases_lt, cases_order, eq-eqb, le-leb, le-ltb, lt-leb, lt-ltb, ltb-false, ltb-true, ne_eqb, not-true, not_from_false}

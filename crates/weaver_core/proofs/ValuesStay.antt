@@ -1,5 +1,5 @@
 -- The values of sessions stay as their logs say, while other logs go on.
--- Used by AfterSteps, OpenRuns, OtherSteps, StepValues, VisitWith and crate workers_account.
+-- Used by AfterSteps, HandedIn, OpenRuns, OtherSteps, StepValues, VisitWith and crate workers_account.
 use Rattle.std.proofs.Common.{◌≡◌, ◌≢◌, ℕ, ◌<◌, Bool, true, false, List, length, Contains, IsTrue, Option, None, Some, inl, inr, refl, sym, ap, subst, ◌∙◌, arith}
 use Rattle.std.specs.Prelude.{◌==◌, IsSomeAnd, slice_set, if◌then◌else◌}
 use Rattle.std.specs.List.{find, range_with_len}

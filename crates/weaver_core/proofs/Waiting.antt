@@ -1,5 +1,5 @@
 -- The request of a session that waits for its reply, by the log.
--- Used by `begin_program`, OpenRuns, StepValues, ValuesStay, VisitWith and crate workers_account.
+-- Used by `begin_program`, HandedIn, OpenRuns, StepValues, ValuesStay, VisitWith and crate workers_account.
 use Rattle.std.proofs.Common.{◌≡◌, ℕ, ◌-◌, ◌<◌, true, false, List, [], ◌∷◌, ◌++◌, AllPairs, Option, None, Some, refl, sym, ap, subst, ◌∙◌, arith}
 use Rattle.std.specs.Prelude.{◌==◌, slice_get}
 use Rattle.std.specs.List.{find}

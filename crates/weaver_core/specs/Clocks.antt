@@ -1,4 +1,4 @@
--- What the machines do at `hear` and `epoch`. No public contract cites this.
+-- What the machines do at `hear`, `epoch` and `restart`. No public contract cites this.
 use Rattle.std.specs.Prelude.{◌≡◌, ℕ, true, false, not, nat_lt, List, None, Some}
 use Rattle.vector_stamp.specs.declared.clock.Clock.{Clock}
 use Rattle.shard_queue.specs.Outbox.{sent_as}
@@ -20,7 +20,7 @@ Hears old new notices home notice Ok = HearsNotice old new notices home notice
 Hears old new notices home notice Unknown = (new ≡ old) × (sent_as notice notices ≡ None)
 Hears old new notices home notice _ = ⊥
 
--- what `epoch` answers, and what it leaves
+-- what `epoch` and `restart` answer, and what they leave
 abbrev pub Raises : GateTable → GateTable → ℕ → ℕ → StepAnswer → Type 0
 Raises old new home epoch Ok =
     AddsToGate old new home 0 (Raised epoch) × (not (nat_lt (clock_of home (gate_log_at old home)).epoch epoch) ≡ false)

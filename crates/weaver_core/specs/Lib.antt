@@ -16,3 +16,4 @@ pub mod Visiting
 pub mod Finishing
 pub mod Staying
 pub mod Splitting
+pub mod Restarting

@@ -5,6 +5,7 @@ ghost use Rattle.weave_entries.specs.SessionReplay.{FitsSession, RepliesToLast, 
 ghost use Rattle.weave_entries.specs.declared.session_log.SessionDeed.TheVariants as deed;
 ghost use Rattle.weaver_core.specs.Sessions.{AddsDeed, IsAClient, IsClientOf, IsInTurn, IsSameClient, begun_by_last, is_begin_of, is_open_in, last_request, log_of_client, no_values, open_by_last, request_by, requests_in, spare_of, standing_of, unanswered_in, values_of, values_with_reply};
 ghost use Rattle.weaver_core.specs.Reporting.{IsFoundAmong};
+ghost use Rattle.weaver_core.specs.Splitting.{begun_by_session, waiting_in};
 
 use crate::walks::Running;
 use report_rules::Reply;
@@ -98,6 +99,14 @@ impl Client {
             Ok(next) => next,
             Err(_) => last_request(self.log.as_slice()),
         }
+    }
+
+    /// The request that has begun and has no reply, with its stamp, if there is one. It looks at no more than the last
+    /// entry.
+    pub(crate) fn waits(&self) -> Option<(u32, Stamp)>
+        ensures { result ≡ waiting_in (log_of_client self.now) }
+    {
+        waiting_in(self.log.as_slice())
     }
 
     /// The reply to a request, if it has one. It costs a binary search.
@@ -201,6 +210,26 @@ fn last_request(log: &[SessionEntry]) -> Option<u32>
     match log.last() {
         Some(entry) => Some(request_by(&entry.deed)),
         None => None,
+    }
+}
+
+// What the last entry begins, if it begins something. In a session's log it then has no reply.
+fn waiting_in(log: &[SessionEntry]) -> Option<(u32, Stamp)>
+    ensures { result ≡ waiting_in log.now }
+{
+    match log.last() {
+        Some(entry) => begun_by(&entry.deed),
+        None => None,
+    }
+}
+
+// The request that the deed begins, with its stamp.
+fn begun_by(deed: &SessionDeed) -> Option<(u32, Stamp)>
+    ensures { result ≡ begun_by_session deed.now }
+{
+    match deed {
+        SessionDeed::Begun { request, stamp } => Some((*request, *stamp)),
+        SessionDeed::Replied { .. } => None,
     }
 }
 

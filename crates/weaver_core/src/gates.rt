@@ -13,12 +13,15 @@ ghost use Rattle.weave_entries.specs.Sending.{IsCountsOf, messages_of};
 ghost use Rattle.gatekeeper.specs.Answers.{IsRefusedWhere};
 ghost use Rattle.gatekeeper.specs.Gates.{Adds, SendsFlight};
 ghost use Rattle.gatekeeper.specs.Opened.{as_begun};
+ghost use Rattle.gatekeeper.specs.Stopping.{AreLeftOpen};
 ghost use Rattle.step_rules.specs.Entries.{begin_deed};
 ghost use Rattle.weaver_core.specs.Finishing.{begins_program, last_author};
 ghost use Rattle.weaver_core.specs.GateTable.{AddsToGate, AreFirstGates, AreGatesInOrder, IsSameGate, has_landed, gate_log_at, log_of_gate};
 ghost use Rattle.weaver_core.specs.Messages.{nop_deed};
+ghost use Rattle.weaver_core.specs.Restarting.{ends_request, was_ended};
 
-use gatekeeper::{Flight, Gate, GateFault};
+use crate::returning::restart_at;
+use gatekeeper::{Flight, Gate, GateFault, Open};
 use graph_ops::Op;
 use program_defs::Work;
 use std::alloc::{AllocError, Global};
@@ -178,6 +181,14 @@ impl Gates {
         author_in(self.gates[gate as usize].log(), request)
     }
 
+    /// Whether a request was sent or finished. It looks at the entries from the end to that one.
+    pub(crate) fn was_ended(&self, gate: u32, request: u32) -> bool
+        requires { gate < length self.now.logs }
+        ensures { result ≡ was_ended request (gate_log_at self.now gate) }
+    {
+        was_ended_in(self.gates[gate as usize].log(), request)
+    }
+
     /// Finishes a program that is running, in the name of the author of its begin.
     pub(crate) fn finish(
         &mut self,
@@ -215,6 +226,26 @@ impl Gates {
     {
         let gate = &mut self.gates[gate as usize];
         raise_at(gate, alloc, epoch)
+    }
+
+    /// The gatekeeper stops, and returns in that epoch, if that is above its own. What it had begun is handed in again.
+    pub(crate) fn restart(
+        &mut self,
+        alloc: Global,
+        gate: u32,
+        epoch: u64,
+        flight: Option<u32>,
+        running: Vec<Open>,
+    ) -> Result<(), GateFault>
+        requires there { gate < length self.old.logs }
+        requires left { AreLeftOpen flight running.items (gate_log_at self.old gate) }
+        ensures raised { OnOk result (AddsToGate self.old self.new gate 0 (deed.Raised epoch)) }
+        ensures old { IsRefusedWhere GateFault.Old
+            (not (nat_lt (clock_of gate (gate_log_at self.old gate)).epoch epoch)) result }
+        ensures refused { OnErr result (self.new ≡ self.old) }
+    {
+        let gate = &mut self.gates[gate as usize];
+        restart_at(gate, alloc, epoch, flight, running)
     }
 }
 
@@ -289,6 +320,31 @@ fn begins(deed: &GateDeed, request: u32) -> bool
 {
     match deed {
         GateDeed::BeganProgram { request: begun, .. } => *begun == request,
+        _ => false,
+    }
+}
+
+// Whether an entry sends or finishes this request.
+fn was_ended_in(log: &[GateEntry], request: u32) -> bool
+    ensures { result ≡ was_ended request log.now }
+{
+    let mut place = log.len();
+    while place > 0 {
+        place -= 1;
+        if ends(&log[place].deed, request) {
+            return true;
+        }
+    }
+    false
+}
+
+// Whether the deed sends or finishes this request.
+fn ends(deed: &GateDeed, request: u32) -> bool
+    ensures { result ≡ ends_request request deed.now }
+{
+    match deed {
+        GateDeed::Sent { request: ended, .. } => *ended == request,
+        GateDeed::Finished { request: ended } => *ended == request,
         _ => false,
     }
 }

@@ -29,6 +29,7 @@ use crate::judging::judge_in;
 use crate::messages::{apply_in, deliver_in, nop_in};
 use crate::pairs::pairs_of;
 use crate::replies::replies_of;
+use crate::restarting::restart_in;
 use crate::sending::send_in;
 use crate::sessions::Clients;
 use crate::shards::Shards;
@@ -51,7 +52,8 @@ use vector_stamp::{Clock, Stamp};
 use weave_account::laws::{
     begun_stamps_are_coherent, clocks_are_known, collections_leave_what_programs_see, heads_pass,
     judgements_are_of_requests, messages_can_be_taken, placed_pairs_are_the_pairs,
-    requests_end_or_go_on, requests_of_a_session_rise, stamps_are_begun, updates_are_commits,
+    requests_end_or_go_on, requests_of_a_session_rise, sessions_have_what_is_open,
+    stamps_are_begun, updates_are_commits,
 };
 use weave_data::{Items, Name};
 use weave_entries::laws::{
@@ -165,6 +167,7 @@ impl Machines {
             Step::Hear { gate, notice } => self.hear(alloc, script, gate, notice),
             Step::Reply { request } => self.reply(alloc, script, request),
             Step::Epoch { gate, epoch } => self.raise(alloc, script, gate, epoch),
+            Step::Restart { gate, epoch } => self.restart(alloc, script, gate, epoch),
             Step::Nop { gate, shard } => self.nop(alloc, script, gate, shard),
             Step::Deliver {
                 gate,
@@ -308,6 +311,33 @@ impl Machines {
     {
         let _ = script;
         raise_in(alloc, &mut self.gates, gate, epoch)
+    }
+
+    // `restart G E`: the gatekeeper stops, and returns in that epoch, if that is above its own. What it had begun and
+    // not ended is known by the sessions, which hand it in again.
+    fn restart(
+        &mut self,
+        alloc: Global,
+        script: &Script,
+        gate: u32,
+        epoch: u64,
+    ) -> Result<StepAnswer, AllocError>
+        requires { CanBeGiven script.now self.old (step.Restart gate epoch) }
+        ensures done { IfOk result (λ answer.
+            MachinesDo script.now (step.Restart gate epoch) self.old self.new answer) }
+        ensures refused { OnErr result (self.new ≡ self.old) }
+        ensures values { self.new.values ≡ self.old.values }
+    {
+        sessions_have_what_is_open();
+        what_stays();
+        restart_in(
+            alloc,
+            &mut self.gates,
+            &self.clients,
+            script.requests.as_slice(),
+            gate,
+            epoch,
+        )
     }
 
     // `nop G S`: an empty message goes out, unless a transaction is in flight.

@@ -7,13 +7,18 @@ ghost use Rattle.weave_entries.specs.SessionReplay.{FitsSession, RepliesToLast};
 ghost use Rattle.weave_entries.specs.declared.session_log.SessionDeed.TheVariants as deed;
 ghost use Rattle.weaver_core.specs.Sessions.{AddsToSession, AreFirstSessions, AreNumbered, AreSameClients, HaveRisingReplies, IsFirstUnanswered, IsInTurn, is_open_at, least_unanswered, lesser_number, log_of_client, no_values, requests_at, requests_in, session_at, standing_at, values_at, values_of, with_reply_at, with_running};
 ghost use Rattle.weaver_core.specs.Finishing.{IsOutcomeOf};
+ghost use Rattle.weaver_core.specs.GateTable.{gate_log_at};
+ghost use Rattle.weaver_core.specs.Restarting.{open_flight, open_programs};
 ghost use Rattle.weaver_core.specs.Reporting.{IsFoundAmong};
 ghost use Rattle.weaver_core.specs.Noting.{all_noted, with_stamp_noted, noted_all, noted_by};
 
 use crate::client::{Client, Standing};
+use crate::gates::Gates;
+use crate::open_requests::{open_flight_of, open_programs_of};
 use crate::outcome::outcome_of;
 use crate::walks::Running;
-use program_defs::Script;
+use gatekeeper::Open;
+use program_defs::{Request, Script};
 use report_rules::Reply;
 use std::alloc::{AllocError, Global};
 use std::marker::Model;
@@ -180,6 +185,27 @@ impl Clients {
         ensures { IfOk result (IsOutcomeOf (values_at self.now.values session).running) }
     {
         outcome_of(alloc, &self.clients[session as usize].running)
+    }
+
+    /// The programs of a gatekeeper for which sessions wait, in the order of the sessions. The one error is out of
+    /// memory.
+    pub(crate) fn open_programs(
+        &self,
+        alloc: Global,
+        requests: &[Request],
+        gate: u32,
+    ) -> Result<Vec<Open>, AllocError>
+        ensures { IfOk result (λ found. found.items ≡ open_programs requests.now gate self.now.logs) }
+    {
+        open_programs_of(alloc, self.clients.as_slice(), requests, gate)
+    }
+
+    /// The transaction of a gatekeeper for which a session waits, and which was not sent.
+    pub(crate) fn open_flight(&self, gates: &Gates, requests: &[Request], gate: u32) -> Option<u32>
+        requires { gate < length gates.now.logs }
+        ensures { result ≡ open_flight requests.now gate (gate_log_at gates.now gate) self.now.logs }
+    {
+        open_flight_of(self.clients.as_slice(), gates, requests, gate)
     }
 
     /// The stamps of that many requests, by request. It looks once at each entry.

@@ -53,7 +53,8 @@ pub(crate) fn step_in(
         | Step::Deliver { .. }
         | Step::Apply { .. }
         | Step::Collect { .. }
-        | Step::Epoch { .. } => other_step(alloc, script, machines, step),
+        | Step::Epoch { .. }
+        | Step::Restart { .. } => other_step(alloc, script, machines, step),
     }
 }
 

@@ -185,6 +185,7 @@ module _ (laws : LawsForCommands) (script : Script) (limits : IsWithinLimits scr
     left = new.state.account;
     is_account = subst (λ (s : Script). IsAccount s new.state.account) (runs.script ∙ is) account;
     begins_with = runs.goes_on;
+    landed = runs.landed;
     own_workers = subst (λ (s : Script). AreBegunByOwnWorkers s old.state.account new.state.account) is runs.workers;
     sessions = λ session. subst (λ (s : Script). WasRunForSession s (phase_end s phase) session old.state.account new.state.account) is (runs.sessions session);
     goes_on = ends.runs.goes_on;

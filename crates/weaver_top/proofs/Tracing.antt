@@ -4,7 +4,7 @@ use Rattle.std.proofs.Common.{◌≡◌, ℕ, ◌≤◌, List, [], ◌∷◌, le
 use Rattle.std.specs.List.{AllByRecursion}
 use Rattle.program_defs.specs.declared.script.Script.{Script}
 use Rattle.program_defs.specs.declared.script.Step.{Step}
-use Rattle.program_defs.specs.declared.script.Step.TheVariants.{Begin, Judge, Send, Say, Hear, Nop, Deliver, Apply, Visit, Reply, Collect, Epoch}
+use Rattle.program_defs.specs.declared.script.Step.TheVariants.{Begin, Judge, Send, Say, Hear, Nop, Deliver, Apply, Visit, Reply, Collect, Epoch, Restart}
 use Rattle.report_rules.specs.Meetings.{MeetingsAreOrdered}
 use Rattle.report_rules.specs.PrintedOrder.{IsPrintedOrder}
 use Rattle.report_rules.specs.ReportOf.{IsReportOf}
@@ -38,6 +38,7 @@ there script (Visit r) is = is
 there script (Reply r) is = is
 there script (Collect shard) is = is
 there script (Epoch gate epoch) is = is
+there script (Restart gate epoch) is = is
 
 all_there : (script : Script) (steps : List Step) → AllByRecursion (IsStep script.gates script.shards (length script.requests)) steps → AllByRecursion (IsStepOf script) steps
 all_there script [] each = tt

@@ -20,7 +20,7 @@ use Rattle.weave_data.specs.declared.name.Name.{Name}
 use Rattle.program_defs.specs.declared.script.Request.{Request}
 use Rattle.program_defs.specs.declared.script.Script.{Script}
 use Rattle.program_defs.specs.declared.script.Step.{Step}
-use Rattle.program_defs.specs.declared.script.Step.TheVariants.{Begin, Judge, Send, Say, Hear, Nop, Deliver, Apply, Visit, Reply, Collect, Epoch}
+use Rattle.program_defs.specs.declared.script.Step.TheVariants.{Begin, Judge, Send, Say, Hear, Nop, Deliver, Apply, Visit, Reply, Collect, Epoch, Restart}
 use Rattle.program_defs.specs.declared.script.Work.{Work}
 use Rattle.program_defs.specs.declared.script.Work.TheVariants.{Change, Look}
 use Rattle.program_defs.specs.Limits.{IsWithinLimits}
@@ -201,6 +201,7 @@ module _ (laws : LawsForCommands) (script : Script) (limits : IsWithinLimits scr
   done state (Reply r) is = same-oracle state.account _ (replies state.account r (request_at script r))
   done state (Collect s) is = same-oracle state.account _ refl
   done state (Epoch g epoch) is = same-oracle state.account _ refl
+  done state (Restart g epoch) is = same-oracle state.account _ refl
 
   -- a step adds pairs to requests that have no reply
   pub step-adds : (state : CoreState) (step : Step) → IsAccount script state.account → AddsOpenPairs script state.account (state_after script state step).account

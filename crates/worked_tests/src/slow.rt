@@ -4,6 +4,7 @@
 mod graphs;
 mod lookups;
 mod order;
+mod prices;
 mod replies;
 mod ways;
 

@@ -1,10 +1,14 @@
 //! What programs read and answer on a plain graph.
+ghost use Rattle.std.specs.Prelude.{◌≤◌, IfOk, IfSome, length};
+ghost use Rattle.weave_data.specs.Limits.{most_edges};
 
 use crate::ended::{Ended, done, refused};
-use graph_ops::{Graph, Op, TxFault};
-use program_defs::{Answer, Asked, Program, Script, Visits, Work, ask_with_visits};
+use graph_ops::{Graph, MOST_EDGES, Op, Record, TxFault};
+use node_program::NodeProgram;
+use path_program::AnyProgram;
+use program_defs::{Answer, Asked, Program, Script, Visits, Work, ask_with_visits, visits_of};
 use std::alloc::{AllocError, Global};
-use weave_data::{Items, Name, NameMap};
+use weave_data::{Copied, Items, Name, NameMap};
 use weave_report::{Reply, ReplyState, Report, print_report};
 use weave_script::read_script;
 use weave_text::Text;
@@ -13,12 +17,12 @@ use weave_text::Text;
 /// the vertices, in byte order, and one with the answer. Or the line and the cause for which the script is refused.
 pub fn visits(alloc: Global, input: &[u8]) -> Result<Ended, AllocError> {
     match read_script(alloc, input) {
-        Ok(script) => visits_of(alloc, &script),
+        Ok(script) => visits_text(alloc, &script),
         Err(fault) => refused(alloc, fault),
     }
 }
 
-fn visits_of(alloc: Global, script: &Script) -> Result<Ended, AllocError> {
+fn visits_text(alloc: Global, script: &Script) -> Result<Ended, AllocError> {
     let vertices = vertices_of(alloc, script)?;
     let mut text = Text::new(alloc);
     match graph_of(alloc, script) {
@@ -75,7 +79,9 @@ fn put_program(vertices: &mut NameMap<bool>, program: &Program) -> Result<(), Al
     match *program {
         Program::Show { v } => vertices.put(v, true),
         Program::Around { from, .. } => vertices.put(from, true),
-        Program::Reach { from, to, .. } | Program::Path { from, to, .. } => {
+        Program::Reach { from, to, .. }
+        | Program::Path { from, to, .. }
+        | Program::Price { from, to, .. } => {
             vertices.put(from, true)?;
             vertices.put(to, true)
         }
@@ -91,11 +97,54 @@ fn tell_programs(
 ) -> Result<(), AllocError> {
     for request in script.requests.as_slice() {
         if let Work::Look(program) = &request.work {
-            let asked = ask_with_visits(alloc, graph, program)?;
+            let asked = asked_of(alloc, graph, program)?;
             tell_program(alloc, request.name, vertices, asked, text)?;
         }
     }
     Ok(())
+}
+
+// What a program answers and visits. A `price` is fed the graph.
+fn asked_of(alloc: Global, graph: &Graph, program: &Program) -> Result<Asked, AllocError> {
+    if !program.is_price() {
+        return ask_with_visits(alloc, graph, program);
+    }
+    let visits = visits_of(alloc, graph, program)?;
+    let answer = fed(alloc, graph, program)?;
+    Ok(Asked { answer, visits })
+}
+
+fn fed(alloc: Global, graph: &Graph, program: &Program) -> Result<Answer, AllocError> {
+    let mut walk = AnyProgram::new(alloc, program)?;
+    feed(alloc, &mut walk, graph)?;
+    walk.outcome(alloc)
+}
+
+// Feeds a program from a graph.
+fn feed<P: NodeProgram>(alloc: Global, walk: &mut P, graph: &Graph) -> Result<(), AllocError> {
+    for _ in 0..MOST_READS {
+        let Some(v) = walk.next_vertex() else {
+            break;
+        };
+        walk.ready()?;
+        let state = state_of(alloc, graph, v)?;
+        walk.see(state);
+    }
+    Ok(())
+}
+
+// The state of a vertex with as few edges as a vertex may have: those of graphs of cases have no more.
+fn state_of(alloc: Global, graph: &Graph, v: Name) -> Result<Option<Record>, AllocError>
+    ensures { IfOk result (λ state. IfSome state (λ found. length found.edges ≤ most_edges)) }
+{
+    let Some(found) = graph.find(v) else {
+        return Ok(None);
+    };
+    if found.edges.len() > MOST_EDGES {
+        return Ok(None);
+    }
+    let state = found.copy(alloc)?;
+    Ok(Some(state))
 }
 
 fn tell_program(
@@ -153,6 +202,9 @@ fn report_of(alloc: Global, replies: Items<Reply>) -> Report {
         answers: Items::new(alloc),
     }
 }
+
+// The most vertices that a program reads: cases have fewer.
+const MOST_READS: u32 = 1_000_000;
 
 const ANSWERED: &[u8] = b"tx  unbegun done";
 

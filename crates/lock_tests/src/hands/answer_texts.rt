@@ -72,5 +72,12 @@ fn write_answer(text: &mut Text, answer: &Answer) -> Result<(), AllocError> {
             text.push(b"path")?;
             write_names(text, vertices.as_slice())
         }
+        Answer::Priced { total, .. } => {
+            text.push(b"price")?;
+            match u64::try_from(*total) {
+                Ok(total) => text.number_word(total),
+                Err(_) => text.push(b" more"),
+            }
+        }
     }
 }

@@ -1,7 +1,8 @@
 //! Records.
 ghost use Rattle.std.specs.Prelude.{◌≡◌, [], map, option_map, position, Some};
 ghost use Rattle.weave_report.specs.ReadAnswers.{Changes, Gives, GivesExactly};
-ghost use Rattle.weave_report.specs.ReadingStates.{cut_first, edge_of, empty_record, is_equals, is_item_mark, item_in, item_of, items_in, key_and_value, tag_in, tags_in, with_item_read, with_last, with_property, goes_last};
+ghost use Rattle.weave_report.specs.Marks.{cut_first, is_equals, is_item_mark};
+ghost use Rattle.weave_report.specs.ReadingStates.{edge_of, empty_record, item_in, item_of, items_in, key_and_value, tag_in, tags_in, with_item_read, with_last, with_property, goes_last};
 
 use crate::fault::{LineFault, ReportCause};
 use crate::read::fields::name_in;
@@ -143,8 +144,8 @@ fn tag_in(word: &[u8]) -> Result<(Name, Name), LineFault>
     }
 }
 
-// A tag, cut at its mark.
-fn cut_tag(word: &[u8]) -> Option<(&[u8], u8, &[u8])>
+/// A word, cut at its first `=`.
+pub(crate) fn cut_tag(word: &[u8]) -> Option<(&[u8], u8, &[u8])>
     ensures { option_map (λ cut. (cut.0.now, cut.1, cut.2.now)) result ≡ cut_first is_equals word.now }
 {
     match equals_sign(word) {

@@ -1,5 +1,6 @@
 //! The lines of replies.
-ghost use Rattle.std.specs.Prelude.{◌≡◌, ◌&&◌, [], ◌∷◌, Some, codes, Err, if◌then◌else◌};
+ghost use Rattle.program_defs.specs.PlainAnswer.{is_price};
+ghost use Rattle.std.specs.Prelude.{IsTrue, ◌≡◌, ◌&&◌, [], ◌∷◌, Some, codes, Err, if◌then◌else◌};
 ghost use Rattle.std.specs.Str.{bytes_eq};
 ghost use Rattle.weave_report.specs.ReadAnswers.{Gives, GivesExactly};
 ghost use Rattle.weave_report.specs.declared.fault.ReportCause.TheVariants.{Line};
@@ -9,6 +10,7 @@ use crate::fault::{LineFault, ReportCause};
 use crate::read::fields::{name_in, number_in, reason_in, small_number_in, this_number_in};
 use crate::read::named::{Named, any_named, gets_of, kind_named};
 use crate::read::parts::{Commit, ReplyLine};
+use crate::read::priced::{is_priced_form, priced_in};
 use crate::read::stamp::stamp_in;
 use crate::read::state::{answer_in, is_answer_form, is_state_form, state_in};
 use graph_ops::Got;
@@ -295,6 +297,9 @@ fn finished(
 ) -> Result<ReplyLine, LineFault>
     ensures { Gives result (finished_by (Some (request, program.now)) script.now stamp.now answer.entry) }
 {
+    if program.is_price() {
+        return priced(alloc, script, request, program, stamp, answer);
+    }
     let Some(form) = answer.next() else {
         return Err(LineFault::Refused(ReportCause::Line));
     };
@@ -303,6 +308,31 @@ fn finished(
     }
     let stamp = stamp_in(alloc, script.gates(), stamp)?;
     let answer = answer_in(alloc, program, form, answer)?;
+    Ok(ReplyLine::Whole(Reply {
+        request,
+        stamp: Some(stamp),
+        state: ReplyState::Finished(answer),
+    }))
+}
+
+// A finished `price`.
+fn priced(
+    alloc: Global,
+    script: &Named,
+    request: u32,
+    program: &Program,
+    stamp: &[u8],
+    answer: Pieces,
+) -> Result<ReplyLine, LineFault>
+    requires { IsTrue (is_price program.now) }
+    ensures { Gives result (finished_by (Some (request, program.now)) script.now stamp.now answer.entry) }
+{
+    let words: Vec<&[u8]> = answer.collect(alloc)?;
+    if !is_priced_form(words.as_slice()) {
+        return Err(LineFault::Refused(ReportCause::Line));
+    }
+    let stamp = stamp_in(alloc, script.gates(), stamp)?;
+    let answer = priced_in(alloc, words.as_slice())?;
     Ok(ReplyLine::Whole(Reply {
         request,
         stamp: Some(stamp),

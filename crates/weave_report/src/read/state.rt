@@ -1,5 +1,6 @@
 //! States and answers.
-ghost use Rattle.std.specs.Prelude.{◌≡◌, ◌∷◌};
+ghost use Rattle.std.specs.Prelude.{◌≡◌, ◌∷◌, false};
+ghost use Rattle.program_defs.specs.PlainAnswer.{is_price};
 ghost use Rattle.weave_report.specs.ReadAnswers.{Gives};
 ghost use Rattle.weave_report.specs.ReadingStates.{answer_in, is_answer_form, is_state_form, read_state, walk_in};
 
@@ -33,8 +34,9 @@ pub(crate) fn state_in(
     Ok(Some(held))
 }
 
-/// Whether the words have the form of the program's answer.
+/// Whether the words have the form of the program's answer. Those of an answer to `price` are in `priced`.
 pub(crate) fn is_answer_form(program: &Program, form: &[u8], items: &Pieces) -> bool
+    requires { is_price program.now ≡ false }
     ensures { result ≡ is_answer_form program.now (form.now ∷ items.now) }
 {
     match program {
@@ -42,6 +44,8 @@ pub(crate) fn is_answer_form(program: &Program, form: &[u8], items: &Pieces) -> 
         Program::Reach { .. } => (is(form, b"yes") || is(form, b"no")) && items.is_empty(),
         Program::Around { .. } => is(form, b"found"),
         Program::Path { .. } => is(form, b"path") || (is(form, b"none") && items.is_empty()),
+        // The condition excludes it.
+        Program::Price { .. } => false,
     }
 }
 
@@ -52,6 +56,7 @@ pub(crate) fn answer_in(
     form: &[u8],
     items: Pieces,
 ) -> Result<Answer, LineFault>
+    requires { is_price program.now ≡ false }
     ensures { Gives result (answer_in program.now (form.now ∷ items.entry)) }
 {
     match program {
@@ -65,6 +70,8 @@ pub(crate) fn answer_in(
             Ok(Answer::Found(names))
         }
         Program::Path { .. } => walk_in(alloc, form, items),
+        // The condition excludes it.
+        Program::Price { .. } => Err(LineFault::Memory),
     }
 }
 

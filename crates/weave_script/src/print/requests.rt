@@ -1,8 +1,10 @@
 //! The lines of a request.
 ghost use Rattle.std.specs.Prelude.{◌≡◌, ◌++◌, ◌∷◌, [], map, OnOk};
 ghost use Rattle.std.specs.Fmt.{decimal};
+ghost use Rattle.std.specs.List.{AllByRecursion};
 ghost use Rattle.weave_text.specs.Lines.{line_text, lines_text, spaced_words};
 ghost use Rattle.weave_script.specs.ScriptLines.{filter_words, op_line, opening_line, program_line, program_words, request_lines};
+ghost use Rattle.weave_script.specs.Scripts.{IsOperation};
 
 use crate::print::words::print_names;
 use graph_ops::Op;
@@ -64,8 +66,10 @@ fn print_place(text: &mut Text, request: &Request) -> Result<(), AllocError>
     Ok(())
 }
 
-fn print_ops(text: &mut Text, ops: &[Op]) -> Result<(), AllocError>
-    ensures { OnOk result (text.new ≡ text.old ++ lines_text (map op_line ops.now)) }
+/// The lines of operations, one for each. Only names have a text, as the types say.
+pub fn print_ops(text: &mut Text, ops: &[Op]) -> Result<(), AllocError>
+    ensures text { OnOk result (text.new ≡ text.old ++ lines_text (map op_line ops.now)) }
+    ensures typed { OnOk result (AllByRecursion IsOperation ops.now) }
 {
     for op in ops {
         print_op(text, op)?;
@@ -74,10 +78,12 @@ fn print_ops(text: &mut Text, ops: &[Op]) -> Result<(), AllocError>
 }
 
 fn print_op(text: &mut Text, op: &Op) -> Result<(), AllocError>
-    ensures { OnOk result (text.new ≡ text.old ++ line_text (op_line op.now)) }
+    ensures text { OnOk result (text.new ≡ text.old ++ line_text (op_line op.now)) }
+    ensures typed { OnOk result (IsOperation op.now) }
 {
     let fields = op.fields();
-    print_names(text, op.word(), fields.as_slice())
+    print_names(text, op.word(), fields.as_slice())?;
+    Ok(())
 }
 
 // A program's words, with a space before each.
@@ -115,6 +121,13 @@ fn print_program(text: &mut Text, program: &Program) -> Result<(), AllocError>
             text.word(to.bytes())?;
             text.number_word(u64::from(*bound))?;
             print_filter(text, pass)?;
+            Ok(())
+        }
+        Program::Price { from, to, key } => {
+            text.word(b"price")?;
+            text.word(from.bytes())?;
+            text.word(to.bytes())?;
+            text.word(key.bytes())?;
             Ok(())
         }
     }

@@ -68,6 +68,7 @@ fn print_step(text: &mut Text, requests: &[Request], step: &Step) -> Result<(), 
         Step::Reply { request } => print_named(text, b"reply", name_of_request(requests, request)),
         Step::Collect { shard } => print_numbers(text, b"collect", &[u64::from(shard)]),
         Step::Epoch { gate, epoch } => print_numbers(text, b"epoch", &[u64::from(gate), epoch]),
+        Step::Restart { gate, epoch } => print_numbers(text, b"restart", &[u64::from(gate), epoch]),
     }
 }
 

@@ -1,7 +1,9 @@
 //! Lines of a first word and fields of one kind.
 ghost use Rattle.std.specs.Prelude.{◌≡◌, ◌++◌, ◌∷◌, [], map, OnOk};
 ghost use Rattle.std.specs.Fmt.{decimal};
+ghost use Rattle.std.specs.List.{AllByRecursion};
 ghost use Rattle.weave_text.specs.Lines.{line_text, spaced_words};
+ghost use Rattle.weave_script.specs.Scripts.{IsName};
 
 use std::alloc::AllocError;
 use weave_data::Name;
@@ -9,7 +11,8 @@ use weave_text::Text;
 
 /// A line with names after its first word.
 pub fn print_names(text: &mut Text, word: &[u8], names: &[Name]) -> Result<(), AllocError>
-    ensures { OnOk result (text.new ≡ text.old ++ line_text (word.now ∷ names.now)) }
+    ensures text { OnOk result (text.new ≡ text.old ++ line_text (word.now ∷ names.now)) }
+    ensures typed { OnOk result (AllByRecursion IsName names.now) }
 {
     text.push(word)?;
     push_names(text, names)?;
@@ -39,7 +42,8 @@ pub fn print_named(text: &mut Text, word: &[u8], name: &[u8]) -> Result<(), Allo
 
 // The names, with a space before each.
 fn push_names(text: &mut Text, names: &[Name]) -> Result<(), AllocError>
-    ensures { OnOk result (text.new ≡ text.old ++ spaced_words names.now) }
+    ensures text { OnOk result (text.new ≡ text.old ++ spaced_words names.now) }
+    ensures typed { OnOk result (AllByRecursion IsName names.now) }
 {
     for name in names {
         text.word(name.bytes())?;

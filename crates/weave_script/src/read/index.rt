@@ -92,9 +92,9 @@ fn add_vertices_of_program(
     match *program {
         Program::Show { v } => add_vertex(vertices, v),
         Program::Around { from, .. } => add_vertex(vertices, from),
-        Program::Reach { from, to, .. } | Program::Path { from, to, .. } => {
-            add_two(vertices, from, to)
-        }
+        Program::Reach { from, to, .. }
+        | Program::Path { from, to, .. }
+        | Program::Price { from, to, .. } => add_two(vertices, from, to),
     }
 }
 

@@ -18,7 +18,7 @@ pub(crate) fn is_end(words: &[&[u8]]) -> bool
 }
 
 /// The operation of these words. In version 2 `link` is a join.
-pub(crate) fn op_in_line(joins: bool, words: &[&[u8]]) -> Result<Op, Cause>
+pub fn op_in_line(joins: bool, words: &[&[u8]]) -> Result<Op, Cause>
     ensures { result ≡ op_in_line joins (map (λ word. word.now) words.now) }
 {
     match op_of(words) {

@@ -1,6 +1,6 @@
 //! The lines that begin a transaction, and those that are a program.
 ghost use Rattle.std.specs.Prelude.{◌≡◌, map};
-ghost use Rattle.weave_script.specs.Requests.{opening_of, tx_of, filter_of, tag_of, bound_word, show_program, reach_program, around_program, path_program, show_of, reach_of, around_of, path_of, program_of, prog_of};
+ghost use Rattle.weave_script.specs.Requests.{opening_of, tx_of, filter_of, tag_of, bound_word, show_program, reach_program, around_program, path_program, price_program, show_of, reach_of, around_of, path_of, price_of, program_of, prog_of};
 
 use crate::fault::Cause;
 use crate::limits::MOST_BOUND;
@@ -60,6 +60,8 @@ fn program_of(words: &[&[u8]]) -> Option<Result<Program, Cause>>
         around_of(rest)
     } else if is(word, b"path") {
         path_of(rest)
+    } else if is(word, b"price") {
+        price_of(rest)
     } else {
         None
     }
@@ -97,6 +99,15 @@ fn path_of(words: &[&[u8]]) -> Option<Result<Program, Cause>>
 {
     match words {
         [from, to, bound, rest @ ..] => Some(path_program(from, to, bound, filter_of(rest)?)),
+        _ => None,
+    }
+}
+
+fn price_of(words: &[&[u8]]) -> Option<Result<Program, Cause>>
+    ensures { result ≡ price_of (map (λ word. word.now) words.now) }
+{
+    match words {
+        [from, to, key] => Some(price_program(from, to, key)),
         _ => None,
     }
 }
@@ -148,6 +159,16 @@ fn path_program(
         to: name_of(to)?,
         bound: bound_of(bound)?,
         pass: filter?,
+    })
+}
+
+fn price_program(from: &[u8], to: &[u8], key: &[u8]) -> Result<Program, Cause>
+    ensures { result ≡ price_program from.now to.now key.now }
+{
+    Ok(Program::Price {
+        from: name_of(from)?,
+        to: name_of(to)?,
+        key: name_of(key)?,
     })
 }
 

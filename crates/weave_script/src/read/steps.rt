@@ -1,7 +1,7 @@
 //! The lines of steps.
 ghost use Rattle.std.specs.Prelude.{◌≡◌, map};
 ghost use Rattle.weave_data.specs.Pairs.{at_key};
-ghost use Rattle.weave_script.specs.Steps.{named_request, gate_word, shard_word, notice_word, epoch_word, step_of, step_of_one, step_of_two, step_of_three, hear_of, nop_of, apply_of, epoch_step_of, deliver_of, of_gate, of_shard, of_request};
+ghost use Rattle.weave_script.specs.Steps.{named_request, gate_word, shard_word, notice_word, epoch_word, step_of, step_of_one, step_of_two, step_of_three, hear_of, nop_of, apply_of, deliver_of, of_gate, of_shard, of_request};
 
 use crate::fault::Cause;
 use crate::limits::{MOST_EPOCH, MOST_NOTICE};
@@ -97,6 +97,11 @@ fn step_of_two(sizes: Sizes, word: &[u8], first: &[u8], second: &[u8]) -> Result
         })
     } else if is(word, b"epoch") {
         Ok(Step::Epoch {
+            gate: gate_of(sizes, first)?,
+            epoch: epoch_of(second)?,
+        })
+    } else if is(word, b"restart") {
+        Ok(Step::Restart {
             gate: gate_of(sizes, first)?,
             epoch: epoch_of(second)?,
         })

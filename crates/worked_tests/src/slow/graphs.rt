@@ -3,8 +3,9 @@
 use crate::slow::lookups::{
     commit_count, commits_at, number, one_session, ops_of, program_of, reply_of, stamp_of,
 };
+use crate::slow::prices::is_priced;
 use graph_ops::{Got, Graph, TxFault};
-use program_defs::{Answer, Program, Script, ask, ask_with_visits};
+use program_defs::{Answer, Program, Script, ask, ask_with_visits, visits_of};
 use report_rules::{ReplyState, Report};
 use std::alloc::{AllocError, Global};
 use weave_data::{Items, Name};
@@ -61,6 +62,9 @@ fn is_answer(
     let ReplyState::Finished(said) = state else {
         return Ok(false);
     };
+    if program.is_price() {
+        return is_priced(alloc, graph, program, said);
+    }
     match ask(alloc, graph, program) {
         Ok(found) => Ok(is_same_answer(&found, said)),
         Err(error) => Err(error),
@@ -128,6 +132,12 @@ fn may_visit(
         return Ok(true);
     }
     let graph = graph_before(alloc, script, report, place_of(report, r));
+    if program.is_price() {
+        return match visits_of(alloc, &graph, program) {
+            Ok(visits) => Ok(visits.has(v)),
+            Err(error) => Err(error),
+        };
+    }
     match ask_with_visits(alloc, &graph, program) {
         Ok(asked) => Ok(asked.visits.has(v)),
         Err(error) => Err(error),

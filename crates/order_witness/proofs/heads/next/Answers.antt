@@ -6,7 +6,7 @@ use Rattle.order_witness.specs.Choices.{IsBest}
 use Rattle.order_witness.specs.Heads.{is_ready, AreWaiting}
 use Rattle.order_witness.proofs.Cutting.{at_left, waiting_on}
 use Rattle.order_witness.proofs.Leading.{best_left}
-use Rattle.order_witness.proofs.Placing.{IsStrict}
+use Rattle.order_witness.proofs.Strict.{IsStrict}
 use Rattle.order_witness.proofs.heads.next.Goals as goal
 
 pub returns-clause-best : goal.returns-clause-best

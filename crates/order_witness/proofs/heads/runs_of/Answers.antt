@@ -2,7 +2,7 @@ use Rattle.std.proofs.Common.{Vec, Global, ◌+◌, ℕ, List, ap, sym, subst, �
 use Rattle.order_witness.specs.declared.heads.Run.{Run}
 use Rattle.order_witness.specs.Heads as heads
 use Rattle.order_witness.proofs.Cutting.{cut_on, cut_here, end_rising, end_reached}
-use Rattle.order_witness.proofs.Placing.{IsStrict}
+use Rattle.order_witness.proofs.Strict.{IsStrict}
 use Rattle.order_witness.proofs.heads.runs_of.Goals as goal
 use Rattle.order_witness.proofs.heads.runs_of.Goals.{then-not-rises+in_ok-push, else-not-rises}
 

@@ -19,7 +19,7 @@ take_all-requires-clause-waiting c =
     (subst (heads.AreRising report line) (sym c.as_mut_slice.ensures.value) (subst (λ (xs : List ℕ). heads.AreRising report xs c.in_ok-runs.runs.items) same_line c.in_ok-runs.ensures.rising))
     (λ k below. subst (λ (rs : List Run). heads.IsReached rs k) (sym c.as_mut_slice.ensures.value) (c.in_ok-runs.ensures.reached k (subst (λ (xs : List ℕ). k < length xs) (sym same_line) below)))
     (λ e r below.
-    c.in_ok-befores.ensures e r (subst (λ (rs : List Reply). r < length rs) (sym c.as_slice-replies.ensures) below)
+    c.in_ok-befores.ensures.ends e r (subst (λ (rs : List Reply). r < length rs) (sym c.as_slice-replies.ensures) below)
     ∙ ap (λ (rs : List Reply). pairs_lead rs c.as_slice.result.now e r) c.as_slice-replies.ensures ∙ ap (λ (ps : List Pair). pairs_lead report.replies ps e r) c.as_slice.ensures)
     (ap (λ (rs : List Reply). length rs) c.as_slice-replies.ensures)
     (c.as_mut_slice-2.ensures.value ∙ c.in_ok-seen.ensures)

@@ -1,10 +1,12 @@
-use Rattle.std.proofs.Common.{subst, List}
+use Rattle.std.proofs.Common.{subst, Bool, List, sym}
 use Rattle.report_rules.specs.declared.report.Reply.{Reply}
-use Rattle.std.specs.Prelude.{length}
-use Rattle.order_witness.specs.Turns.{DoNumbersTakeTurns}
+use Rattle.order_witness.specs.Turns.{IsAfterCommits, IsBeforeCommits, IsOfMarked}
 use Rattle.order_witness.proofs.TurnSteps.{all_kept}
 use Rattle.order_witness.proofs.refusals.first_fault.Goals as goal
 
 pub first_out_of_place-requires-clause-kept : goal.first_out_of_place-requires-clause-kept
-first_out_of_place-requires-clause-kept c holds =
-    all_kept c.args.script.now c.args.report.now c.requires.replies (subst (λ (rs : List Reply). DoNumbersTakeTurns c.args.script.now rs (length rs)) c.as_slice-replies.ensures (c.in_ok-in_turn.ensures holds))
+first_out_of_place-requires-clause-kept c =
+    let script = c.args.script.now in
+    all_kept script c.args.report.now c.requires.replies c.as_slice-kept.result.now
+    (subst (λ (marks : List Bool). IsOfMarked (IsAfterCommits script c.args.report.now.replies) marks) (sym c.as_slice-kept.ensures.value) (subst (λ (rs : List Reply). IsOfMarked (IsAfterCommits script rs) c.in_ok-turns.turns.items) c.as_slice.ensures c.in_ok-turns.ensures.after))
+    (subst (λ (marks : List Bool). IsOfMarked (IsBeforeCommits script c.args.report.now.replies) marks) (sym c.as_slice-kept.ensures.value) (subst (λ (rs : List Reply). IsOfMarked (IsBeforeCommits script rs) c.in_ok-turns.turns.items) c.as_slice.ensures c.in_ok-turns.ensures.before))

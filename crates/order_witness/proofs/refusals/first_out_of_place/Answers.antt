@@ -39,4 +39,5 @@ loop-place-preserved c =
 
 pub is_in_place-holds-requires-clause-kept : goal.is_in_place-holds-requires-clause-kept
 is_in_place-holds-requires-clause-kept c holds at is =
-    c.requires.kept holds c.loop-place.place at c.reply-item.result (ap (λ (rs : List Reply). slice_get rs c.loop-place.place) (sym c.as_slice-reply-items.ensures) ∙ slice_get_read c.as_slice-reply-items.result.now (length c.as_slice-reply-items.result.now) c.loop-place.place c.reply-item.result refl c.loop-place-test.true c.reply-item.is) is
+    c.requires.kept c.loop-place.place at c.reply-item.result (ap (λ (rs : List Reply). slice_get rs c.loop-place.place) (sym c.as_slice-reply-items.ensures) ∙ slice_get_read c.as_slice-reply-items.result.now (length c.as_slice-reply-items.result.now) c.loop-place.place c.reply-item.result refl c.loop-place-test.true c.reply-item.is) is
+    (sym c.mark_at-is_kept.ensures ∙ holds)

@@ -78,7 +78,7 @@ loop-place-preserved c =
     ∙ ap (λ (ps : List GivenPair). ps ++ cond before [] ((event, later) ∷ [])) c.loop-place.invariant.1
     ∙ append_assoc pairs (pairs_of added later) (cond before [] ((event, later) ∷ []))
     ∙ ap (λ (ps : List GivenPair). pairs ++ ps) (sym (pairs_with added n event later before) ∙ ap (λ (events : List (ℕ × Stamp)). pairs_of events later) (sym step)) in
-    let room : length earlier ≤ n + 1 + c.put_one.new.graph.spare = omega (arith, c.loop-place.invariant.2, c.put_one.ensures.spared) in
+    let room : c.args.graph.now.spare ≤ n + 1 + c.put_one.new.graph.spare = omega (arith, c.loop-place.invariant.2, c.put_one.ensures.spared) in
     let places_then : places_of added ++ cond before [] (n ∷ []) ≡ places_of (additions_from 0 pairs (take (n + 1) earlier) later) = sym (places_with added n event before) ∙ ap places_of (sym step) in
     elim c.if-put_one.branch [
       | then-put_one w ↦

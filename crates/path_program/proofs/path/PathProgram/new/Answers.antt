@@ -1,9 +1,11 @@
-use Rattle.std.proofs.Common.{sym, subst, [], Some}
+use Rattle.std.proofs.Common.{sym, subst, ap, ◌∙◌, [], Some}
+use Rattle.program_defs.specs.Walks.{filter_in, passing_of}
 use Rattle.path_program.specs.Path.{HasPathed}
 use Rattle.path_program.proofs.path.PathProgram.new.Goals as goal
 
 pub returns-clause-reads : goal.returns-clause-reads
 returns-clause-reads c =
     let same = c.in_ok-search.ensures.aim in
-    let read : HasPathed c.args.to c.args.bound c.in_ok-search.search [] = c.in_ok-search.ensures.reads _ (λ i. Some (record { from = (same i).from; target = Some c.args.to; bound = Some c.args.bound; pass = (same i).pass })) in
+    let kept = ap passing_of c.of.ensures.filter ∙ sym c.of.ensures.passing in
+    let read : HasPathed c.args.to c.args.bound c.in_ok-search.search [] = c.in_ok-search.ensures.reads _ ((λ i. Some (record { from = (same i).from; target = Some c.args.to; bound = Some c.args.bound; pass = passing_of (filter_in (same i).pass) })) ∙ ap (λ p. Some (record { from = c.args.from; target = Some c.args.to; bound = Some c.args.bound; pass = p })) kept) in
     subst (λ search. HasPathed c.args.to c.args.bound search []) (sym c.in_ok-new.ensures.ok) read

@@ -1,4 +1,5 @@
-use Rattle.std.proofs.Common.{sym, subst, [], Some, None}
+use Rattle.std.proofs.Common.{sym, subst, ap, ◌∙◌, [], Some, None}
+use Rattle.program_defs.specs.Walks.{filter_in, passing_of}
 use Rattle.reach_program.specs.declared.reach.Goal.TheVariants.{To}
 use Rattle.reach_program.specs.Reach.{HasReached}
 use Rattle.reach_program.proofs.reach.ReachProgram.new.Goals as goal
@@ -6,5 +7,6 @@ use Rattle.reach_program.proofs.reach.ReachProgram.new.Goals as goal
 pub returns-clause-reads : goal.returns-clause-reads
 returns-clause-reads c =
     let same = c.in_ok-search.ensures.aim in
-    let read : HasReached (To c.args.to) c.in_ok-search.search [] = c.in_ok-search.ensures.reads _ (λ i. Some (record { from = (same i).from; target = Some c.args.to; bound = None; pass = (same i).pass })) in
+    let kept = ap passing_of c.of.ensures.filter ∙ sym c.of.ensures.passing in
+    let read : HasReached (To c.args.to) c.in_ok-search.search [] = c.in_ok-search.ensures.reads _ ((λ i. Some (record { from = (same i).from; target = Some c.args.to; bound = None; pass = passing_of (filter_in (same i).pass) })) ∙ ap (λ p. Some (record { from = c.args.from; target = Some c.args.to; bound = None; pass = p })) kept) in
     subst (λ search. HasReached (To c.args.to) search []) (sym c.in_ok-new.ensures.ok) read

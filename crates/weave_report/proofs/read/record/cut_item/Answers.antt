@@ -1,5 +1,5 @@
 use Rattle.std.proofs.Common.{sym}
-use Rattle.weave_report.specs.ReadingStates.{is_item_mark}
+use Rattle.weave_report.specs.Marks.{is_item_mark}
 use Rattle.weave_report.proofs.CutAtMark.{cut_first-at, cut_first-none}
 use Rattle.weave_report.proofs.read.record.cut_item.Goals as goal
 

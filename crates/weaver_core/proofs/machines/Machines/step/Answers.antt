@@ -57,6 +57,13 @@ pub returns-in-Epoch-clause-done : goal.returns-in-Epoch-clause-done
 returns-in-Epoch-clause-done c =
     if_ok_map c.raise.result _ _ (λ (a : StepAnswer) did. subst (λ (s : Step). MachinesDo c.args.script.now s c.args.self.now c.raise.new.self a) (sym c.in-Epoch.is) did) c.raise.ensures.done
 
+pub restart-requires : goal.restart-requires
+restart-requires c = subst (CanBeGiven c.args.script.now c.args.self.now) c.in-Restart.is c.requires
+
+pub returns-in-Restart-clause-done : goal.returns-in-Restart-clause-done
+returns-in-Restart-clause-done c =
+    if_ok_map c.restart.result _ _ (λ (a : StepAnswer) did. subst (λ (s : Step). MachinesDo c.args.script.now s c.args.self.now c.restart.new.self a) (sym c.in-Restart.is) did) c.restart.ensures.done
+
 pub nop-requires : goal.nop-requires
 nop-requires c = subst (CanBeGiven c.args.script.now c.args.self.now) c.in-Nop.is c.requires
 
@@ -105,6 +112,9 @@ returns-in-Hear-clause-values c other = c.hear.ensures.values
 
 pub returns-in-Epoch-clause-values : goal.returns-in-Epoch-clause-values
 returns-in-Epoch-clause-values c other = c.raise.ensures.values
+
+pub returns-in-Restart-clause-values : goal.returns-in-Restart-clause-values
+returns-in-Restart-clause-values c other = c.restart.ensures.values
 
 pub returns-in-Nop-clause-values : goal.returns-in-Nop-clause-values
 returns-in-Nop-clause-values c other = c.nop.ensures.values
