@@ -3,7 +3,7 @@
 
 Run it by hand at the top of the repository, or give the top as the argument; it takes half a minute. It reads what a
 thread does to the lock's word and the bell, in which order, from crates/chronicle/src. It prints the table of
-docs/CHRONICLE.md for that order and three others, and a shortest way into such a sleep for each that has one.
+docs/inside/CHRONICLE.md for that order and three others, and a shortest way into such a sleep for each that has one.
 It fails if the code's own has one, or if the code does anything else to the word or the bell.
 """
 from collections import namedtuple

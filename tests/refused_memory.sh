@@ -1,20 +1,26 @@
 #!/usr/bin/env bash
-# Refuses each allocation of three calls in turn (tests/refused_memory), without a proof. It isn't part of the gate. The
-# tests are built once, by `rt try` on a copy of the repository, and linked with refuse.c by the C compiler `cc`; then
-# each test is run once for each of its allocations. On threads a number is another place in each run.
+# Refuses each allocation of some calls in turn, without a proof. It isn't part of the gate.
+#
+#     bash tests/refused_memory.sh                     three calls of the program (tests/refused_memory)
+#     bash tests/refused_memory.sh refused_settle      the calls on a chain of replicas (tests/refused_settle)
+#
+# The folder has the files of a crate of tests, and its line of crates.txt in crate.txt. The tests are built once, by
+# `rt try` on a copy of the repository, and linked with refuse.c by the C compiler `cc`; then each test is run once for
+# each of its allocations. On threads a number is another place in each run.
 set -eu
 top=$(cd "$(dirname "${BASH_SOURCE[0]}")/.." && pwd)
+name=${1:-refused_memory}
 kit=$(dirname "$(rt doc | head -n 1)")
 work=$(mktemp -d)
 trap 'rm -rf "$work"' EXIT
 
 # the copy, with the crate of the tests
 tar -C "$top" --no-wildcards-match-slash --exclude='crates/*/out' -cf - crates HANDLES | tar -C "$work" -xf -
-{ cat "$top/crates.txt"; echo "refused_memory: weave_io weaver_top"; } > "$work/crates.txt"
-crate=$work/crates/refused_memory
+cat "$top/crates.txt" "$top/tests/$name/crate.txt" > "$work/crates.txt"
+crate=$work/crates/$name
 mkdir -p "$crate/src" "$work/room"
 for file in lib tests; do
-    cp "$top/tests/refused_memory/$file.txt" "$crate/src/$file.rt"
+    cp "$top/tests/$name/$file.txt" "$crate/src/$file.rt"
 done
 
 # `rt try` makes the module of the tests in a folder that it removes at its end. With --fail-alloc the module calls what

@@ -1,9 +1,9 @@
 #!/usr/bin/env python3
-"""Checks a docs/SPECIFICATION.md against a repository: every file, word, function, law, proof, test and edit that a
-table names; and the paths that docs/CHANGING.md names. Usage: specification.py [root of the repository [the page]]"""
+"""Checks docs/inside/specification against a repository: every file, word, function, law, proof, test and edit that its
+pages name; and the paths that docs/CHANGING.md names. Usage: specification.py [root of the repository [the folder]]"""
 import glob, os, re, sys
 ROOT = sys.argv[1] if len(sys.argv) > 1 else '.'
-PAGE = sys.argv[2] if len(sys.argv) > 2 else f'{ROOT}/docs/SPECIFICATION.md'
+PAGE = sys.argv[2] if len(sys.argv) > 2 else f'{ROOT}/docs/inside/specification'
 CR = os.path.join(ROOT, 'crates')
 errors, counts = [], {}
 def err(row, what): errors.append(f'{row}: {what}')
@@ -12,16 +12,6 @@ _cache = {}
 def read(p):
     if p not in _cache: _cache[p] = open(p).read() if os.path.isfile(p) else None
     return _cache[p]
-
-def groups(cell):
-    """A cell as [(path, [names])]; a group is `path` `name`, `name`; groups are parted by `;`."""
-    out = []
-    for g in cell.split(';'):
-        rest = re.sub(r'`[^`]+`', '', g)
-        toks = re.findall(r'`([^`]+)`', g)
-        if not toks or re.search(r'[^\s,]', rest): return None
-        out.append((toks[0], toks[1:]))
-    return out
 
 def word_defined(text, w):
     w = re.escape(w)
@@ -41,14 +31,10 @@ def is_test(text, n):
 def lemma_defined(text, n):
     return re.search(rf'^\s*(?:abbrev |unfoldable )?(?:pub )?{re.escape(n)} :', text, re.M) or re.search(rf'record {re.escape(n)}\b', text)
 
-def entries(row, cell, kind, blank=('-',)):
-    """The groups of a cell of that kind, none of a blank one."""
-    if cell in blank:
-        count(f'{kind}: {cell}')
-        return []
-    gs = groups(cell)
-    if gs is None: err(row, f'{kind} can\'t be read: {cell}')
-    return gs or []
+def entries(found, kind):
+    """The entries of a kind; it counts the rules that have none, and those whose proof is found by search."""
+    if not found: count(f'{kind}: none')
+    return [it for it in found if it != ('search', [])]
 def look_up(row, path, names, kind, at, is_there, what):
     """Looks the names up in the file of the repository, and returns whether there is such a file."""
     t = read(at)
@@ -61,17 +47,17 @@ def look_up(row, path, names, kind, at, is_there, what):
         if not is_there(t, n): err(row, f'no {what} {n} in {at}')
     return True
 
-def check_definition(row, cell):
-    for path, names in entries(row, cell, 'definition'):
+def check_definition(row, found):
+    for path, names in entries(found, 'definition'):
         c, _, f = path.partition('/')
         if look_up(row, path, names, 'words', f'{CR}/{c}/specs/{f}.antt', word_defined, 'word'): count('definition files')
-def check_code(row, cell):
-    for path, names in entries(row, cell, 'function'):
+def check_code(row, found):
+    for path, names in entries(found, 'function'):
         c, _, f = path.partition('/')
         if re.search(r'(^|_|/)tests?\.rt$', f) or c.endswith('_tests'): err(row, f'a file of tests as code: {path}')
         if look_up(row, path, names, 'functions and types', f'{CR}/{c}/src/{f}', fn_defined, 'function'): count('code files')
-def check_proof(row, cell):
-    for path, names in entries(row, cell, 'proof', ('-', 'search')):
+def check_proof(row, found):
+    for path, names in entries(found, 'proof'):
         c, _, f = path.partition('/')
         if f.endswith('.rt'):
             if 'laws' not in f: err(row, f'no file of laws: {path}')
@@ -81,8 +67,8 @@ def check_proof(row, cell):
         else:
             if not f.startswith('proofs/'): err(row, f'no file of proofs: {path}')
             if look_up(row, path, names, 'lemmas', f'{CR}/{c}/{f}.antt', lemma_defined, 'lemma'): count('proof files')
-def check_test(row, cell):
-    for path, names in entries(row, cell, 'test'):
+def check_test(row, found):
+    for path, names in entries(found, 'test'):
         c, _, f = path.partition('/')
         if f.endswith('.cases'):
             look_up(row, path, names, 'headings of cases', f'{CR}/{c}/data/{f}', begins_line, 'heading')
@@ -92,69 +78,76 @@ reached = set()
 def edit_at(c, n):
     """A planted bug that the gate tries, or one that tests/planted.py alone tries."""
     return next((p for p in (f'{CR}/{c}/must-fail/{n}.{e}' for e in ('edit', 'md')) if os.path.isfile(p)), None)
-def check_edits(row, cell):
-    for c, names in entries(row, cell, 'edits'):
+def check_edits(row, found):
+    for c, names in entries(found, 'edits'):
         if not os.path.isdir(f'{CR}/{c}/must-fail'): err(row, f'no edits in {c}'); continue
         if not names: err(row, f'no edit named of {c}')
         for n in names:
             count('edits named'); reached.add((c, n))
             if not edit_at(c, n): err(row, f'no edit {c}/must-fail/{n}')
 
-def check_edit_files(row, cells):
-    """The file that an edit changes is one of those that the row names as definition, code or law."""
-    if cells[5] == '-': return
-    named = {(p.split('/')[0], f"specs/{p.split('/', 1)[1]}.antt") for p, _ in (groups(cells[1]) or []) if '/' in p}
-    for i in (2, 3):
-        named |= {(p.split('/')[0], f"src/{p.split('/', 1)[1]}") for p, _ in (groups(cells[i]) or []) if p.endswith('.rt')}
-    for c, names in groups(cells[5]) or []:
+def check_edit_files(row, found):
+    """The file that an edit changes is one of those that the rule names as definition, code or law."""
+    named = {(p.split('/')[0], f"specs/{p.split('/', 1)[1]}.antt") for p, _ in found[0] if '/' in p}
+    for i in (1, 2):
+        named |= {(p.split('/')[0], f"src/{p.split('/', 1)[1]}") for p, _ in found[i] if p.endswith('.rt')}
+    for c, names in found[4]:
         for n in names:
             t = read(edit_at(c, n) or '') or ''
             files = set(re.findall(r'^file: (\S+)', t, re.M))
-            count('edits whose file the row names')
-            if not any((c, f) in named for f in files): err(row, f'edit {c} {n} changes {sorted(files)}, which the row does not name')
+            count('edits whose file the rule names')
+            if not any((c, f) in named for f in files): err(row, f'edit {c} {n} changes {sorted(files)}, which the rule does not name')
 
-text = open(PAGE).read()
-# sections
-secs = re.split(r'^## ', text, flags=re.M)
-head, sections = secs[0], {s.split('\n', 1)[0].strip(): s for s in secs[1:]}
-anchor = lambda s: re.sub(r'[^a-z0-9 -]', '', s.lower()).replace(' ', '-')
-anchors = {anchor(s): s for s in sections}
-toc = re.findall(r'^- \[([^\]]+)\]\(#([^)]+)\)', sections.get('Contents', ''), re.M)
-for name, a in toc:
-    if anchors.get(a) != name: errors.append(f'contents: no section {name} at #{a}')
-for s in sections:
-    if s != 'Contents' and s not in [n for n, _ in toc]: errors.append(f'contents: {s} is missing')
-for a in re.findall(r'\]\(#([^)]+)\)', text):
-    if a not in anchors: errors.append(f'no section at #{a}')
-HEADER = ['rule', 'definition', 'function in code', 'law or proof', 'test', 'must-fail edits']
+LABELS = {'definition': 0, 'code': 1, 'law, proof': 2, 'test': 3, 'edits': 4}
+def named(cell):
+    """The names after a path: in quotes if they are headings of cases, else words with commas between them."""
+    return re.findall(r'"([^"]+)"', cell) if cell.startswith('"') else [it for it in re.split(r',\s*', cell) if it]
+def blocks_of(lines, row):
+    """The five kinds of entries of a rule, each a list of paths with names; `search` is a path without any."""
+    found, kind = [[] for _ in LABELS], None
+    for line in lines:
+        label, rest = line[4:16].strip(), line[16:]
+        if label:
+            if label not in LABELS: err(row, f'no kind of entry is called {label}'); return found
+            kind = LABELS[label]
+        if kind is None: err(row, f'an entry without its kind: {line.strip()}'); return found
+        if rest.startswith('  '): found[kind][-1] += ' ' + rest.strip()
+        else: found[kind].append(rest.strip())
+    return [[(it.partition(' ')[0], named(it.partition(' ')[2])) for it in kind] for kind in found]
+
 norm = lambda s: re.sub(r'[^a-z0-9 ]', '', s.lower()).strip()
-rows = rules = 0
-for s, body in sections.items():
-    if s == 'Contents': continue
-    bullets = [b.strip(' ,.:') for b in re.findall(r'^- \*\*(.+?)\*\*', body, re.M)]
-    rules += len(bullets)
-    names = []
-    tables = 0
-    if not bullets: errors.append(f'{s}: no rules')
-    for line in body.split('\n'):
-        if not line.startswith('|'): continue
-        cells = [c.strip() for c in line.strip().strip('|').split('|')]
-        if cells == HEADER: tables += 1; continue
-        if set(line) <= set('|-: '): continue
-        if len(cells) != 6: errors.append(f'{s}: {len(cells)} cells: {line[:80]}'); continue
-        row = f'{s} / {cells[0]}'; rows += 1; names.append(cells[0])
-        check_definition(row, cells[1]); check_code(row, cells[2]); check_proof(row, cells[3])
-        check_test(row, cells[4]); check_edits(row, cells[5]); check_edit_files(row, cells)
-        if cells[1] == '-' and cells[2] == '-': err(row, 'neither definition nor function')
-    if tables != 1: errors.append(f'{s}: {tables} tables')
-    if len(set(names)) != len(names): errors.append(f'{s}: a rule has two rows')
-    for b in bullets:
-        if not any(norm(b) == norm(n) or norm(n).startswith(norm(b) + ' ') and ': ' in n for n in names): errors.append(f'{s}: the words "{b}" have no row')
-    for n in names:
-        if not any(norm(b) == norm(n) or norm(n.split(': ')[0]) == norm(b) for b in bullets): errors.append(f'{s}: the row "{n}" has no words')
-    in_toc = re.search(rf'^- \[{re.escape(s)}\]\([^)]*\): (.*)$', sections['Contents'], re.M)
-    if not in_toc or [norm(x) for x in in_toc.group(1).split('; ')] != [norm(b) for b in bullets]: errors.append(f'{s}: the contents list other rules')
-    if len(set(map(norm, bullets))) != len(bullets): errors.append(f'{s}: two rules have one name')
+index = open(f'{PAGE}/README.md').read()
+listed = re.findall(r'^- \[([^\]]+)\]\(([^)]+)\): (.*)$', index, re.M)
+for page in glob.glob(f'{PAGE}/*.md'):
+    if os.path.basename(page) not in ['README.md'] + [it[1] for it in listed]: errors.append(f'README.md lists no {os.path.basename(page)}')
+text, rows, rules = index, 0, 0
+for title, page, names in listed:
+    body = read(f'{PAGE}/{page}')
+    if body is None: errors.append(f'README.md: no page {page}'); continue
+    text += body
+    if body.split('\n')[0] != f'# {title}': errors.append(f'{page}: its title is another one than in README.md')
+    for other in re.findall(r'\]\(([^)#]+\.md)\)', body):
+        if not os.path.isfile(f'{PAGE}/{other}'): errors.append(f'{page}: no page {other}')
+    parts = re.split(r'^## ', body, flags=re.M)[1:]
+    heads = [part.split('\n', 1)[0] for part in parts]
+    rules += len(heads)
+    if not heads: errors.append(f'{page}: no rules')
+    if [norm(it) for it in names.split('; ')] != [norm(it) for it in heads]: errors.append(f'{page}: README.md lists other rules')
+    if len(set(map(norm, heads))) != len(heads): errors.append(f'{page}: two rules have one name')
+    for head, part in zip(heads, parts):
+        pieces = re.split(r'^### ', part, flags=re.M)
+        if not [line for line in pieces[0].split('\n')[1:] if line.strip() and not line.startswith('    ')]: errors.append(f'{page} / {head}: no words')
+        before = rows
+        for at, piece in enumerate(pieces):
+            row = f'{title} / {head}' if at == 0 else f'{title} / {head}: ' + piece.split('\n', 1)[0]
+            lines = [line for line in piece.split('\n') if line.startswith('    ')]
+            if not lines: continue
+            rows += 1
+            entries_of = blocks_of(lines, row)
+            check_definition(row, entries_of[0]); check_code(row, entries_of[1]); check_proof(row, entries_of[2])
+            check_test(row, entries_of[3]); check_edits(row, entries_of[4]); check_edit_files(row, entries_of)
+            if not entries_of[0] and not entries_of[1]: err(row, 'neither definition nor function')
+        if rows == before: errors.append(f'{page} / {head}: it names nothing')
 # every word in backticks is somewhere in the repository
 alltext = ''.join(open(p).read() for e in ('antt', 'rt') for p in glob.glob(f'{CR}/**/*.{e}', recursive=True) if '/out/' not in p)
 basenames = {os.path.splitext(os.path.basename(p))[0] for e in ('antt', 'rt', 'edit') for p in glob.glob(f'{CR}/**/*.{e}', recursive=True)}
@@ -171,12 +164,12 @@ def known(w):
     if os.path.exists(f'{CR}/{c}/specs/{f}.antt') or os.path.exists(f'{CR}/{c}/src/{f}'): return True
     if '::' in w: return all(known(x) for x in w.split('::'))
     return False
-for line in re.sub(r'^\|.*$', '', text, flags=re.M).split('\n'):
+for line in re.sub(r'^(\||    ).*$', '', text, flags=re.M).split('\n'):
     for w in re.findall(r'`([^`]+)`', line):
         count('words in prose')
         if not known(w): print(f'note: nothing in the repository is called `{w}`')
 alle = {(p.split('/')[-3], os.path.splitext(os.path.basename(p))[0]) for p in glob.glob(f'{CR}/*/must-fail/*')}
-print(f'{rules} rules in words, {rows} rows in {len(sections) - 1} sections')
+print(f'{rules} rules, {rows} with their parts, on {len(listed)} pages')
 def check_paths(page):
     """Each path of a page that says what to touch: `src/..`, `specs/..` or `proofs/..` of a crate that its line names, or a
     path of the repository."""
@@ -193,7 +186,7 @@ check_paths('CHANGING.md')
 
 print('checked: ' + ', '.join(f'{v} {k}' for k, v in sorted(counts.items())))
 in_gate = len(glob.glob(f'{CR}/*/must-fail/*.edit'))
-print(f'edits of the repository reached from a row: {len(reached & alle)} of {len(alle)} ({in_gate} in the gate, {len(alle) - in_gate} by tests/planted.py alone)'
+print(f'edits of the repository reached from a rule: {len(reached & alle)} of {len(alle)} ({in_gate} in the gate, {len(alle) - in_gate} by tests/planted.py alone)'
       + ''.join(f'\n  not reached: {c} {n}' for c, n in sorted(alle - reached)))
 for e in errors: print('WRONG', e)
 print(f'{len(errors)} wrong')

@@ -135,5 +135,54 @@ mkfifo "$scratch/pipe"
 wait
 is "a broken pipe: status" 3 "$(cat "$scratch/status")"
 
+journal="$scratch/journal"
+text=$(printf 'weaver 1 1 1\ntx t1 0 0\ncreate v\nset v k x\nend\n' | "$program" keep "$journal"); status=$?
+is "keep: status" 0 $status
+is "keep: text" $'report 1\ntx t1 1:0:1 committed 1\norder t1\nend' "$text"
+is "keep: the file's length" 42 "$(wc -c <"$journal")"
+
+text=$(printf 'weaver 1 1 1\ntx t2 0 0\nget v\nend\ntx t3 0 0\ncreate v\nend\n' | "$program" keep "$journal"); status=$?
+is "keep again: status" 0 $status
+is "keep again: text" $'report 1\ntx t2 2:0:1 committed 2\ngot 1 record k=x\ntx t3 2:0:2 refused 1 exists at 2\norder t2\nend' "$text"
+
+text=$(printf 'weaver 1 2 1\n' | "$program" keep "$scratch/none"); status=$?
+is "a script that can't be kept: status" 2 $status
+is "a script that can't be kept: text" "refused 0 unkept" "$text"
+is "a script that can't be kept: no file is made" no "$([ -e "$scratch/none" ] && echo yes || echo no)"
+
+text=$("$program" keep "$scratch/missing/journal" <"$script"); status=$?
+is "a file in no folder: status" 7 $status
+is "a file in no folder: text" "" "$text"
+
+text=$("$program" keep "$scratch" <"$script"); status=$?
+is "a directory as the file: status" 7 $status
+
+text=$(flock "$journal" "$program" keep "$journal" <"$script"); status=$?
+is "a file that another process has: status" 7 $status
+
+printf '\1\0' >"$scratch/foreign"
+text=$("$program" keep "$scratch/foreign" <"$script"); status=$?
+is "a file that is no journal: status" 8 $status
+is "a file that is no journal: text" "" "$text"
+is "a file that is no journal: it is as before" "01 00" "$(od -An -tx1 "$scratch/foreign" | xargs)"
+
+text=$("$top/weaver" keep "$script" <"$script" 2>&1); status=$?
+is "a text file, to the launcher: status" 8 $status
+case "$text" in
+  *"is no journal: its first byte is "*"very first commit can leave such a file too; no commit in it was ever reported"*) said=yes ;;
+  *) said=$text ;;
+esac
+is "a text file, to the launcher: it says why" yes "$said"
+
+"$top/weaver" look keep "$script" <"$script" >/dev/null 2>&1; status=$?
+is "a text file, to a first look: status" 8 $status
+
+printf 'weaver 1 1 1\ntx t1 0 0\ncreate v\nset v k x\nend\n' | "$program" keep "$scratch/unsaid" >&-; status=$?
+is "keep without standard output: status" 3 $status
+is "keep without standard output: the commit is there" 42 "$(wc -c <"$scratch/unsaid")"
+
+text=$("$program" keep <"$script"); status=$?
+is "keep without a path: status" 5 $status
+
 echo "$passed ok, $failures failed"
 exit $((failures > 0))

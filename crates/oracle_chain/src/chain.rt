@@ -167,9 +167,11 @@ impl ReplicaChain {
         Ok(())
     }
 
-    /// The outcome of the ask that the tail has at a position, as a copy. None if its list has no such position.
+    /// The outcome of the ask that the tail has at a position, as a copy, which alone takes memory. None if its list
+    /// has no such position.
     pub fn answer(&self, alloc: Global, position: u64) -> Result<Option<Outcome>, AllocError>
-        ensures { IfOk result (λ outcome. outcome ≡ answer_at self.now position) }
+        ensures answer { IfOk result (λ outcome. outcome ≡ answer_at self.now position) }
+        ensures memory { OnErr result (answer_at self.now position ≢ None) }
     {
         match outcome_at_tail(self.replicas.as_slice(), position) {
             Some(outcome) => Ok(Some(outcome.copy(alloc)?)),

@@ -11,7 +11,7 @@ use Rattle.order_witness.specs.Preceding.{Test, LeadsBySteps, PrecedesOne, leads
 use Rattle.order_witness.specs.Preceding.LeadsBySteps.{Directly, Through}
 use Rattle.report_rules.specs.Lookups.{is_in}
 use Rattle.order_witness.specs.Heads.{item, run_at}
-use Rattle.order_witness.specs.Marks.{is_marked, not_marked, AreMoreMarked, AreAllMarked, ArePreceders, AreRuns, ArePassed, IsMarkedUpTo}
+use Rattle.order_witness.specs.Marks.{is_marked, not_marked, AreMoreMarked, AreAllMarked, AreLookedAt, ArePreceders, AreRuns, ArePassed, IsMarkedUpTo}
 
 -- Growing
 
@@ -240,3 +240,12 @@ module _ (direct : Test) (order : List ℕ) (old new : List Bool) (due then_due 
         ];
         due_is_marked = λ c h. elim (grown.due_only c h) [ inl was ↦ grown.stay c (are.due_is_marked c (Contains-append_left due (b ∷ []) c was)) | inr is ↦ is ];
       }
+
+-- one more was looked at
+pub looked_one : (direct : Test) (marked then_marked looked then_looked : List Bool) (b : ℕ) → AreLookedAt direct marked looked → ((a : ℕ) → IsTrue (is_marked marked a) → IsTrue (is_marked then_marked a)) → AreAllMarked direct then_marked b
+    → ((a : ℕ) → ¬ (a ≡ b) → is_marked then_looked a ≡ is_marked looked a) → AreLookedAt direct then_marked then_looked
+looked_one direct marked then_marked looked then_looked b so_far stay here others e is =
+    elim (cases_eq e b) [
+      | inl same ↦ subst (AreAllMarked direct then_marked) (sym same) here
+      | inr other ↦ λ a leads. stay a (so_far e (sym (others e other) ∙ is) a leads)
+    ]

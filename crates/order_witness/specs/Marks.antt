@@ -54,6 +54,10 @@ pub record ArePassed (line : List ℕ) (marked : List Bool) (runs : List Run) (p
 abbrev pub AreAllMarked : Test → List Bool → ℕ → Type 0
 AreAllMarked direct marked b = (a : ℕ) → IsTrue (direct a b) → IsTrue (is_marked marked a)
 
+-- all that directly leads to an event that was looked at is marked
+abbrev pub AreLookedAt : Test → List Bool → List Bool → Type 0
+AreLookedAt direct marked looked = (b : ℕ) → IsTrue (is_marked looked b) → AreAllMarked direct marked b
+
 -- Of the first `count` events of the order: what is marked precedes one of them, and all that directly leads to one of
 -- them is marked. So is all that leads to a marked event, if that isn't still to be looked at.
 pub record ArePreceders (direct : Test) (order : List ℕ) (count : ℕ) (marked : List Bool) (due : List ℕ) : Type 0 where

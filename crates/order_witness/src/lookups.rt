@@ -5,6 +5,7 @@ ghost use Rattle.graph_ops.specs.Mentions.{is_among, named_by_op};
 ghost use Rattle.graph_ops.specs.declared.op.Op.{Op};
 ghost use Rattle.order_witness.specs.Begun.{is_request_before, numbers_in, stamp_in};
 ghost use Rattle.report_rules.specs.Lookups as lookups;
+ghost use Rattle.vector_stamp.specs.Order.{stamp_before};
 
 use graph_ops::Op;
 use program_defs::{Request, Script, Work};
@@ -67,8 +68,18 @@ pub fn is_begun(replies: &[Reply], request: u32) -> bool
 pub fn is_request_before(report: &Report, a: usize, b: usize) -> bool
     ensures { result ≡ is_request_before report.now a b }
 {
-    match (stamp_of(report, a), stamp_of(report, b)) {
-        (Some(a), Some(b)) => a.is_before(&b),
+    let replies = report.replies.as_slice();
+    match (replies.get(a), replies.get(b)) {
+        (Some(a), Some(b)) => is_begun_before(&a.stamp, &b.stamp),
+        _ => false,
+    }
+}
+
+fn is_begun_before(a: &Option<Stamp>, b: &Option<Stamp>) -> bool
+    ensures { result ≡ lookups.are_both stamp_before a.now b.now }
+{
+    match (a, b) {
+        (Some(a), Some(b)) => a.is_before(b),
         _ => false,
     }
 }

@@ -25,7 +25,7 @@ use vector_stamp::laws::{one_pair_joins_its_ends, precedence_is_decided, stamps_
 /// must hold.
 ///
 /// A sort, and then one walk over the order, which marks what precedes the requests so far: each request and each pair
-/// is looked at at most twice. A request breaks the clause if it is marked once it was looked at.
+/// is looked at once. A request breaks the clause if it is marked once it was looked at.
 pub fn first_fault(
     alloc: Global,
     script: &Script,
@@ -62,12 +62,14 @@ fn first_out_of_place(
     let order = report.order.as_slice();
     let mut storage = no_marks(alloc, report.replies.as_slice().len())?;
     let marked = storage.as_mut_slice();
+    let mut at = no_marks(alloc, report.replies.as_slice().len())?;
+    let looked = at.as_mut_slice();
     let mut nexts = starts(alloc, runs)?;
     let passed = nexts.as_mut_slice();
     let mut tops = BySession::new(alloc, 0)?;
     for place in 0..order.len() {
         mark_before(
-            alloc, report, befores, line, runs, passed, marked, order, place,
+            alloc, report, befores, line, runs, passed, marked, looked, order, place,
         )?;
         let holds = is_in_place(script, marked, &mut tops, &order[..place], order[place]);
         if !holds {
@@ -90,5 +92,5 @@ fn is_in_place(
     ensures tops { AreBelowTops script.now (before.now ++ request ∷ []) tops.new }
 {
     let is_last = comes_last(script, before, request, tops);
-    !is_marked(marked, request) && is_last
+    !is_marked(marked, request as usize) && is_last
 }

@@ -1,6 +1,7 @@
 //! For each reply, whether it is refused as it says after the number of commits that it says. The commits are replayed
 //! once.
-ghost use Rattle.std.specs.Prelude.{◌≡◌, ◌≢◌, ℕ, ◌<◌, ◌≤◌, [], ◌∷◌, ◌++◌, IsTrue, IfOk, OnOk, Some, false, length, replicate, slice_get, slice_index_or};
+ghost use Rattle.std.specs.Prelude.{◌≡◌, ◌≢◌, ℕ, ◌<◌, ◌≤◌, [], ◌∷◌, ◌++◌, IsTrue, IfOk, OnOk, Some, false, is_some, not, length, replicate, slice_get, slice_index_or};
+ghost use Rattle.std.specs.List.{list_all};
 ghost use Rattle.std.specs.Option.{option_and_then};
 ghost use Rattle.graph_ops.specs.Graphs.{plain_of};
 ghost use Rattle.report_rules.specs.Replay.{IsWorkRefused, graph_after_commit, graph_if_work_passed, the_only};
@@ -8,7 +9,7 @@ ghost use Rattle.report_rules.specs.Lookups as lookups;
 ghost use Rattle.order_witness.specs.Judgement.{has_numbered_operations, is_numbered_work};
 ghost use Rattle.report_rules.specs.declared.report.Reply.{Reply};
 ghost use Rattle.order_witness.specs.ByNumber.{list_at, HasRefused, place_if_refused};
-ghost use Rattle.order_witness.specs.Refusals.{AreMarked, AreMarkedOn, IsMarkedOn, IsRefusedOn, IsExpectedGraph, Marks, numbered_in};
+ghost use Rattle.order_witness.specs.Refusals.{AreMarked, AreMarkedOn, IsMarkedOn, IsRefusedOn, IsExpectedGraph, Marks, numbered_in, refused_after};
 
 use crate::by_number::ByNumber;
 use crate::lookups::{commits, number_of, request_at, request_in};
@@ -18,8 +19,33 @@ use program_defs::{Script, Work};
 use report_rules::{Reply, ReplyState, Report};
 use std::alloc::{AllocError, Global};
 
-/// The marks of the replies.
+/// The marks of the replies. Nothing is replayed if none is refused.
 pub fn marks_of(alloc: Global, script: &Script, report: &Report) -> Result<Vec<bool>, AllocError>
+    requires numbered { IsTrue (has_numbered_operations script.now) }
+    ensures { IfOk result (λ marks. AreMarked script.now report.now marks.items) }
+{
+    if none_is_refused(report.replies.as_slice()) {
+        return Ok(Vec::new(alloc));
+    }
+    marks_by_replay(alloc, script, report)
+}
+
+fn none_is_refused(replies: &[Reply]) -> bool
+    ensures { result ≡ list_all (λ (reply : Reply). not (is_some (refused_after reply.state))) replies.now }
+{
+    replies.iter().all(|reply| !is_refusal(&reply.state))
+}
+
+fn is_refusal(state: &ReplyState) -> bool
+    ensures { result ≡ is_some (refused_after state.now) }
+{
+    match state {
+        ReplyState::Refused { .. } => true,
+        _ => false,
+    }
+}
+
+fn marks_by_replay(alloc: Global, script: &Script, report: &Report) -> Result<Vec<bool>, AllocError>
     requires numbered { IsTrue (has_numbered_operations script.now) }
     ensures { IfOk result (λ marks. AreMarked script.now report.now marks.items) }
 {

@@ -1,9 +1,9 @@
 //! One walk over the order, that marks what precedes the requests so far.
 //!
-//! A request is marked once, when it is found to precede one of the order so far, and then looked at: what directly
-//! leads to it is marked too. By pairs that are the earlier ends of its pairs. By stamps it is, of each gatekeeper, a
-//! first part of its begun requests: so each run has a next place, up to which all are marked, and goes on while the
-//! request there is before this one.
+//! A request is marked once, when it is found to precede one of the order so far, and then looked at, if that wasn't
+//! done when it was listed: what directly leads to it is marked too. By pairs that are the earlier ends of its pairs.
+//! By stamps it is, of each gatekeeper, a first part of its begun requests: so each run has a next place, up to which
+//! all are marked, and goes on while the request there is before this one.
 ghost use Rattle.std.specs.Prelude.{◌≡◌, ℕ, ◌≤◌, ◌<◌, ◌+◌, [], false, IsTrue, IfOk, OnOk, length, map, replicate};
 ghost use Rattle.report_rules.specs.Lookups.{is_in};
 ghost use Rattle.order_witness.specs.declared.heads.Run.{Run};
@@ -11,7 +11,7 @@ ghost use Rattle.order_witness.specs.Begun.{is_request_before};
 ghost use Rattle.order_witness.specs.ByNumber.{list_at};
 ghost use Rattle.order_witness.specs.Heads.{item};
 ghost use Rattle.order_witness.specs.Preceding.{direct_steps};
-ghost use Rattle.order_witness.specs.Marks.{AreAllMarked, ArePreceders, ArePassed, AreRuns, AreMoreMarked, is_marked};
+ghost use Rattle.order_witness.specs.Marks.{AreAllMarked, AreLookedAt, ArePreceders, ArePassed, AreRuns, AreMoreMarked, is_marked};
 
 use crate::by_number::ByNumber;
 use crate::heads::{Run, item};
@@ -34,10 +34,10 @@ pub fn starts(alloc: Global, runs: &[Run]) -> Result<Vec<usize>, AllocError>
 }
 
 /// Whether the request is marked.
-pub fn is_marked(marked: &[bool], request: u32) -> bool
+pub fn is_marked(marked: &[bool], request: usize) -> bool
     ensures { result ≡ is_marked marked.now request }
 {
-    match marked.get(request as usize) {
+    match marked.get(request) {
         Some(is) => *is,
         None => false,
     }
@@ -52,6 +52,7 @@ pub fn mark_before(
     runs: &[Run],
     passed: &mut [usize],
     marked: &mut [bool],
+    looked: &mut [bool],
     order: &[u32],
     place: usize,
 ) -> Result<(), AllocError>
@@ -59,20 +60,62 @@ pub fn mark_before(
     requires runs { AreRuns (is_request_before report.now) (list_at befores.now) line.now runs.now (length marked.old) }
     requires passed { ArePassed line.now marked.old runs.now passed.old }
     requires marked { ArePreceders (direct_steps report.now befores.now) order.now place marked.old [] }
+    requires looked { AreLookedAt (direct_steps report.now befores.now) marked.old looked.old }
     ensures size { OnOk result (length marked.new ≡ length marked.old) }
     ensures passed { OnOk result (ArePassed line.now marked.new runs.now passed.new) }
     ensures marked { OnOk result (ArePreceders (direct_steps report.now befores.now) order.now (place + 1)
         marked.new []) }
+    ensures looked { OnOk result (AreLookedAt (direct_steps report.now befores.now) marked.new looked.new) }
 {
     let mut due = Vec::new(alloc);
     let first = order[place] as usize;
-    look(report, befores, line, runs, passed, marked, &mut due, first)?;
+    look_once(
+        report, befores, line, runs, passed, marked, looked, &mut due, first,
+    )?;
     while let Some(request) = due.pop() {
-        look(
-            report, befores, line, runs, passed, marked, &mut due, request,
+        look_once(
+            report, befores, line, runs, passed, marked, looked, &mut due, request,
         )?;
     }
     Ok(())
+}
+
+// Looks at the request, unless that was done before. It is done from then on.
+fn look_once(
+    report: &Report,
+    befores: &ByNumber,
+    line: &[usize],
+    runs: &[Run],
+    passed: &mut [usize],
+    marked: &mut [bool],
+    looked: &mut [bool],
+    due: &mut Vec<usize>,
+    request: usize,
+) -> Result<(), AllocError>
+    requires runs { AreRuns (is_request_before report.now) (list_at befores.now) line.now runs.now (length marked.old) }
+    requires passed { ArePassed line.now marked.old runs.now passed.old }
+    requires looked { AreLookedAt (direct_steps report.now befores.now) marked.old looked.old }
+    ensures passed { OnOk result (ArePassed line.now marked.new runs.now passed.new) }
+    ensures all { OnOk result (AreAllMarked (direct_steps report.now befores.now) marked.new request) }
+    ensures grown { OnOk result (AreMoreMarked (λ a. IsTrue (direct_steps report.now befores.now a request))
+        marked.old marked.new due.old.items due.new.items) }
+    ensures looked { OnOk result (AreLookedAt (direct_steps report.now befores.now) marked.new looked.new) }
+{
+    if is_marked(looked, request) {
+        return Ok(());
+    }
+    look(report, befores, line, runs, passed, marked, due, request)?;
+    put(looked, request);
+    Ok(())
+}
+
+fn put(looked: &mut [bool], request: usize)
+    ensures { (a : ℕ) → ¬ (a ≡ request) → is_marked looked.new a ≡ is_marked looked.old a }
+{
+    if request >= looked.len() {
+        return;
+    }
+    looked[request] = true;
 }
 
 /// Marks what directly leads to the request, and puts what is newly marked at the end of those to look at.

@@ -44,9 +44,13 @@ const SILENT: &str =
 const LOW_MARK: &str =
     "weaver 1 1 1\ntx t1 0 0\ncreate v\nend\nprog p 1 0 show v\ntx t2 0 0\nset v k x\nend\ntx t3 0 0\nset v k x\nend\nsteps\nbegin t1\njudge 0\nsend 0\nreply t1\nbegin p\nbegin t2\njudge 0\nsend 0\nreply t2\nbegin t3\njudge 0\nsend 0\ndeliver 0 0 1\ndeliver 0 0 2\ndeliver 0 0 3\napply 0 0\napply 0 0\napply 0 0\ncollect 0\nvisit p\nreply p\nnop 0 0\ndeliver 0 0 4\napply 0 0\ncollect 0\n";
 
+// A gatekeeper stops while a program runs, and its next low mark is of the epoch before.
+const RESTARTED: &str =
+    "weaver 1 1 1\ntx t1 0 0\ncreate v\nend\nprog p 1 0 show v\ntx t2 0 0\nset v k x\nend\nsteps\nbegin t1\njudge 0\nsend 0\nreply t1\nbegin p\nbegin t2\njudge 0\nsend 0\nrestart 0 1\nnop 0 0\ndeliver 0 0 1\ndeliver 0 0 2\ndeliver 0 0 3\napply 0 0\napply 0 0\napply 0 0\ncollect 0\nvisit p\nreply p\n";
+
 // A script, how many of its steps are done, a vertex, and then: how many versions of it are kept, the first request
 // without a reply, the next message, and how many notices there are.
-const COUNTS: [(&str, usize, &str, [u64; 4]); 12] = [
+const COUNTS: [(&str, usize, &str, [u64; 4]); 13] = [
     (WRITERS, 17, "v", [2, 1, 2, 1]),
     (PROGRAM, 8, "v", [0, 0, 1, 0]),
     (PROGRAM, 19, "v", [1, 0, 2, 0]),
@@ -62,6 +66,8 @@ const COUNTS: [(&str, usize, &str, [u64; 4]); 12] = [
     (LOW_MARK, 19, "v", [3, 1, 4, 0]),
     (LOW_MARK, 21, "v", [3, 3, 4, 0]),
     (LOW_MARK, 25, "v", [1, 3, 5, 0]),
+    // The program was not forgotten by the gatekeeper that returned.
+    (RESTARTED, 19, "v", [2, 2, 4, 0]),
 ];
 
 fn counts_of(rt: &impl Abort, core: &Core, v: &str) -> [u64; 4] {

@@ -17,7 +17,7 @@ use weave_data::Items;
 
 /// Which requests are aborted.
 #[derive(Clone, Copy, PartialEq, Eq)]
-enum Aborted {
+pub enum Aborted {
     None,
     /// All but the last of every second round.
     Some,
@@ -29,13 +29,15 @@ fn is_committed(i: u32, aborted: Aborted) -> bool {
     aborted == Aborted::None || i == 0 || i % 16 > 6
 }
 
-fn gate_of(i: u32) -> u32
+/// The gatekeeper of a request.
+pub fn gate_of(i: u32) -> u32
     ensures { result < most_gates }
 {
     i % 8
 }
 
-fn round_script(rt: &impl Abort, alloc: Global, count: u32) -> Script {
+/// The script of this many requests.
+pub fn round_script(rt: &impl Abort, alloc: Global, count: u32) -> Script {
     let mut requests = Items::new(alloc);
     for i in 0..count {
         let one = writer(rt, alloc, gate_of(i), gate_of(i), i == 0);
@@ -63,7 +65,8 @@ fn newer_of(i: u32, left: u32, aborted: Aborted) -> u32 {
     }
 }
 
-fn round_replies(rt: &impl Abort, alloc: Global, count: u32, aborted: Aborted) -> Items<Reply> {
+/// The replies to this many requests.
+pub fn round_replies(rt: &impl Abort, alloc: Global, count: u32, aborted: Aborted) -> Items<Reply> {
     let vertex = letter(rt, b'v');
     let mut replies = Items::new(alloc);
     let mut number: u64 = 0;

@@ -10,6 +10,8 @@ mod core_driven;
 #[cfg(test)]
 mod cores;
 #[cfg(test)]
+mod judge_chains;
+#[cfg(test)]
 mod judge_long;
 #[cfg(test)]
 mod judge_orders;

@@ -54,6 +54,8 @@ fn statuses_have_their_numbers(rt: HostRuntime) {
         Status::Memory,
         Status::Words,
         Status::NotRight,
+        Status::Disk,
+        Status::Foreign,
     ];
     for (number, status) in statuses.iter().enumerate() {
         assert!(rt; usize::from(status.number()) == number);

@@ -11,7 +11,7 @@ use Rattle.weaver_top.specs.declared.command.Command.TheVariants.{Run, Check, Tr
 use Rattle.weaver_top.specs.declared.preparing.PrepareError.{PrepareError}
 use Rattle.weaver_top.specs.declared.preparing.PrepareError.TheVariants as no_answer
 use Rattle.weaver_top.specs.declared.status.Status.{Status}
-use Rattle.weaver_top.specs.declared.status.Status.TheVariants.{Done, Read, Refused, Write, Memory, Words, NotRight}
+use Rattle.weaver_top.specs.declared.status.Status.TheVariants.{Done, Read, Refused, Write, Memory, Words, NotRight, Disk, Foreign}
 use Rattle.weaver_top.specs.Acceptance.{IsAcceptedByCheck}
 use Rattle.weaver_top.specs.Answers.{Delivers, IsAnswerTo, TellsAnswer, TellsAt, TellsRun, TellsTraceAccepted, can_end, input_told}
 use Rattle.weaver_top.specs.CallEnds.{EndsDelivery, IsAnswerRead, IsCallEnd, Prepares}
@@ -32,6 +32,8 @@ is_written Write = true
 is_written Read = false
 is_written Memory = false
 is_written Words = false
+is_written Disk = false
+is_written Foreign = false
 
 -- no answer has a status at which nothing is written
 no_such_answer : (command : Command) (status : Status) → is_written status ≡ false → IsTrue (can_end command status) → ⊥
@@ -51,6 +53,14 @@ no_such_answer Run Words un ends = cc
 no_such_answer Check Words un ends = cc
 no_such_answer Trace Words un ends = cc
 no_such_answer (Load seed size) Words un ends = cc
+no_such_answer Run Disk un ends = cc
+no_such_answer Check Disk un ends = cc
+no_such_answer Trace Disk un ends = cc
+no_such_answer (Load seed size) Disk un ends = cc
+no_such_answer Run Foreign un ends = cc
+no_such_answer Check Foreign un ends = cc
+no_such_answer Trace Foreign un ends = cc
+no_such_answer (Load seed size) Foreign un ends = cc
 
 -- if it is known of a value that is there, so is what follows from it
 some_more : {A : Type 0} {P Q : A → Type 0} (o : Option A) → IfSome o P → ((a : A) → P a → Q a) → IfSome o Q
@@ -75,6 +85,8 @@ script_taken Read input text tells can = absurd tells
 script_taken Write input text tells can = absurd tells
 script_taken Memory input text tells can = absurd tells
 script_taken Words input text tells can = absurd tells
+script_taken Disk input text tells can = absurd tells
+script_taken Foreign input text tells can = absurd tells
 
 trace_taken : (status : Status) (input text : List ℕ) → TellsAt Trace status input text → CanBeTaken script_input input → status ≡ Done
 trace_taken Done input text tells can = refl
@@ -84,6 +96,8 @@ trace_taken Read input text tells can = absurd tells
 trace_taken Write input text tells can = absurd tells
 trace_taken Memory input text tells can = absurd tells
 trace_taken Words input text tells can = absurd tells
+trace_taken Disk input text tells can = absurd tells
+trace_taken Foreign input text tells can = absurd tells
 
 check_taken : (status : Status) (input text : List ℕ) → TellsAt Check status input text → CanBeTaken check_input input → (status ≡ Done) ⊎ (status ≡ NotRight)
 check_taken Done input text tells can = inl refl
@@ -93,6 +107,8 @@ check_taken Read input text tells can = absurd tells
 check_taken Write input text tells can = absurd tells
 check_taken Memory input text tells can = absurd tells
 check_taken Words input text tells can = absurd tells
+check_taken Disk input text tells can = absurd tells
+check_taken Foreign input text tells can = absurd tells
 
 module _ {asked : Option Command} {status : Status} {left rest before after : ToldBytes} {ReadFailed NothingRead WriteFailed SinkStalled NoStall : Type 0} (end : IsCallEnd asked status left rest before after ReadFailed NothingRead WriteFailed SinkStalled NoStall) where
   -- The cases
@@ -246,6 +262,21 @@ module _ {asked : Option Command} {status : Status} {left rest before after : To
   load_prefix seed size asks is =
       let wrote = written (Load seed size) asks (ap is_written is) in
       load_prefix_so seed size before after (prefix_so asked (Load seed size) (Load seed size) left before after wrote.0 status (WriteFailed ⊎ SinkStalled) (sym asks) asks is wrote.1.fits wrote.1.ends wrote.2)
+
+  -- a call that writes nothing ended without a command, with the source's failure, or out of memory
+  is_no_other : (one : Status) → is_written one ≡ false → (one ≡ Words → ⊥) → (one ≡ Read → ⊥) → (one ≡ Memory → ⊥) → status ≡ one → ⊥
+  is_no_other one not no_words no_read no_memory is = at asked refl
+    where
+      at : (o : Option Command) → asked ≡ o → ⊥
+      at None none = no_words (sym is ∙ (end.no_command none).0)
+      at (Some command) asks = elim (unwritten command asks (ap is_written is ∙ not)).1 [
+        | inl (is_read, misread, takes) ↦ no_read (sym is ∙ is_read)
+        | inr memory ↦ no_memory (sym is ∙ memory)
+      ]
+
+  -- so it never ended as only `keep` does
+  pub no_others : (status ≢ Disk) × (status ≢ Foreign)
+  no_others = (is_no_other Disk refl (λ same. cc) (λ same. cc) (λ same. cc), is_no_other Foreign refl (λ same. cc) (λ same. cc) (λ same. cc))
 
   -- Reading comes before writing, and a stall ends the writing
 

@@ -4,7 +4,7 @@ use Rattle.std.proofs.Common.{◌≡◌, ℕ, ◌<◌, ◌≤◌, List, [], leng
 use Rattle.weave_io.specs.Told.{ToldBytes, TakesAtMost, Tells, Writes, WritesPrefix}
 use Rattle.weaver_top.specs.declared.answer.Answer.{Answer}
 use Rattle.weaver_top.specs.declared.status.Status.{Status}
-use Rattle.weaver_top.specs.declared.status.Status.TheVariants.{Done, Read, Refused, Write, Memory, Words, NotRight}
+use Rattle.weaver_top.specs.declared.status.Status.TheVariants.{Done, Read, Refused, Write, Memory, Words, NotRight, Disk, Foreign}
 use Rattle.weaver_top.specs.declared.command.Command.{Command}
 use Rattle.weaver_top.specs.declared.command.Command.TheVariants.{Run, Check, Trace, Load}
 use Rattle.weaver_top.specs.Answers.{IsAnswerTo, TellsAt, TellsAnswer, can_end, Delivers, input_told}
@@ -140,6 +140,8 @@ load_only seed size Refused input text tells = absurd tells
 load_only seed size Write input text tells = absurd tells
 load_only seed size Memory input text tells = absurd tells
 load_only seed size Words input text tells = absurd tells
+load_only seed size Disk input text tells = absurd tells
+load_only seed size Foreign input text tells = absurd tells
 load_only seed size NotRight input text tells = absurd tells
 
 -- if some of what `load` answers was written, it is some of a summary, from its start

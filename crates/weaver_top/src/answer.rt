@@ -27,18 +27,26 @@ pub(crate) fn too_long(alloc: Global) -> Result<Answer, AllocError>
     refusal(alloc, 0, Cause::TooLong.text())
 }
 
-/// The line for an input that is refused.
+/// The answer for an input that is refused.
 pub(crate) fn refusal(alloc: Global, line: u32, cause: &[u8]) -> Result<Answer, AllocError>
     ensures status { IfOk result (λ answer. answer.status ≡ Status.Refused) }
     ensures text { IfOk result (λ answer. answer.text.items ≡ refusal_line line cause.now) }
+{
+    let text = refusal_text(alloc, line, cause)?;
+    Ok(Answer {
+        status: Status::Refused,
+        text,
+    })
+}
+
+/// The line for an input that is refused.
+pub fn refusal_text(alloc: Global, line: u32, cause: &[u8]) -> Result<Vec<u8>, AllocError>
+    ensures { IfOk result (λ text. text.items ≡ refusal_line line cause.now) }
 {
     let mut text = Text::new(alloc);
     text.push(b"refused")?;
     text.number_word(u64::from(line))?;
     text.word(cause)?;
     text.end_line()?;
-    Ok(Answer {
-        status: Status::Refused,
-        text: text.into_bytes(),
-    })
+    Ok(text.into_bytes())
 }

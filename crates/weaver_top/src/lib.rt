@@ -28,6 +28,7 @@ mod top_call;
 mod trace_command;
 mod which_answer;
 
+pub use answer::refusal_text;
 pub use command::Command;
 pub use execution::execute;
 pub use status::Status;

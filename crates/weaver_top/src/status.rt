@@ -20,13 +20,17 @@ pub enum Status {
     Words,
     /// `check`: the report isn't right. `no CLAUSE PLACE` is written.
     NotRight,
+    /// `keep`: a call of the disk failed. Nothing is written; what was committed before stays.
+    Disk,
+    /// `keep`: the file is no journal. Nothing is written, and the file is as before.
+    Foreign,
 }
 
 impl Status {
     ghost use Rattle.std.specs.Process.{exit_status};
     ghost use Rattle.weaver_top.specs.Statuses.{status_number};
 
-    /// The number of the status, 0 to 6.
+    /// The number of the status, 0 to 8.
     pub fn number(self) -> u8
         ensures { result ≡ status_number self }
     {

@@ -1,5 +1,5 @@
 //! The top call.
-ghost use Rattle.std.specs.Prelude.{◌≡◌, ◌⊎◌, ◌↔◌, ◌+◌, ℕ, [], map, string_bytes, IsTrue, None, IfOk, IfSome};
+ghost use Rattle.std.specs.Prelude.{◌≡◌, ◌≢◌, ◌⊎◌, ◌↔◌, ◌+◌, ℕ, [], map, string_bytes, IsTrue, None, IfOk, IfSome};
 ghost use Rattle.weave_io.specs.Counts.{HasRisen};
 ghost use Rattle.weave_io.specs.Told.{IsReadWhole, KeepsWritten, Tells, TakesAtMost, Writes, WritesPrefix};
 ghost use Rattle.weaver_top.specs.Acceptance.{IsAcceptedByCheck};
@@ -81,6 +81,9 @@ pub fn weave<R: Threads + Wait + Sync, S: Source, K: Sink, P: Pace>(
         → WritesPrefix (TellsAnswer command) (S.left source.old) (K.written sink.old) (K.written sink.new) }
     ensures load_prefix { (seed size : ℕ) → AreWordsOf (map string_bytes words.now) (Command.Load seed size)
         → result ≡ Status.Write → WritesLoadPrefix seed size (K.written sink.old) (K.written sink.new) }
+
+    // The statuses of `keep` never come.
+    ensures no_others { (result ≢ Status.Disk) × (result ≢ Status.Foreign) }
 
     // Reading comes before writing, and a stall ends the writing.
     ensures read_first { (command : Command) → AreWordsOf (map string_bytes words.now) command

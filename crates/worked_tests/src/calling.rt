@@ -2,14 +2,15 @@
 //!
 //! `drive` is `run` on one thread. `drive on` does the script's steps, and then drives the core until each request has
 //! its reply. `visits` asks the script's programs on a plain graph. `check each` judges all reports of a text with
-//! choices. `print script` and `print check` copy and print what they read. `nothing` is the command line without
-//! words; every other command is the words of the top call.
+//! choices, and `check random` random ones. `print script` and `print check` copy and print what they read. `nothing`
+//! is the command line without words; every other command is the words of the top call.
 
 use crate::choosing::check_each;
 use crate::driving::drive_on;
 use crate::ended::Ended;
 use crate::manner::{Manner, Outside, plain};
 use crate::printing::{print_input, print_judged};
+use crate::random_reports::check_random;
 use crate::visiting::visits;
 use std::alloc::{AllocError, Global};
 use std::sync::Wait;
@@ -21,7 +22,7 @@ use weaver_top::{NoPace, execute, weave};
 pub fn has_outside(command: &str) -> bool {
     !matches!(
         command,
-        "drive on" | "visits" | "check each" | "print script" | "print check"
+        "drive on" | "visits" | "check each" | "check random" | "print script" | "print check"
     )
 }
 
@@ -42,6 +43,7 @@ pub fn call<R: Threads + Wait + Sync>(
         "drive on" => drive_on(alloc, input),
         "visits" => visits(alloc, input),
         "check each" => check_each(alloc, input),
+        "check random" => check_random(alloc, input),
         "print script" => print_input(alloc, input),
         "print check" => print_judged(alloc, input),
         _ => call_top(rt, alloc, command, manner, input),

@@ -44,8 +44,8 @@ fn add_longer(longer: &mut Vec<String>, text: &str, choice: &str) -> Result<(), 
     Ok(())
 }
 
-// The line that both judges say of an input.
-fn line_of(alloc: Global, input: &[u8]) -> Result<String, AllocError> {
+/// The line that both judges say of an input.
+pub fn line_of(alloc: Global, input: &[u8]) -> Result<String, AllocError> {
     let Ended { text, .. } = check(alloc, input)?;
     if text.as_slice() != slow_line(alloc, input)?.as_slice() {
         return String::from_str(alloc, "the slow judge says something else\n");
@@ -56,8 +56,8 @@ fn line_of(alloc: Global, input: &[u8]) -> Result<String, AllocError> {
     )
 }
 
-// Each of the lines, which are in order, once, after how often it is there.
-fn counted(alloc: Global, lines: &[String]) -> Result<Ended, AllocError> {
+/// Each of the lines, which are in order, once, after how often it is there.
+pub fn counted(alloc: Global, lines: &[String]) -> Result<Ended, AllocError> {
     let mut text = Text::new(alloc);
     let mut count: u64 = 0;
     for (place, line) in lines.iter().enumerate() {

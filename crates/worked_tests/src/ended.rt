@@ -22,6 +22,8 @@ pub fn name_of(status: Status) -> &'static str {
         Status::Memory => "memory",
         Status::Words => "words",
         Status::NotRight => "not right",
+        Status::Disk => "disk",
+        Status::Foreign => "foreign",
     }
 }
 
@@ -35,6 +37,8 @@ pub fn status_of(name: &str) -> Option<Status> {
         "memory" => Some(Status::Memory),
         "words" => Some(Status::Words),
         "not right" => Some(Status::NotRight),
+        "disk" => Some(Status::Disk),
+        "foreign" => Some(Status::Foreign),
         _ => None,
     }
 }

@@ -13,6 +13,7 @@ mod files;
 mod manner;
 mod matching;
 mod printing;
+mod random_reports;
 mod slow;
 mod trying;
 mod visiting;

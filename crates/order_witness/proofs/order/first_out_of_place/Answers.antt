@@ -33,5 +33,6 @@ loop-place-preserved c =
       size = c.in_ok-mark_before.ensures.size ∙ c.loop-place.invariant.size;
       passed = c.in_ok-mark_before.ensures.passed;
       marked = c.in_ok-mark_before.ensures.marked;
+      looked = c.in_ok-mark_before.ensures.looked;
       tops = subst (λ (xs : List ℕ). AreBelowTops script xs c.is_in_place-holds.new.tops) (sym (take_more order place 0 c.loop-place-test.true)) c.is_in_place-holds.ensures.tops;
     }

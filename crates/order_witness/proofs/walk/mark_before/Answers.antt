@@ -12,10 +12,11 @@ loop-request-init c =
     let order : List ℕ = c.args.order.now in
     let place : ℕ = c.args.place in
     record {
-      size = c.in_ok-look.ensures.grown.size;
-      passed = c.in_ok-look.ensures.passed;
-      marked = looked_first direct order c.args.marked.now c.look.new.marked c.new-due.result.items c.look.new.due.items (get_or order place 0) c.in_ok-look.ensures.grown c.in_ok-look.ensures.all place refl
+      size = c.in_ok-look_once.ensures.grown.size;
+      passed = c.in_ok-look_once.ensures.passed;
+      marked = looked_first direct order c.args.marked.now c.look_once.new.marked c.new-due.result.items c.look_once.new.due.items (get_or order place 0) c.in_ok-look_once.ensures.grown c.in_ok-look_once.ensures.all place refl
           (subst (λ (xs : List ℕ). ArePreceders direct order place c.args.marked.now xs) (sym c.new-due.ensures.items) c.requires.marked);
+      looked = c.in_ok-look_once.ensures.looked;
     }
 
 pub loop-request-preserved : goal.loop-request-preserved
@@ -23,8 +24,9 @@ loop-request-preserved c =
     let direct : Test = leads_directly (is_request_before c.args.report.now) (list_at c.args.befores.now) in
     let order : List ℕ = c.args.order.now in
     record {
-      size = c.in_ok-look-2.ensures.grown.size ∙ c.loop-request.invariant.size;
-      passed = c.in_ok-look-2.ensures.passed;
-      marked = looked_next direct order c.loop-request.marked c.look-in-Some.new.marked c.pop.new.self.items c.look-in-Some.new.due.items c.in-Some.request c.in_ok-look-2.ensures.grown c.in_ok-look-2.ensures.all (c.args.place + 1)
+      size = c.in_ok-look_once-2.ensures.grown.size ∙ c.loop-request.invariant.size;
+      passed = c.in_ok-look_once-2.ensures.passed;
+      marked = looked_next direct order c.loop-request.marked c.look_once-in-Some.new.marked c.pop.new.self.items c.look_once-in-Some.new.due.items c.in-Some.request c.in_ok-look_once-2.ensures.grown c.in_ok-look_once-2.ensures.all (c.args.place + 1)
           (subst (λ (xs : List ℕ). ArePreceders direct order (c.args.place + 1) c.loop-request.marked xs) c.in-Some.ensures.items c.loop-request.invariant.marked);
+      looked = c.in_ok-look_once-2.ensures.looked;
     }

@@ -50,6 +50,9 @@ returns-clause-prefix g c = end.prefix c.execute_words.ensures
 pub returns-clause-load_prefix : goal.returns-clause-load_prefix
 returns-clause-load_prefix g c = end.load_prefix c.execute_words.ensures
 
+pub returns-clause-no_others : goal.returns-clause-no_others
+returns-clause-no_others g c = end.no_others c.execute_words.ensures
+
 pub returns-clause-read_first : goal.returns-clause-read_first
 returns-clause-read_first g c = end.read_first c.execute_words.ensures
 

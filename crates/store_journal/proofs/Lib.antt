@@ -1,0 +1,23 @@
+mod Adding
+mod Closing
+mod Foreign
+mod LeftImages
+mod Forms
+mod History
+pub mod Moments
+mod Overlaid
+mod Pieces
+mod Quiet
+mod Recorded
+mod Recovering
+mod Tearing
+mod Walking
+mod SaidOps
+mod SaidCommits
+mod WalkSteps
+mod ShortPayloads
+mod NextRecord
+mod Ended
+mod KeptCommit
+mod KeptSteps
+mod Rests

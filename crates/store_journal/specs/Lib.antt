@@ -1,0 +1,13 @@
+pub mod Disk
+pub mod Grown
+pub mod Journal
+pub mod Memory
+pub mod MemoryLaws
+pub mod Standing
+pub mod Payloads
+pub mod Commits
+pub mod Walked
+pub mod Keeping
+pub mod KeptAnswers
+pub mod CommitEnds
+pub mod NotTold
