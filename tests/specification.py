@@ -1,6 +1,8 @@
 #!/usr/bin/env python3
 """Checks docs/inside/specification against a repository: every file, word, function, law, proof, test and edit that its
-pages name; and the paths that docs/CHANGING.md names. Usage: specification.py [root of the repository [the folder]]"""
+pages name; the paths that other pages name; that crates are listed alike; and each word in backticks in a comment of a
+crate, its heads among them.
+Usage: specification.py [root of the repository [the folder]]"""
 import glob, os, re, sys
 ROOT = sys.argv[1] if len(sys.argv) > 1 else '.'
 PAGE = sys.argv[2] if len(sys.argv) > 2 else f'{ROOT}/docs/inside/specification'
@@ -170,19 +172,89 @@ for line in re.sub(r'^(\||    ).*$', '', text, flags=re.M).split('\n'):
         if not known(w): print(f'note: nothing in the repository is called `{w}`')
 alle = {(p.split('/')[-3], os.path.splitext(os.path.basename(p))[0]) for p in glob.glob(f'{CR}/*/must-fail/*')}
 print(f'{rules} rules, {rows} with their parts, on {len(listed)} pages')
+# pages whose paths are looked up, each with the crate that a path is of if its line names none
+PAGES = {'ARCHITECTURE.md': '', 'ARGUMENT.md': '', 'CHANGING.md': '', 'DECISIONS.md': '', 'FORMATS.md': '', 'KEEP.md': '',
+         'PROOF-NOTES.md': '', 'inside/ACCOUNT.md': '', 'inside/CHRONICLE.md': 'chronicle', 'inside/DRIVING.md': '',
+         'inside/PROVED.md': '', 'inside/REPLICAS.md': '', 'inside/SEEN.md': 'seen_logs'}
 def check_paths(page):
-    """Each path of a page that says what to touch: `src/..`, `specs/..` or `proofs/..` of a crate that its line names, or a
-    path of the repository."""
+    """Each path of a page: of a crate that its line names, by itself or at the head of a path, or of the repository."""
     for number, line in enumerate((read(f'{ROOT}/docs/{page}') or '').split('\n'), 1):
-        crates = [it for it in re.findall(r'`(\w+)`', line) if os.path.isdir(f'{CR}/{it}')]
-        for path in re.findall(r'`([\w./]+)`', line):
-            if '/' not in path or path.endswith('/') or 'NAME' in path: continue
+        spans = re.findall(r'`([\w./-]+)`', line)
+        crates = [it for span in spans for it in span.split('/')[:2] if os.path.isdir(f'{CR}/{it}')] or [PAGES[page]]
+        for path in spans:
+            if not re.search(r'\w/\w', path) or path.startswith(('/', 'out/', 'target/')) or 'NAME' in path: continue
             count('paths of pages')
-            places = [f'{ROOT}/{path}', f'{CR}/{path}', *(f'{CR}/{it}/{path}' for it in crates)]
+            head, _, rest = path.partition('/')
+            places = [f'{ROOT}/{path}', f'{CR}/{path}']
+            places += [f'{CR}/{it}/{part}{path}' for it in crates for part in ('', 'src/', 'specs/', 'proofs/')]
+            places += [f'{CR}/{head}/{part}/{rest}' for part in ('src', 'specs', 'proofs')]
             if not any(os.path.exists(it + end) for it in places for end in ('', '.antt', '.rt')):
                 err(f'{page}:{number}', f'no path {path} in the crates that the line names')
+for page in PAGES: check_paths(page)
 
-check_paths('CHANGING.md')
+def check_headings():
+    """crates.txt, docs/ARCHITECTURE.md and README.md have the same headings, and the first two the same crates, in one order."""
+    lines = [line for line in open(f'{ROOT}/crates.txt').read().split('\n')[1:] if line]
+    crates = [line[2:] if line.startswith('# ') else re.match(r'\w+', line).group() for line in lines]
+    table = re.findall(r'^\| (?:\*\*(.+?)\*\*|`(\w+)`) \|', read(f'{ROOT}/docs/ARCHITECTURE.md'), re.M)
+    if [head or crate for head, crate in table] != crates: err('ARCHITECTURE.md', 'its crates are not those of crates.txt in their order')
+    block = re.search(r'^## The crates\n(.*?)^## ', read(f'{ROOT}/README.md'), re.M | re.S).group(1)
+    if re.findall(r'^    (\S.*?)  +\S', block, re.M) != [line[2:] for line in lines if line.startswith('# ')]:
+        err('README.md', 'its headings of crates are not those of crates.txt')
+check_headings()
+
+# words in backticks in comments. Each is in the code of its crate or of one below it, or a form of docs/FORMATS.md, or a
+# path; letters for the fields of a form are all capitals. A comment is part of its crate, which is proved again with all
+# above it if it changes: one that is wrong and waits for the next change of its crate is listed here
+WAITING = {('gate_lock/src/lib.rt', 'IsKept')}
+BELOW = {line.split(':')[0].split()[0]: line.split(':')[1].split() for line in open(f'{ROOT}/crates.txt')
+         if ':' in line and not line.startswith('#')}
+def at_and_below(crate, seen):
+    if crate in BELOW and crate not in seen:
+        seen.append(crate)
+        for one in BELOW[crate]: at_and_below(one, seen)
+    return seen
+def code_and_comments(path):
+    """A file's code, and its comments: the first line of each, and its lines."""
+    sign, code, comments, before = ('//' if path.endswith('.rt') else '--'), [], [], None
+    for number, line in enumerate(read(path).split('\n'), 1):
+        found = re.search(rf'(?:^|(?<=\s)){sign}[/!]?(?=\s|$)(.*)$', line)
+        code.append(line[:found.start()] if found else line)
+        if not found: continue
+        if number - 1 == before and not code[-1].strip(): comments[-1][1].append(found.group(1))
+        else: comments.append((number, [found.group(1)]))
+        before = number
+    return '\n'.join(code), comments
+def check_comments():
+    files, there = {}, {}
+    for crate in BELOW:
+        paths = [it for end in ('rt', 'antt') for it in glob.glob(f'{CR}/{crate}/**/*.{end}', recursive=True) if '/out/' not in it]
+        files[crate] = {it[len(CR) + 1:]: code_and_comments(it) for it in paths}
+        there[crate] = set(re.findall(r'\w+', ' '.join(f'{it} {code}' for it, (code, _) in files[crate].items())))
+        there[crate] |= {os.path.splitext(os.path.basename(it))[0] for it in glob.glob(f'{CR}/{crate}/must-fail/*')}
+    forms = open(f'{ROOT}/docs/FORMATS.md').read()
+    forms = set(re.findall(r'\w+', ' '.join(re.findall(r'`([^`\n]+)`', forms) + re.findall(r'^    .*$', forms, re.M))))
+    left = set(WAITING)
+    for crate in BELOW:
+        scope = at_and_below(crate, [])
+        words = forms.union(BELOW, *(there[it] for it in scope))
+        for path, (_, comments) in files[crate].items():
+            for first, lines in comments:
+                for span in re.finditer(r'`([^`]+)`', '\n'.join(lines)):
+                    count('words in comments')
+                    said = ' '.join(span.group(1).split())
+                    if (path, said) in WAITING: left.discard((path, said)); continue
+                    if not is_said_rightly(said, scope, words):
+                        err(f'{path}:{first + chr(10).join(lines)[:span.start()].count(chr(10))}', f'nothing here or below is called `{said}`')
+    for path, said in left: err(path, f'`{said}` waits for nothing: take it out of the list in tests/specification.py')
+def is_said_rightly(said, scope, words):
+    if re.fullmatch(r'[\w./]*\w/\w[\w./]*|\w+\.(?:antt|rt|cases|md|py|sh|txt)', said):
+        places = [f'{ROOT}/{said}', f'{CR}/{said}', *(f'{CR}/{it}/{part}{said}' for it in scope for part in ('', 'src/', 'specs/', 'proofs/'))]
+        return any(os.path.exists(it + end) for it in places for end in ('', '.antt', '.rt'))
+    alone = re.fullmatch(r'\w+', said)
+    return all(it in words or it.isdigit() or re.fullmatch(r'[a-z]\d+', it) or not alone and re.fullmatch(r'[A-Z]+', it)
+               for it in re.findall(r'\w+', said))
+check_comments()
 
 print('checked: ' + ', '.join(f'{v} {k}' for k, v in sorted(counts.items())))
 in_gate = len(glob.glob(f'{CR}/*/must-fail/*.edit'))

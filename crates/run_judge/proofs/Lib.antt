@@ -1,0 +1,13 @@
+pub mod PromiseLaws
+pub mod OutlineLaws
+pub mod ChainLaws
+pub mod RowLaws
+pub mod WayLaws
+pub mod PrintedLaws
+pub mod StepLaws
+pub mod MeetingLaws
+pub mod NumberLaws
+pub mod PhaseLaws
+pub mod VisitLaws
+pub mod TableLaws
+pub mod MeetingSteps

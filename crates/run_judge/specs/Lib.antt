@@ -1,0 +1,11 @@
+pub mod Promises
+pub mod Outlines
+pub mod Chains
+pub mod Rows
+pub mod Ways
+pub mod Differences
+pub mod Numbers
+pub mod Begins
+pub mod Vertices
+pub mod Meetings
+pub mod Phases
