@@ -74,6 +74,8 @@ def check_test(row, found):
         c, _, f = path.partition('/')
         if f.endswith('.cases'):
             look_up(row, path, names, 'headings of cases', f'{CR}/{c}/data/{f}', begins_line, 'heading')
+        elif f == 'stdin':
+            look_up(row, path, [f'% {it}' for it in names], 'headings of cases', f'{CR}/{c}/stdin', begins_line, 'heading')
         else:
             look_up(row, path, names, 'tests', f'{CR}/{c}/src/{f}', is_test, 'test')
 reached = set()
@@ -196,7 +198,8 @@ def check_headings():
     """crates.txt, docs/ARCHITECTURE.md and README.md have the same headings, and the first two the same crates, in one order."""
     lines = [line for line in open(f'{ROOT}/crates.txt').read().split('\n')[1:] if line]
     crates = [line[2:] if line.startswith('# ') else re.match(r'\w+', line).group() for line in lines]
-    table = re.findall(r'^\| (?:\*\*(.+?)\*\*|`(\w+)`) \|', read(f'{ROOT}/docs/ARCHITECTURE.md'), re.M)
+    section = read(f'{ROOT}/docs/ARCHITECTURE.md').split('\n## The crates')[1]
+    table = re.findall(r'^(?:### (.+)|- `(\w+)`:)', section, re.M)
     if [head or crate for head, crate in table] != crates: err('ARCHITECTURE.md', 'its crates are not those of crates.txt in their order')
     block = re.search(r'^## The crates\n(.*?)^## ', read(f'{ROOT}/README.md'), re.M | re.S).group(1)
     if re.findall(r'^    (\S.*?)  +\S', block, re.M) != [line[2:] for line in lines if line.startswith('# ')]:

@@ -1,13 +1,17 @@
 #!/usr/bin/env bash
-# Runs the built program once for each exit status that can be had from a shell, and compares status and text.
-# Build it first: `rt run` in crates/weaver, or one call of ./weaver.
+# Runs the built programs once for each exit status that can be had from a shell, and compares status and text.
+# Build them first: `rt run` in crates/weaver and in crates/explain, or one call of ./weaver and of ./explain.
+# Other programs may be named: statuses.sh WEAVER EXPLAIN.
 set -u
 top=$(cd "$(dirname "${BASH_SOURCE[0]}")/.." && pwd)
 program=${1-$top/crates/weaver/out/weaver}
-if [ ! -x "$program" ]; then
-  echo "$program is missing: build it first" >&2
-  exit 70
-fi
+explain=${2-$top/crates/explain/out/explain}
+for each in "$program" "$explain"; do
+  if [ ! -x "$each" ]; then
+    echo "$each is missing: build it first" >&2
+    exit 70
+  fi
+done
 scratch=$(mktemp -d)
 trap 'rm -rf "$scratch"' EXIT
 passed=0
@@ -183,6 +187,104 @@ is "keep without standard output: the commit is there" 42 "$(wc -c <"$scratch/un
 
 text=$("$program" keep <"$script"); status=$?
 is "keep without a path: status" 5 $status
+
+# `explain`: its first line and its status are those of `check`; the words after that are in explain.cases
+text=$("$explain" <"$scratch/right"); status=$?
+is "explain, a right report: status" 0 $status
+is "explain, a right report: first line" yes "${text%%$'\n'*}"
+
+text=$("$explain" <"$scratch/wrong"); status=$?
+is "explain, a wrong report: status" 6 $status
+is "explain, a wrong report: first line" "no iv 2" "${text%%$'\n'*}"
+
+text=$("$explain" <"$script"); status=$?
+is "explain, a missing report: status" 2 $status
+is "explain, a missing report: first line" "refused 8 end" "${text%%$'\n'*}"
+
+text=$("$explain" script <"$script"); status=$?
+is "explain script: status" 0 $status
+is "explain script: first line" "The script can be read." "${text%%$'\n'*}"
+
+text=$(printf 'weaver 1\n' | "$explain" script); status=$?
+is "explain script, a refused one: status" 2 $status
+is "explain script, a refused one: first line" "refused 1 header" "${text%%$'\n'*}"
+
+text=$("$explain" picture <"$scratch/right"); status=$?
+is "explain picture: status" 0 $status
+is "explain picture: an SVG" "<svg" "${text:0:4}"
+is "explain picture 1 60 is the same" "$text" "$("$explain" picture 1 60 <"$scratch/right")"
+
+text=$("$explain" picture <"$scratch/wrong"); status=$?
+is "explain picture, a wrong report: status" 0 $status
+is "explain picture, a wrong report: an SVG" "<svg" "${text:0:4}"
+
+text=$("$explain" picture <"$script"); status=$?
+is "explain picture, a missing report: status" 2 $status
+is "explain picture, a missing report: first line" "refused 8 end" "${text%%$'\n'*}"
+
+for words in words "picture 0 60" "picture 1 0" "picture 01 60" "picture 1" "picture 1 60 1" "script more" \
+  "picture 18446744073709551616 1"; do
+  text=$("$explain" $words <"$scratch/right"); status=$?
+  is "explain $words: status" 5 $status
+  is "explain $words: text" "" "$text"
+done
+
+text=$("$explain" <&-); status=$?
+is "explain, closed standard input: status" 1 $status
+is "explain, closed standard input: text" "" "$text"
+
+"$explain" <"$scratch/right" >&-; status=$?
+is "explain, closed standard output: status" 3 $status
+
+if [ -w /dev/full ]; then
+  "$explain" picture <"$scratch/right" >/dev/full; status=$?
+  is "explain, a full device: status" 3 $status
+fi
+
+{ cat "$script"; printf 'report 1\n'; yes '#' | head -c 4000000; } >"$scratch/long"
+text=$(ulimit -v 10000; "$explain" <"$scratch/long"); status=$?
+is "explain, too little memory: status" 4 $status
+is "explain, too little memory: text" "" "$text"
+
+# a command line that is none ends the launcher before it builds anything, and it says what it takes
+text=$("$top/explain" words <"$scratch/right" 2>&1); status=$?
+is "an unknown command line, to the launcher: status" 5 $status
+is "an unknown command line, to the launcher: it says so" \
+  "explain: words is no command: ./explain takes script, picture or no word, and its input from standard input, as in ./explain < FILE" "$text"
+
+text=$("$top/explain" picture 0 60 <"$scratch/right" 2>&1); status=$?
+is "picture 0 60, to the launcher: status" 5 $status
+is "picture 0 60, to the launcher: it says so" \
+  "explain: picture takes no argument, or two numbers from 1 to 18446744073709551615, as plain decimal numbers: ./explain picture 1 60 < FILE" "$text"
+
+text=$("$top/explain" script "$script" 2>&1 </dev/null); status=$?
+is "script with a file, to the launcher: status" 5 $status
+is "script with a file, to the launcher: it says so" \
+  "explain: script takes no argument: its input comes from standard input
+explain: try: ./explain script < $script" "$text"
+
+"$top/explain" look words >/dev/null 2>&1 </dev/null; status=$?
+is "an unknown command line, to a first look: status" 5 $status
+
+for words in help -h --help; do
+  text=$("$top/explain" $words); status=$?
+  is "explain $words: status" 0 $status
+  is "explain $words: first line" "explain: why \`./weaver check\` answers as it does, in words; and a report drawn" \
+    "${text%%$'\n'*}"
+done
+
+text=$("$top/explain" --version); status=$?
+is "explain --version: status" 0 $status
+is "explain --version: first word" explain "${text%%,*}"
+
+for words in "picture --help" "help picture"; do
+  text=$("$top/explain" $words); status=$?
+  is "explain $words: status" 0 $status
+  is "explain $words: first line" "explain picture [FROM COUNT] < FILE" "${text%%$'\n'*}"
+done
+
+"$top/explain" help words 2>/dev/null; status=$?
+is "explain help words: status" 5 $status
 
 echo "$passed ok, $failures failed"
 exit $((failures > 0))

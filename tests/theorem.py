@@ -4,9 +4,10 @@
     python3 tests/theorem.py            writes docs/theorem/NAME.txt for each sheet below
     python3 tests/theorem.py --check    says which of them are not what it would write, and ends with 1 if one isn't
 
-A sheet has the clauses of the top call, the words that they name, and then every word that these need, each file after
-those that it needs, with the Rust types before the first word that names them. The kit's own words are listed at the end;
-docs/THEOREM.md has a line for each, and the check says if one is missing there. It goes by names, as imports give them, and
+A sheet has the clauses of the top call, how they are read, a table of contents, the words that they name, and then every
+word that these need, each file after those that it needs, with the Rust types before the first word or type that names
+them. How notations and the kit's words are read is taken from docs/THEOREM.md, and the check says if a word is missing
+there. It goes by names, as imports give them, and
 proves nothing: that the clauses hold is what `rt ci` shows. Run it at the top of the repository."""
 import os
 import re
@@ -77,7 +78,7 @@ class Sheet:
     """The words that some words need: by file, each file after those that it needs."""
 
     def __init__(self):
-        self.files, self.words, self.types, self.kit = [], {}, {}, {}
+        self.words, self.types, self.kit = {}, {}, {}
 
     def add_named(self, path, imports, one):
         """Takes a word that a text names, if it is imported; `path` is the file in which it is named."""
@@ -85,7 +86,7 @@ class Sheet:
         if where[0] == 'file' and name:
             self.add(where[1], name)
         elif where[0] == 'type':
-            self.types.setdefault((where[1], '/'.join(where[2][:-1]), where[2][-1]), path)
+            self.types.setdefault(path, set()).add((where[1], '/'.join(where[2][:-1]), where[2][-1]))
         elif where[0] == 'kit' and name:
             self.kit.setdefault(where[1], set()).add(name)
 
@@ -207,12 +208,13 @@ def members(file, call, clauses):
     return out
 
 
-def wrapped(words):
+def wrapped(words, indent=''):
+    """Words in lines of the width; all lines but the first begin with the indent."""
     lines, line = [], ''
     for word in words:
         if line and len(line) + 1 + len(word) > WIDTH:
             lines.append(line)
-            line = ''
+            line = indent
         line = f'{line} {word}' if line else word
     return lines + [line]
 
@@ -231,18 +233,25 @@ def sheet(name):
     heads = {}
     for path, word in first:
         heads.setdefault(path, []).append(word)
-    out = [f'What `weaver {name}` promises, to the last word', '',
-           f'Of `{name}` the top call, `{call}` in crates/{file}, promises:', '']
-    out += [line for clause in found for line in clause.split('\n')]
-    out += [''] + wrapped(f'Below are the words that it names, then all that these need: each file after those that it needs, a '
-                          f'type before the first word that names it, the words of the kit at the end. docs/THEOREM.md says how '
-                          f'a definition is read. Made by tests/theorem.py.'.split())
-    shown = {}
+    shown, types, out = {}, [], []
+    every_type = {key for keys in made.types.values() for key in keys}
+
+    def show_type(key):
+        """A type after those that it names."""
+        if key in types:
+            return
+        types.append(key)
+        lines = declared(*key)
+        code = '\n'.join(line.split('//')[0] for line in lines[1:])
+        for one in WORD.findall(code):
+            for other in sorted(it for it in every_type if it[2] == one):
+                show_type(other)
+        out.extend(['', *lines])
 
     def show(path, words):
         imports, blocks = load(path)
-        for key in sorted(key for key, user in made.types.items() if user == path):
-            out.extend(['', *declared(*key)])
+        for key in sorted(made.types.get(path, ())):
+            show_type(key)
         out.extend(['', f'==== {path}'])
         for word, block in blocks.items():
             if word in words:
@@ -250,25 +259,60 @@ def sheet(name):
         shown.setdefault(path, set()).update(words)
 
     out += members(file, call, found)
-    for key in sorted(key for key, user in made.types.items() if user == ''):
-        out.extend(['', *declared(*key)])
+    for key in sorted(made.types.get('', ())):
+        show_type(key)
     for path, words in heads.items():
         show(path, set(words))
     for path in made.in_order():
         left = made.words[path] - shown.get(path, set())
         if left:
-            types = {key: user for key, user in made.types.items() if user == path}
-            if path in shown:
-                for key in types:
-                    del made.types[key]
             show(path, left)
-    out += ['', '==== words of the kit', '']
-    for module in sorted(made.kit):
-        out += wrapped([f'{module}:'] + sorted(made.kit[module]))
+    kit = {word for words in made.kit.values() for word in words}
     count = sum(len(words) for words in made.words.values())
-    out += ['', f'{count} words in {len(made.words)} files, {len(made.types)} types, '
-            f'{sum(len(words) for words in made.kit.values())} words of the kit', '']
-    return '\n'.join(out), {word for words in made.kit.values() for word in words}
+    out += ['', f'{count} words in {len(made.words)} files, {len(types)} types, {len(kit)} words of the kit', '']
+    return '\n'.join(head(name, found, kit, out) + out), kit
+
+
+def read_as(kit):
+    """The page's tables as lines: notations, words of the domain, and those rows of the kit's words that a sheet needs."""
+    lines = []
+    for line in open(PAGE).read().split('\n# What the headline')[0].split('\n'):
+        names, _, meaning = line.strip('| ').partition(' | ')
+        if not line.startswith('| ') or names in ('notation', 'word', 'words'):
+            continue
+        words = re.findall(r'`([^`]*)`', names) or [names]
+        if not all(WORD.fullmatch(word) for word in words) or kit & set(words):
+            lines += wrapped([f'  {", ".join(words)}:'] + meaning.replace('`', '').split(), '      ')
+    return lines
+
+
+def head(name, found, kit, body):
+    """What comes before the words: the clauses, how they are read, and where each file stands."""
+    file, call, _ = SHEETS[name]
+    text = open(f'crates/{file}').read()
+    signature = re.search(rf'^pub fn {call}\b.*?(?=^    (?:requires|ensures|returns|where)\b)', text, re.M | re.S).group()
+    out = [f'What `weaver {name}` promises, to the last word', '',
+           f'Of `{name}` the top call in crates/{file}', '']
+    words = ' '.join(line.strip() for line in signature.split('\n') if not line.strip().startswith('//')).split()
+    out += wrapped(['    ' + words[0]] + words[1:], '        ')
+    out += ['', 'promises:', '']
+    out += [line for clause in found for line in clause.split('\n')]
+    out += [''] + wrapped('What stands before the last arrow are premises: where one fails, as of another status, nothing is '
+                          'promised here. Bytes are those that contracts see of a source and a sink: of streams that show none '
+                          '(None) nothing is said of the bytes, and README says what is trusted of standard input and output. '
+                          'That the call ends, that anything commits, or that two runs of a script give one report is no part '
+                          'of it.'.split())
+    out += [''] + wrapped('First come the words that the clauses name, then all that these need: each file after those that it '
+                          'needs, a type before the first word or type that names it. Whoever wants the meaning first, and '
+                          'grammar and texts later, begins with RightReport.antt, where IsRightReport names the eight clauses '
+                          'of a right report. Requests of a script, replies and '
+                          'vertices of a list are counted from 0; operations, commits, messages, places of a clause and lines '
+                          'from 1. Made by tests/theorem.py from the sources and docs/THEOREM.md.'.split())
+    out += ['', 'How it is read', ''] + read_as(kit) + ['', 'Where it is', '']
+    files = [(at, line[5:]) for at, line in enumerate(body) if line.startswith('==== ')]
+    first = len(out) + len(files) + 1
+    out += [f'{first + at:6} {path}' for at, path in files]
+    return out
 
 
 def main():

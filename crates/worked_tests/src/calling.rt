@@ -2,8 +2,9 @@
 //!
 //! `drive` is `run` on one thread. `drive on` does the script's steps, and then drives the core until each request has
 //! its reply. `visits` asks the script's programs on a plain graph. `check each` judges all reports of a text with
-//! choices, and `check random` random ones. `print script` and `print check` copy and print what they read. `nothing`
-//! is the command line without words; every other command is the words of the top call.
+//! choices, and `check random` random ones. `print script` and `print check` copy and print what they read. `explain`,
+//! alone or before other words, is the command line of `explain` with these words. `nothing` is the command line
+//! without words; every other command is the words of the top call.
 
 use crate::choosing::check_each;
 use crate::driving::drive_on;
@@ -12,6 +13,7 @@ use crate::manner::{Manner, Outside, plain};
 use crate::printing::{print_input, print_judged};
 use crate::random_reports::check_random;
 use crate::visiting::visits;
+use explain_top::explain;
 use std::alloc::{AllocError, Global};
 use std::sync::Wait;
 use std::thread::Threads;
@@ -62,6 +64,8 @@ fn call_top<R: Threads + Wait + Sync>(
     let mut sink = sink_of(alloc, &manner.sink)?;
     let status = if command == "drive" {
         execute(alloc, &words, &mut source, &mut sink)
+    } else if is_explained(command) {
+        explain(alloc, &words, &mut source, &mut sink)
     } else {
         weave(rt, alloc, &words, &mut source, &mut sink, &NoPace)
     };
@@ -95,12 +99,18 @@ fn sink_of(alloc: Global, outside: &Outside) -> Result<MemorySink, AllocError> {
     Ok(MemorySink::new(alloc, fails, outside.piece as usize))
 }
 
+// Whether the command is one of `explain`.
+fn is_explained(command: &str) -> bool {
+    command == "explain" || command.starts_with("explain ")
+}
+
 // The words that the top call is given.
 fn words_of(alloc: Global, command: &str) -> Result<Vec<String>, AllocError> {
     match command {
         "nothing" => Ok(Vec::new(alloc)),
         "drive" => split_words(alloc, "run"),
-        _ => split_words(alloc, command),
+        "explain" => Ok(Vec::new(alloc)),
+        _ => split_words(alloc, command.strip_prefix("explain ").unwrap_or(command)),
     }
 }
 

@@ -1,0 +1,4 @@
+pub mod CallEnds
+pub mod Delivered
+pub mod Taken
+pub mod TooLong

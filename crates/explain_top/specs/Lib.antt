@@ -1,0 +1,3 @@
+pub mod CallEnds
+pub mod Commands
+pub mod Explained
