@@ -1,4 +1,5 @@
 pub mod CallEnds
 pub mod Delivered
+pub mod Streams
 pub mod Taken
 pub mod TooLong

@@ -1,6 +1,7 @@
 -- How a call ends, as one fact from which its clauses follow. No public contract cites this.
-use Rattle.std.specs.Prelude.{◌≡◌, Option, None, Some}
-use Rattle.weave_io.specs.Told.{ToldBytes, Writes, WritesPrefix}
+use Rattle.std.specs.Prelude.{◌≡◌, ◌≢◌, ◌⊎◌, ◌+◌, [], Option, None, Some}
+use Rattle.weave_data.specs.Limits.{most_bytes}
+use Rattle.weave_io.specs.Told.{ToldBytes, IsReadWhole, KeepsWritten, TakesAtMost, Tells, Writes, WritesPrefix}
 use Rattle.explain_top.specs.declared.command.Command.{Command}
 use Rattle.explain_top.specs.Explained.{CanEnd, Explains, IsExplanation}
 use Rattle.weaver_top.specs.declared.status.Status.{Status}
@@ -36,3 +37,13 @@ EndsAsked (Some command) status left before after NothingRead ReadFailed WriteFa
 pub record EndsExplaining (asked : Option Command) (status : Status) (left before after : ToldBytes)
     (NothingRead ReadFailed WriteFailed : Type 0) : Type 0 where
   pub ends : EndsAsked asked status left before after NothingRead ReadFailed WriteFailed
+
+-- what a call leaves of its streams: `left` and `rest` are what the source had and has left, `before` and `after` what
+-- the sink had and has taken; the last fact is that it stalled no more often
+pub record LeavesStreams (status : Status) (left rest before after : ToldBytes) (SameStalls : Type 0) : Type 0 where
+  pub all_is_read : (status ≡ Done) ⊎ (status ≡ NotRight) → Tells rest []
+  pub read_first : (status ≡ Refused) ⊎ (status ≡ Write) → IsReadWhole left rest
+  pub read_in_time : status ≡ Read → TakesAtMost left rest most_bytes
+  pub rest_left : TakesAtMost left rest (most_bytes + 1)
+  pub written_stays : KeepsWritten before after
+  pub without_stall : status ≢ Write → SameStalls

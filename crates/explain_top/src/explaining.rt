@@ -1,8 +1,9 @@
 //! The top call.
-ghost use Rattle.std.specs.Prelude.{◌≡◌, ◌≢◌, ◌⊎◌, ◌↔◌, ℕ, List, map, string_bytes, None, Some, IfOk, IfErr, IfSome};
+ghost use Rattle.std.specs.Prelude.{◌≡◌, ◌≢◌, ◌⊎◌, ◌↔◌, ◌+◌, ℕ, List, [], map, string_bytes, None, Some, IfOk, IfErr, IfSome, IsErrOf};
 ghost use Rattle.weave_io.specs.Counts.{HasRisen};
-ghost use Rattle.weave_io.specs.Told.{Appends, AppendsPrefix, Writes, WritesPrefix};
-ghost use Rattle.explain_top.specs.CallEnds.{EndsCommand, EndsExplaining};
+ghost use Rattle.weave_data.specs.Limits.{most_bytes};
+ghost use Rattle.weave_io.specs.Told.{Appends, AppendsPrefix, IsReadWhole, KeepsWritten, TakesAtMost, Tells, Writes, WritesPrefix};
+ghost use Rattle.explain_top.specs.CallEnds.{EndsCommand, EndsExplaining, LeavesStreams};
 ghost use Rattle.explain_top.specs.Commands.{command_asked};
 ghost use Rattle.explain_top.specs.Explained.{BeginsAsCheck, BeginsAsRefusedRun, CanEnd, Explains, IsAnswered, IsExplanation};
 ghost use Rattle.weaver_top.specs.Refusals.{CanBeTaken, check_input, script_input};
@@ -54,10 +55,20 @@ pub fn explain<S: Source, K: Sink>(
         → WritesPrefix (IsExplanation command) (S.left source.old) (K.written sink.old) (K.written sink.new) }
     ensures no_others { (result ≢ Status.Disk) × (result ≢ Status.Foreign) }
 
+    // Reading comes before writing, and a stall ends the writing.
+    ensures all_is_read { (result ≡ Status.Done) ⊎ (result ≡ Status.NotRight) → Tells (S.left source.new) [] }
+    ensures read_first { (result ≡ Status.Refused) ⊎ (result ≡ Status.Write)
+        → IsReadWhole (S.left source.old) (S.left source.new) }
+    ensures without_stall { (result ≡ Status.Done) ⊎ (result ≡ Status.NotRight) ⊎ (result ≡ Status.Refused)
+        → K.stalls sink.new ≡ K.stalls sink.old }
+
     // When nothing is written, and nothing read.
     ensures nothing_written { (result ≡ Status.Words) ⊎ (result ≡ Status.Read) ⊎ (result ≡ Status.Memory)
         → K.written sink.new ≡ K.written sink.old }
     ensures nothing_read { result ≡ Status.Words → source.new ≡ source.old }
+    ensures read_in_time { result ≡ Status.Read → TakesAtMost (S.left source.old) (S.left source.new) most_bytes }
+    ensures rest { TakesAtMost (S.left source.old) (S.left source.new) (most_bytes + 1) }
+    ensures written_stays { KeepsWritten (K.written sink.old) (K.written sink.new) }
 {
     explain_asked(alloc, words, source, sink)
 }
@@ -69,10 +80,12 @@ fn explain_asked<S: Source, K: Sink>(
     source: &mut S,
     sink: &mut K,
 ) -> Status
-    ensures { EndsExplaining (command_asked (map string_bytes words.now)) result (S.left source.old)
+    ensures ends { EndsExplaining (command_asked (map string_bytes words.now)) result (S.left source.old)
         (K.written sink.old) (K.written sink.new) (source.new ≡ source.old)
         (HasRisen (S.faults source.old) (S.faults source.new))
         (HasRisen (K.faults sink.old) (K.faults sink.new) ⊎ HasRisen (K.stalls sink.old) (K.stalls sink.new)) }
+    ensures leaves { LeavesStreams result (S.left source.old) (S.left source.new) (K.written sink.old)
+        (K.written sink.new) (K.stalls sink.new ≡ K.stalls sink.old) }
 {
     match command_of(words) {
         Some(command) => explain_by(alloc, command, source, sink),
@@ -87,9 +100,11 @@ fn explain_by<S: Source, K: Sink>(
     source: &mut S,
     sink: &mut K,
 ) -> Status
-    ensures { EndsCommand command result (S.left source.old) (K.written sink.old) (K.written sink.new)
+    ensures ends { EndsCommand command result (S.left source.old) (K.written sink.old) (K.written sink.new)
         (HasRisen (S.faults source.old) (S.faults source.new))
         (HasRisen (K.faults sink.old) (K.faults sink.new) ⊎ HasRisen (K.stalls sink.old) (K.stalls sink.new)) }
+    ensures leaves { LeavesStreams result (S.left source.old) (S.left source.new) (K.written sink.old)
+        (K.written sink.new) (K.stalls sink.new ≡ K.stalls sink.old) }
 {
     match prepared(alloc, command, source) {
         Ok(answer) => write_answer(sink, &answer),
@@ -104,6 +119,12 @@ fn prepared<S: Source>(alloc: Global, command: Command, source: &mut S) -> Resul
     ensures ends { IfOk result (λ answer. CanEnd command answer.status) }
     ensures unread { IfErr result (λ status.
         ((status ≡ Status.Read) × HasRisen (S.faults source.old) (S.faults source.new)) ⊎ (status ≡ Status.Memory)) }
+    ensures end { IfOk result (λ answer. (answer.status ≡ Status.Done) ⊎ (answer.status ≡ Status.NotRight)
+        → Tells (S.left source.new) []) }
+    ensures whole { IfOk result (λ answer. IsReadWhole (S.left source.old) (S.left source.new)) }
+    ensures read_in_time { IsErrOf result Status.Read
+        → TakesAtMost (S.left source.old) (S.left source.new) most_bytes }
+    ensures rest { TakesAtMost (S.left source.old) (S.left source.new) (most_bytes + 1) }
 {
     match read_all(alloc, source) {
         Ok(input) => match answer_to(alloc, command, &input) {
@@ -121,10 +142,12 @@ fn prepared<S: Source>(alloc: Global, command: Command, source: &mut S) -> Resul
 
 // Writes an answer's text.
 fn write_answer<K: Sink>(sink: &mut K, answer: &Answer) -> Status
-    ensures { ((result ≡ answer.now.status) × Appends (K.written sink.old) (K.written sink.new) answer.now.text.items)
+    ensures delivered { ((result ≡ answer.now.status)
+        × Appends (K.written sink.old) (K.written sink.new) answer.now.text.items)
         ⊎ ((result ≡ Status.Write)
         × (HasRisen (K.faults sink.old) (K.faults sink.new) ⊎ HasRisen (K.stalls sink.old) (K.stalls sink.new))
         × AppendsPrefix (K.written sink.old) (K.written sink.new) answer.now.text.items) }
+    ensures without_stall { result ≢ Status.Write → K.stalls sink.new ≡ K.stalls sink.old }
 {
     match write_all(sink, answer.text.as_slice()) {
         Ok(()) => answer.status,
